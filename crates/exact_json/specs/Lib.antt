@@ -1,0 +1,5 @@
+pub mod Tree
+pub mod Grammar
+pub mod View
+pub mod Reading
+pub mod Gives
