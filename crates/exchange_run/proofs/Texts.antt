@@ -1,0 +1,131 @@
+-- What one more piece of a text changes.
+use Rattle.std.proofs.Common.{◌≡◌, ℕ, ◌+◌, ◌<◌, ◌==◌, List, [], ◌∷◌, ◌++◌, length, take, get_or, map, Bool, true, false, not, ◌||◌, cond, filter, refl, sym, ap, ◌∙◌, arith, append_assoc, append-nil}
+use Rattle.std.specs.List.{concat, enumerate_from, join_with_byte, list_any}
+use Rattle.std.specs.Borrow.{Bor}
+use Rattle.std.proofs.lemmas.Bool.Decides.{nat_tests}
+use Rattle.std.proofs.lemmas.List.Elements.{filter-append}
+use Rattle.std.proofs.lemmas.List.{map-append, length-map, length-take, map_push, take_more}
+use Rattle.std.proofs.lemmas.List.Folds.{concat-append}
+use Rattle.exchange_run.specs.Auction.{Sale}
+use Rattle.exchange_run.specs.Response.{bid_text, seat_bids, seats_of}
+use Rattle.exchange_run.specs.View.{sale_view}
+use Rattle.exchange_run.specs.declared.auction.SoldImp.{SoldImp}
+use Rattle.exchange_run.proofs.Sales.{numbered_push}
+
+pub in_three : (o a b c : List ℕ) → ((o ++ a) ++ b) ++ c ≡ o ++ ((a ++ b) ++ c)
+in_three o a b c = ap (λ l. l ++ c) (append_assoc o a b) ∙ append_assoc o (a ++ b) c
+
+-- one piece more
+pub piece_step : (o : List ℕ) (ps : List (Bor (List ℕ))) (k : ℕ) (d : Bor (List ℕ)) → k < length ps → (o ++ concat (map (λ p. p.now) (take k ps))) ++ (get_or ps k d).now ≡ o ++ concat (map (λ p. p.now) (take (k + 1) ps))
+piece_step o ps k d lt =
+    let p = get_or ps k d in
+    let before = map (λ (q : Bor (List ℕ)). q.now) (take k ps) in
+    let front : map (λ (q : Bor (List ℕ)). q.now) (take (k + 1) ps) ≡ before ++ p.now ∷ [] = ap (map (λ (q : Bor (List ℕ)). q.now)) (take_more ps k d lt) ∙ map_push (λ (q : Bor (List ℕ)). q.now) (take k ps) p in
+    append_assoc o (concat before) p.now
+    ∙ ap (λ l. o ++ l) (ap (λ l. concat before ++ l) (sym (append-nil p.now)) ∙ sym (concat-append before (p.now ∷ [])) ∙ ap concat (sym front))
+
+some_there : (x : List ℕ) (xs : List (List ℕ)) → (length (x ∷ xs) == 0) ≡ false
+some_there x xs = grind (arith, nat_tests)
+
+-- a piece joined to those before it
+pub join_push : (xs : List (List ℕ)) (y : List ℕ) → join_with_byte 44 (xs ++ y ∷ []) ≡ join_with_byte 44 xs ++ (cond (length xs == 0) [] (44 ∷ []) ++ y)
+join_push [] y = refl
+join_push (x ∷ []) y = refl
+join_push (x ∷ z ∷ xs) y =
+    ap (λ l. x ++ 44 ∷ l) (join_push (z ∷ xs) y ∙ ap (λ b. join_with_byte 44 (z ∷ xs) ++ (cond b [] (44 ∷ []) ++ y)) (some_there z xs))
+    ∙ sym (append_assoc x (44 ∷ join_with_byte 44 (z ∷ xs)) (44 ∷ y))
+    ∙ ap (λ b. join_with_byte 44 (x ∷ z ∷ xs) ++ (cond b [] (44 ∷ []) ++ y)) (sym (some_there x (z ∷ xs)))
+
+regrouped : (o j comma y : List ℕ) → ((o ++ j) ++ comma) ++ y ≡ o ++ (j ++ (comma ++ y))
+regrouped o j comma y = append_assoc (o ++ j) comma y ∙ append_assoc o j (comma ++ y)
+
+-- one piece more behind a comma
+pub joined_more : (o out : List ℕ) (pieces : List (List ℕ)) (first : Bool) (y : List ℕ) → out ≡ o ++ join_with_byte 44 pieces → first ≡ (length pieces == 0)
+    → (out ++ cond first [] (44 ∷ [])) ++ y ≡ o ++ join_with_byte 44 (pieces ++ y ∷ [])
+joined_more o out pieces first y e f =
+    ap (λ l. (l ++ cond first [] (44 ∷ [])) ++ y) e ∙ ap (λ b. ((o ++ join_with_byte 44 pieces) ++ cond b [] (44 ∷ [])) ++ y) f
+    ∙ regrouped o (join_with_byte 44 pieces) (cond (length pieces == 0) [] (44 ∷ [])) y ∙ ap (λ l. o ++ l) (sym (join_push pieces y))
+
+pub never_first : (pieces : List (List ℕ)) (y : List ℕ) → (length (pieces ++ y ∷ []) == 0) ≡ false
+never_first [] y = refl
+never_first (x ∷ pieces) y = some_there x (pieces ++ y ∷ [])
+
+pub same_seat : (a b : ℕ) → a ≡ b → (a == b) ≡ true
+same_seat a b e = grind (arith, nat_tests)
+
+pub other_seat : (a b : ℕ) → (a ≡ b → ⊥) → (a == b) ≡ false
+other_seat a b e = grind (arith, nat_tests)
+
+pub seat_more : (o out y : List ℕ) (f : ℕ → List ℕ) (cs : List ℕ) (k : ℕ) → k < length cs → out ≡ o ++ join_with_byte 44 (map f (take k cs)) → y ≡ f (get_or cs k 0)
+    → (out ++ cond (k == 0) [] (44 ∷ [])) ++ y ≡ o ++ join_with_byte 44 (map f (take (k + 1) cs))
+seat_more o out y f cs k lt e same =
+    let count : k ≡ length (map f (take k cs)) = omega (arith, length-map (take k cs) f, length-take k cs) in
+    joined_more o out (map f (take k cs)) (k == 0) y e (ap (λ n. n == 0) count) ∙ ap (λ z. o ++ join_with_byte 44 (map f (take k cs) ++ z ∷ [])) same
+    ∙ ap (λ l. o ++ join_with_byte 44 l) (sym (ap (map f) (take_more cs k 0 lt) ∙ map_push f (take k cs) (get_or cs k 0)))
+
+chosen : {A B : Type 0} (f : A → B) (b : Bool) (x : A) → map f (cond b (x ∷ []) []) ≡ cond b (f x ∷ []) []
+chosen f true x = refl
+chosen f false x = refl
+
+-- one sale more
+pub bids_step : (sold : List SoldImp) (k : ℕ) (d : SoldImp) (c : ℕ) → k < length sold → d ≡ get_or sold k d
+    → seat_bids (map sale_view (take (k + 1) sold)) c ≡ seat_bids (map sale_view (take k sold)) c ++ cond (d.campaign == c) (bid_text (k + 1, sale_view d) ∷ []) []
+bids_step sold k d c lt e =
+    let front : map sale_view (take (k + 1) sold) ≡ map sale_view (take k sold) ++ sale_view d ∷ [] = ap (map sale_view) (take_more sold k d lt ∙ ap (λ s. take k sold ++ s ∷ []) (sym e)) ∙ map_push sale_view (take k sold) d in
+    let before = map sale_view (take k sold) in
+    let number : 1 + length before ≡ k + 1 = omega (arith, length-map (take k sold) sale_view, length-take k sold) in
+    let test = λ (q : ℕ × Sale). q.1.campaign == c in
+    ap (λ l. map bid_text (filter test (enumerate_from 1 l))) front
+    ∙ ap (λ l. map bid_text (filter test l)) (numbered_push 1 before (sale_view d) ∙ ap (λ (n : ℕ). enumerate_from 1 before ++ (n, sale_view d) ∷ []) number)
+    ∙ ap (map bid_text) (filter-append test (enumerate_from 1 before) ((k + 1, sale_view d) ∷ []))
+    ∙ map-append bid_text (filter test (enumerate_from 1 before)) (cond (d.campaign == c) ((k + 1, sale_view d) ∷ []) [])
+    ∙ ap (λ l. map bid_text (filter test (enumerate_from 1 before)) ++ l) (chosen bid_text (d.campaign == c) (k + 1, sale_view d))
+
+-- without the seat t, another seat is there as before
+any_step : (is_t is_s : Bool) (c s : ℕ) (kept cs : List ℕ) → (c == s) ≡ is_s → (is_t ≡ true → is_s ≡ false) → list_any (λ x. x == s) kept ≡ list_any (λ x. x == s) cs
+    → list_any (λ x. x == s) (cond (not is_t) (c ∷ kept) kept) ≡ (is_s || list_any (λ x. x == s) cs)
+any_step true is_s c s kept cs e h same = same ∙ ap (λ b. b || list_any (λ x. x == s) cs) (sym (h refl))
+any_step false is_s c s kept cs e h same = ap (λ b. b || list_any (λ x. x == s) kept) e ∙ ap (λ b. is_s || b) same
+
+other : (t s c : ℕ) → (t == s) ≡ false → (c == t) ≡ true → (c == s) ≡ false
+other t s c ne e = grind (arith, nat_tests)
+
+any_kept : (t s : ℕ) (cs : List ℕ) → (t == s) ≡ false → list_any (λ x. x == s) (filter (λ x. not (x == t)) cs) ≡ list_any (λ x. x == s) cs
+any_kept t s [] ne = refl
+any_kept t s (c ∷ cs) ne = any_step (c == t) (c == s) c s (filter (λ x. not (x == t)) cs) cs refl (other t s c ne) (any_kept t s cs ne)
+
+dropped : (t s : ℕ) (b : Bool) → (t == s) ≡ true → filter (λ x. not (x == t)) (cond b [] (s ∷ [])) ≡ []
+dropped t s true e = refl
+dropped t s false e = ap (λ b. cond (not b) (s ∷ []) []) (turned t s e)
+  where
+    turned : (t s : ℕ) → (t == s) ≡ true → (s == t) ≡ true
+    turned t s e = grind (arith, nat_tests)
+
+stays : (t s : ℕ) (b : Bool) → (t == s) ≡ false → filter (λ x. not (x == t)) (cond b [] (s ∷ [])) ≡ cond b [] (s ∷ [])
+stays t s true e = refl
+stays t s false e = ap (λ b. cond (not b) (s ∷ []) []) (turned t s e)
+  where
+    turned : (t s : ℕ) → (t == s) ≡ false → (s == t) ≡ false
+    turned t s e = grind (arith, nat_tests)
+
+kept_by : (b : Bool) (t s : ℕ) (cs : List ℕ) → (t == s) ≡ b → filter (λ x. not (x == t)) (cond (list_any (λ x. x == s) cs) [] (s ∷ [])) ≡ cond (b || list_any (λ x. x == s) (filter (λ x. not (x == t)) cs)) [] (s ∷ [])
+kept_by true t s cs e = dropped t s (list_any (λ x. x == s) cs) e
+kept_by false t s cs e = stays t s (list_any (λ x. x == s) cs) e ∙ ap (λ b. cond b [] (s ∷ [])) (sym (any_kept t s cs e))
+
+pub no_seats : seats_of [] ≡ []
+unfolding seats_of
+no_seats = refl
+
+-- one sale more
+seats_push : (sales : List Sale) (s : Sale) → seats_of (sales ++ s ∷ []) ≡ seats_of sales ++ cond (list_any (λ c. c == s.campaign) (seats_of sales)) [] (s.campaign ∷ [])
+unfolding seats_of
+seats_push [] s = refl
+seats_push (t ∷ sales) s =
+    let others = λ (c : ℕ). not (c == t.campaign) in
+    ap (λ l. t.campaign ∷ filter others l) (seats_push sales s)
+    ∙ ap (λ l. t.campaign ∷ l) (filter-append others (seats_of sales) (cond (list_any (λ c. c == s.campaign) (seats_of sales)) [] (s.campaign ∷ [])) ∙ ap (λ l. filter others (seats_of sales) ++ l) (kept_by (t.campaign == s.campaign) t.campaign s.campaign (seats_of sales) refl))
+
+pub seats_step : (sold : List SoldImp) (k : ℕ) (d : SoldImp) → k < length sold → d ≡ get_or sold k d
+    → seats_of (map sale_view (take (k + 1) sold)) ≡ seats_of (map sale_view (take k sold)) ++ cond (list_any (λ c. c == d.campaign) (seats_of (map sale_view (take k sold)))) [] (d.campaign ∷ [])
+seats_step sold k d lt e =
+    ap (λ l. seats_of (map sale_view l)) (take_more sold k d lt ∙ ap (λ s. take k sold ++ s ∷ []) (sym e)) ∙ ap seats_of (map_push sale_view (take k sold) d) ∙ seats_push (map sale_view (take k sold)) (sale_view d)

@@ -1,0 +1,184 @@
+ghost use Rattle.std.specs.Prelude.{◌≡◌, ◌≢◌, ◌⊎◌, ◌↔◌, ◌≤◌, None, Some, map, length, IfOk, IsSome};
+ghost use Rattle.std.specs.Io.KnownBytes.{Appends};
+ghost use Rattle.rtb_base.specs.Faults.{Rose};
+ghost use Rattle.exchange_run.specs.Answer.{Answered, CutShort, HalfAnswered, IsReply, Replies, Sent, not_plain_reply, refusal_of, reply_to};
+ghost use Rattle.exchange_run.specs.Request.{request_of};
+ghost use Rattle.exact_json.specs.View.{tree_of};
+ghost use Rattle.std.specs.Option.{option_map_or};
+ghost use Rattle.exchange_run.specs.Words.{campaigns_of, command_of};
+ghost use Rattle.exchange_run.specs.View.{campaign_view, request_view};
+
+use crate::auction::sell;
+use crate::request::{PlainRequest, request_in};
+use crate::response::put_response;
+use crate::transfer::{ReadFault, read_all, write_all};
+use crate::words::{NamedCampaign, campaigns_in, command_in};
+use exact_json::{JsonFault, Value, read};
+use rtb_num::{Sink, Source, Txt};
+use std::alloc::{AllocError, Global};
+
+/// The longest input that is taken, in bytes.
+const MAX_INPUT: usize = 262_144;
+
+// The statuses of `try_run`.
+const SOLD: u8 = 0;
+
+const REFUSED: u8 = 1;
+
+const USAGE: u8 = 2;
+
+const NOT_WRITTEN: u8 = 7;
+
+const NO_MEMORY: u8 = 9;
+
+const NOT_READ: u8 = 10;
+
+/// A status and the line that goes with it.
+#[derive(Debug, Drop)]
+struct Reply {
+    status: u8,
+    line: Txt,
+}
+
+fn refusal(alloc: Global, body: &[u8]) -> Result<Reply, AllocError>
+    ensures { IfOk result (λ r. r ≡ refusal_of body.now) }
+{
+    let mut line = Txt::new(alloc);
+    line.extend(body)?;
+    Ok(Reply {
+        status: REFUSED,
+        line,
+    })
+}
+
+fn not_plain(alloc: Global) -> Result<Reply, AllocError>
+    ensures { IfOk result (λ r. r ≡ not_plain_reply) }
+{
+    refusal(alloc, b"{\"error\":\"not-plain\"}")
+}
+
+// What is sold of the request, or the refusal of one without impressions.
+fn request_reply(
+    alloc: Global,
+    campaigns: &[NamedCampaign],
+    request: &PlainRequest,
+) -> Result<Reply, AllocError>
+    requires { length campaigns.now ≤ 64 }
+    ensures { IfOk result (λ r. r ≡ reply_to (map campaign_view campaigns.now) (request_view request.now)) }
+{
+    if request.imps.is_empty() {
+        return refusal(alloc, b"{\"error\":\"no-imps\"}");
+    }
+    let sold = sell(alloc, campaigns, request)?;
+    let mut line = Txt::new(alloc);
+    if sold.is_empty() {
+        line.extend(b"no-bid")?;
+    } else {
+        put_response(alloc, &mut line, request, sold.as_slice())?;
+    }
+    Ok(Reply { status: SOLD, line })
+}
+
+// What is sold of the request that the value makes, or the refusal of a value that makes none.
+fn value_reply(
+    alloc: Global,
+    campaigns: &[NamedCampaign],
+    value: &Value,
+) -> Result<Reply, AllocError>
+    requires { length campaigns.now ≤ 64 }
+    ensures { IfOk result (λ r. r ≡ option_map_or (reply_to (map campaign_view campaigns.now)) (request_of (tree_of value.now)) not_plain_reply) }
+{
+    match request_in(alloc, value) {
+        Ok(Some(request)) => request_reply(alloc, campaigns, &request),
+        Ok(None) => not_plain(alloc),
+        Err(fault) => Err(fault),
+    }
+}
+
+// The reply to the bytes.
+fn bytes_reply(
+    alloc: Global,
+    campaigns: &[NamedCampaign],
+    bytes: &[u8],
+) -> Result<Reply, AllocError>
+    requires { length campaigns.now ≤ 64 }
+    ensures { IfOk result (IsReply (map campaign_view campaigns.now) bytes.now) }
+{
+    if bytes.len() > MAX_INPUT {
+        return not_plain(alloc);
+    }
+    match read(alloc, bytes) {
+        Ok(doc) => value_reply(alloc, campaigns, doc.root()),
+        Err(JsonFault::Memory) => Err(AllocError),
+        Err(JsonFault::Syntax { .. }) => not_plain(alloc),
+    }
+}
+
+// The reply to the bytes, with a line feed.
+fn reply_line(alloc: Global, words: &[Txt], bytes: &[u8]) -> Result<Reply, AllocError>
+    requires campaigns { IsSome (campaigns_of words.now) }
+    requires few { length words.now ≤ 64 }
+    ensures { IfOk result (λ r. Replies (campaigns_of words.now) bytes.now r.status r.line) }
+{
+    match campaigns_in(alloc, words) {
+        Ok(campaigns) => {
+            let mut reply = bytes_reply(alloc, campaigns.as_slice(), bytes)?;
+            reply.line.push(b'\n')?;
+            Ok(reply)
+        }
+        Err(fault) => Err(fault),
+    }
+}
+
+// Writes the reply to the bytes, and answers its status.
+fn send<K: Sink>(alloc: Global, words: &[Txt], bytes: &[u8], sink: &mut K) -> u8
+    requires campaigns { IsSome (campaigns_of words.now) }
+    requires few { length words.now ≤ 64 }
+    ensures sent { (result ≡ SOLD) ⊎ (result ≡ REFUSED) → Sent (campaigns_of words.now) bytes.now (K.written sink.old) (K.written sink.new) result }
+    ensures cut { result ≡ NOT_WRITTEN → CutShort (campaigns_of words.now) bytes.now (K.written sink.old) (K.written sink.new) }
+    ensures failed { result ≡ NOT_WRITTEN → Rose (K.faults sink.old) (K.faults sink.new) }
+    ensures quiet { result ≢ NOT_WRITTEN → K.faults sink.new ≡ K.faults sink.old }
+    ensures unsent { result ≡ NO_MEMORY → sink.new ≡ sink.old }
+    ensures statuses { (result ≡ SOLD) ⊎ (result ≡ REFUSED) ⊎ (result ≡ NOT_WRITTEN) ⊎ (result ≡ NO_MEMORY) }
+{
+    match reply_line(alloc, words, bytes) {
+        Ok(reply) => match write_all(sink, reply.line.as_bytes()) {
+            Ok(()) => reply.status,
+            Err(_) => NOT_WRITTEN,
+        },
+        Err(_) => NO_MEMORY,
+    }
+}
+
+/// Runs the command `try`: reads one plain bid request, sells it to the campaigns that the words
+/// name, and writes the bid response, `no-bid` or the refusal, and a line feed.
+///
+/// It answers the status that the program ends with: 0 where the request was sold or got no bid, 1
+/// where it was refused, 2 where the words are of no command, 7 where the sink failed, 9 for want of
+/// memory, 10 where the source failed. With 2, 9 and 10 nothing is written.
+pub fn try_run<S: Source, K: Sink>(alloc: Global, words: &[Txt], source: &mut S, sink: &mut K) -> u8
+    // What is written is the reply to all that was read.
+    ensures answered { (result ≡ 0) ⊎ (result ≡ 1) → Answered words.now (S.left source.old) (S.left source.new) (K.written sink.old) (K.written sink.new) result }
+    ensures usage { (result ≡ 2) ↔ (command_of words.now ≡ None) }
+
+    // Where the sink fails, a front of the reply was written; else, but for 0 and 1, nothing was.
+    ensures cut { result ≡ 7 → HalfAnswered words.now (S.left source.old) (S.left source.new) (K.written sink.old) (K.written sink.new) }
+    ensures unsent { (result ≡ 2) ⊎ (result ≡ 9) ⊎ (result ≡ 10) → sink.new ≡ sink.old }
+    ensures unread { result ≡ 2 → source.new ≡ source.old }
+
+    // A fault is answered exactly where one was met: no other answer comes where a count rose.
+    ensures not_written { result ≡ 7 → Rose (K.faults sink.old) (K.faults sink.new) }
+    ensures not_read { result ≡ 10 → Rose (S.faults source.old) (S.faults source.new) }
+    ensures written { result ≢ 7 → K.faults sink.new ≡ K.faults sink.old }
+    ensures was_read { result ≢ 10 → S.faults source.new ≡ S.faults source.old }
+    ensures statuses { (result ≡ 0) ⊎ (result ≡ 1) ⊎ (result ≡ 2) ⊎ (result ≡ 7) ⊎ (result ≡ 9) ⊎ (result ≡ 10) }
+{
+    match command_in(words) {
+        None => USAGE,
+        Some(campaigns) => match read_all(alloc, source, MAX_INPUT) {
+            Ok(bytes) => send(alloc, campaigns, bytes.as_bytes(), sink),
+            Err(ReadFault::Failed) => NOT_READ,
+            Err(ReadFault::Memory) => NO_MEMORY,
+        },
+    }
+}

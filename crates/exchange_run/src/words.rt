@@ -1,0 +1,180 @@
+ghost use Rattle.std.specs.Prelude.{◌≡◌, ◌==◌, ◌<◌, ◌≤◌, position, length, IfSome, Option, None, Some, cond, option_map, is_some, IfOk, IsSome, map};
+ghost use Rattle.std.specs.List.{after_first, before_first, list_all, list_any};
+ghost use Rattle.exchange_run.specs.Words.{amount_of, campaign_of, campaign_words, campaigns_of, command_of, domain_of, bid_of, is_at};
+ghost use Rattle.exchange_run.specs.View.{campaign_view};
+ghost use Rattle.rtb_num.specs.Amounts.{places_of};
+
+use rtb_num::{Micros, Txt, exact_micros, is_decimal};
+use std::alloc::{AllocError, Global};
+
+/// A campaign that a word names.
+#[derive(Debug, Drop)]
+pub(crate) struct NamedCampaign<'a> {
+    /// Micro-dollars per thousand impressions.
+    pub bid: Micros,
+    /// The site domain that it wants, or any.
+    pub domain: Option<&'a [u8]>,
+}
+
+const MAX_PLACES: usize = 6;
+
+const MAX_DOMAIN: usize = 255;
+
+const MAX_CAMPAIGNS: usize = 64;
+
+fn place_of(text: &[u8], byte: u8) -> Option<usize>
+    ensures place { result ≡ position (λ c. c == byte) text.now }
+    ensures inside { IfSome result (λ at. at < length text.now) }
+{
+    text.iter().position(|c| *c == byte)
+}
+
+// How many digits stand behind the point.
+#[tactic(auto, using(crate::proofs::Places::behind_some, crate::proofs::Places::behind_none))]
+fn places(text: &[u8]) -> usize
+    ensures { result ≡ places_of text.now }
+{
+    match place_of(text, b'.') {
+        Some(at) => text.len() - at - 1,
+        None => 0,
+    }
+}
+
+/// The millionths that a decimal text of at most six places is worth, up to a million.
+pub(crate) fn amount(text: &[u8]) -> Option<Micros>
+    ensures { result ≡ amount_of text.now }
+{
+    if !is_decimal(text) {
+        return None;
+    }
+    if places(text) > MAX_PLACES {
+        return None;
+    }
+    exact_micros(text).ok()
+}
+
+// What stands before the first `@`.
+fn bid_text(word: &[u8]) -> &[u8]
+    ensures { result.now ≡ before_first is_at word.now }
+{
+    match place_of(word, b'@') {
+        Some(at) => &word[..at],
+        None => word,
+    }
+}
+
+// What stands behind the first `@`, if there is one.
+fn domain_text(word: &[u8]) -> Option<&[u8]>
+    ensures { option_map (λ d. d.now) result ≡ cond (list_any is_at word.now) (Some (after_first is_at word.now)) None }
+{
+    match place_of(word, b'@') {
+        Some(at) => Some(&word[at + 1..]),
+        None => None,
+    }
+}
+
+fn bid(word: &[u8]) -> Option<Micros>
+    ensures { result ≡ bid_of word.now }
+{
+    let bid = amount(bid_text(word))?;
+    if bid.get() == 0 {
+        return None;
+    }
+    Some(bid)
+}
+
+fn domain(word: &[u8]) -> Option<Option<&[u8]>>
+    ensures { option_map (λ d. option_map (λ t. t.now) d) result ≡ domain_of word.now }
+{
+    match domain_text(word) {
+        None => Some(None),
+        Some(domain) => {
+            if domain.is_empty() {
+                return None;
+            }
+            if domain.len() > MAX_DOMAIN {
+                return None;
+            }
+            Some(Some(domain))
+        }
+    }
+}
+
+// `BID` or `BID@DOMAIN`.
+fn campaign(word: &[u8]) -> Option<NamedCampaign<'_>>
+    ensures { option_map campaign_view result ≡ campaign_of word.now }
+{
+    let bid = bid(word)?;
+    let domain = domain(word)?;
+    Some(NamedCampaign { bid, domain })
+}
+
+fn is_campaign(word: &Txt) -> bool
+    ensures { result ≡ is_some (campaign_of word.now) }
+{
+    campaign(word.as_bytes()).is_some()
+}
+
+fn are_campaigns(words: &[Txt]) -> bool
+    ensures { result ≡ list_all (λ word. is_some (campaign_of word)) words.now }
+{
+    words.iter().all(|word| is_campaign(word))
+}
+
+// What stands behind the command's name: at most 64 words.
+fn words_behind_try(words: &[Txt]) -> Option<&[Txt]>
+    ensures { option_map (λ ws. ws.now) result ≡ campaign_words words.now }
+{
+    match words {
+        [] => None,
+        [name, words @ ..] => {
+            if name.as_bytes() != b"try".as_slice() {
+                return None;
+            }
+            if words.len() > MAX_CAMPAIGNS {
+                return None;
+            }
+            Some(words)
+        }
+    }
+}
+
+/// The words of the command `try` behind its name, where each is a campaign.
+#[tactic(auto, using(crate::proofs::Campaigns::all_are))]
+pub(crate) fn command_in(words: &[Txt]) -> Option<&[Txt]>
+    ensures command { is_some result ≡ is_some (command_of words.now) }
+    ensures words { IfSome result (λ ws. (campaigns_of ws.now ≡ command_of words.now) × IsSome (campaigns_of ws.now) × (length ws.now ≤ 64)) }
+{
+    let words = words_behind_try(words)?;
+    if !are_campaigns(words) {
+        return None;
+    }
+    Some(words)
+}
+
+fn known_campaign(word: &Txt) -> NamedCampaign<'_>
+    requires { IsSome (campaign_of word.now) }
+    ensures { Some (campaign_view result) ≡ campaign_of word.now }
+{
+    match campaign(word.as_bytes()) {
+        Some(campaign) => campaign,
+        None => unreachable!(),
+    }
+}
+
+/// The campaigns that the words name, in their order.
+pub(crate) fn campaigns_in<'a>(
+    alloc: Global,
+    words: &'a [Txt],
+) -> Result<Vec<NamedCampaign<'a>>, AllocError>
+    requires { IsSome (campaigns_of words.now) }
+    ensures { IfOk result (λ cs. Some (map campaign_view cs.items) ≡ campaigns_of words.now) }
+{
+    let mut campaigns = Vec::with_capacity(alloc, words.len())?;
+    for word in words {
+        if campaigns.push(known_campaign(word)).is_err() {
+            return Err(AllocError);
+        }
+    }
+    Ok(campaigns)
+}
