@@ -1,58 +1,67 @@
--- What the steps of the code give.
-use Rattle.std.proofs.Common.{◌≡◌, ◌≢◌, ℕ, zero, suc, ◌-◌, List, [], ◌∷◌, ◌++◌, length, Bool, true, false, refl, sym, ap, ◌∙◌, arith}
-use Rattle.exact_json.specs.Tree.{array, object}
-use Rattle.exact_json.specs.View.{trees_from, pairs_from}
-use Rattle.exact_json.specs.Reading.{Outcome, done, Reader, mapped, skip, next_at, filled_at, list_at, member_at, nested_at, value_at}
-use Rattle.exact_json.specs.Gives.{Fails}
-use Rattle.exact_json.specs.declared.reader.JsonFault.{JsonFault}
-use Rattle.exact_json.specs.declared.reader.JsonFault.TheVariants as fault
-use Rattle.exact_json.proofs.Loop.{IsShorter, onto, no_entry, no_next, one_more, last_one}
+-- What small steps of the code say of what is read: hexadecimal digits, and the bytes of a character.
+use Rattle.std.proofs.Common.{◌≡◌, ℕ, zero, suc, ◌+◌, ◌-◌, ◌*◌, ◌<◌, List, [], ◌∷◌, Bool, true, false, cond, Some, None, refl, sym, ap, ◌∙◌, arith}
+use Rattle.exact_json.specs.Strings.{in_range, is_plain, followers, is_hex, hex_digit, hex_onto, four_hex, code_unit}
+use Rattle.exact_json.specs.Reading.{Outcome, done, stops, short, ◌>>=◌, mapped, passes_at, follow_at, escape_at, past, one_at, ones_at, tails_of, char_at, hex_at, hexes_at, unit_at}
+use Rattle.exact_json.proofs.NumberForm.{on}
+use Rattle.exact_json.proofs.Scanning.{fused}
 
-pub mapped_fails : {A B : Type 0} (k : A → B) (e : JsonFault) (o : Outcome A) → Fails e o → Fails e (mapped k o)
-mapped_fails k fault.Memory o h = tt
-mapped_fails k (fault.Syntax at) o (z, q) = (z, ap (mapped k) q)
+abbrev hex_list : ℕ → List (ℕ → Bool)
+hex_list zero = []
+hex_list (suc k) = is_hex ∷ hex_list k
 
--- a loop over entries, where the next can't be read
-pub bad_entry : {A : Type 0} (entry : Reader A) (close : ℕ) (front : List A) (left : List ℕ) (total : Outcome (List A)) (e : JsonFault) → onto front (filled_at entry close (suc (length left)) left) ≡ total → Fails e (entry left) → Fails e total
-bad_entry entry close front left total fault.Memory same h = tt
-bad_entry entry close front left total (fault.Syntax at) same (z, q) = (z, sym same ∙ no_entry entry close front left q)
+bound_alike : {A B : Type 0} (o : Outcome A) (f g : A → List ℕ → Outcome B) → ((x : A) (r : List ℕ) → f x r ≡ g x r) → (o >>= f) ≡ (o >>= g)
+bound_alike (done x rest) f g h = h x rest
+bound_alike (stops from) f g h = refl
+bound_alike short f g h = refl
 
--- and where neither a comma nor the closing byte follows it
-pub bad_next : {A : Type 0} (entry : Reader A) (close : ℕ) (front : List A) (left r s : List ℕ) (x : A) (total : Outcome (List A)) (e : JsonFault) → onto front (filled_at entry close (suc (length left)) left) ≡ total
-    → entry left ≡ done x r → s ≡ skip r → Fails e (next_at close s) → Fails e total
-bad_next entry close front left r s x total fault.Memory same er es h = tt
-bad_next entry close front left r s x total (fault.Syntax at) same er es (z, q) = (z, sym same ∙ no_next entry close front left r x er (ap (next_at close) (sym es) ∙ q))
+hexes : (k n : ℕ) (s : List ℕ) → mapped (hex_onto n) (passes_at (hex_list k) s) ≡ hexes_at k n s
+hexes zero n s = refl
+hexes (suc k) n [] = refl
+hexes (suc k) n (c ∷ s) = at k n c s (is_hex c) (hexes k (n * 16 + hex_digit c) s)
+  where
+    at : (k n c : ℕ) (s : List ℕ) (b : Bool) → mapped (hex_onto (n * 16 + hex_digit c)) (passes_at (hex_list k) s) ≡ hexes_at k (n * 16 + hex_digit c) s
+        → mapped (hex_onto n) (cond b (mapped (λ w. c ∷ w) (passes_at (hex_list k) s)) (stops (c ∷ s))) ≡ (cond b (done (hex_digit c) s) (stops (c ∷ s)) >>= λ d rest. hexes_at k (n * 16 + d) rest)
+    at k n c s true h = fused (hex_onto n) (λ w. c ∷ w) (passes_at (hex_list k) s) ∙ h
+    at k n c s false h = refl
 
--- and where a comma follows it
-pub kept : {A : Type 0} (entry : Reader A) (close : ℕ) → IsShorter entry → (front more : List A) (left r s after again : List ℕ) (x : A) (goes : Bool) (total : Outcome (List A)) → onto front (filled_at entry close (suc (length left)) left) ≡ total
-    → entry left ≡ done x r → s ≡ skip r → next_at close s ≡ done goes after → goes ≡ true → again ≡ skip after → more ≡ front ++ x ∷ [] → onto more (filled_at entry close (suc (length again)) again) ≡ total
-kept entry close h front more left r s after again x goes total same er es en eg ea em =
-    ap (λ k. onto more (filled_at entry close (suc (length k)) k)) ea
-    ∙ ap (λ k. onto k (filled_at entry close (suc (length (skip after))) (skip after))) em
-    ∙ sym (one_more entry close h front left r after x er (ap (next_at close) (sym es) ∙ en ∙ ap (λ b. done b after) eg))
-    ∙ same
+-- four hexadecimal digits, as their number
+pub unit_same : (s : List ℕ) → mapped (hex_onto 0) (passes_at four_hex s) ≡ unit_at s
+unfolding unit_at
+unit_same s = hexes 4 0 s ∙ bound_alike (hex_at s) (λ d rest. hexes_at 3 (0 * 16 + d) rest) (λ a rest. hexes_at 3 a rest) (λ a rest. let same : 0 * 16 + a ≡ a = omega arith in ap (λ n. hexes_at 3 n rest) same)
 
--- and where the closing byte follows it
-pub ended : {A : Type 0} (entry : Reader A) (close : ℕ) (front more : List A) (left r s after : List ℕ) (x : A) (goes : Bool) (total : Outcome (List A)) → onto front (filled_at entry close (suc (length left)) left) ≡ total
-    → entry left ≡ done x r → s ≡ skip r → next_at close s ≡ done goes after → goes ≡ false → more ≡ front ++ x ∷ [] → total ≡ done more after
-ended entry close front more left r s after x goes total same er es en eg em =
-    sym same
-    ∙ last_one entry close front left r after x er (ap (next_at close) (sym es) ∙ en ∙ ap (λ b. done b after) eg)
-    ∙ ap (λ k. done k after) (sym em)
+pub unit_escape : (bytes : List ℕ) (c : ℕ) (s : List ℕ) → bytes ≡ c ∷ s → c ≡ 117 → escape_at bytes ≡ mapped code_unit (unit_at s)
+unit_escape bytes c s e ec =
+    ap escape_at (e ∙ ap (λ k. k ∷ s) ec) ∙ sym (fused code_unit (hex_onto 0) (passes_at four_hex s)) ∙ ap (mapped code_unit) (unit_same s)
 
-pub array_opens : (d c : ℕ) (s bytes r : List ℕ) → d ≢ 0 → bytes ≡ c ∷ s → c ≡ 91 → r ≡ skip s → value_at d bytes ≡ mapped (λ ts. array (trees_from ts)) (list_at (value_at (d - 1)) 93 r)
-unfolding value_at nested_at
-array_opens zero c s bytes r nz eb ec er = absurd (nz refl)
-array_opens (suc d) c s bytes r nz eb ec er =
-    let deeper : suc d - 1 ≡ d = omega arith in
-    let first : bytes ≡ 91 ∷ s = eb ∙ ap (λ k. k ∷ s) ec in
-    ap (value_at (suc d)) first ∙ ap (λ k. mapped (λ ts. array (trees_from ts)) (list_at (value_at d) 93 k)) (sym er) ∙ ap (λ k. mapped (λ ts. array (trees_from ts)) (list_at (value_at k) 93 r)) (sym deeper)
+-- bytes of a character
+past_past : {A B : Type 0} (f : A → B) (o : Outcome A) → past (mapped f o) ≡ past o
+past_past f o = fused (λ x. tt) f o
 
-pub object_opens : (d c : ℕ) (s bytes r : List ℕ) → d ≢ 0 → bytes ≡ c ∷ s → c ≡ 123 → r ≡ skip s → value_at d bytes ≡ mapped (λ ps. object (pairs_from ps)) (list_at (member_at (value_at (d - 1))) 125 r)
-unfolding value_at nested_at
-object_opens zero c s bytes r nz eb ec er = absurd (nz refl)
-object_opens (suc d) c s bytes r nz eb ec er =
-    let deeper : suc d - 1 ≡ d = omega arith in
-    let first : bytes ≡ 123 ∷ s = eb ∙ ap (λ k. k ∷ s) ec in
-    ap (value_at (suc d)) first ∙ ap (λ k. mapped (λ ps. object (pairs_from ps)) (list_at (member_at (value_at d)) 125 k)) (sym er)
-    ∙ ap (λ k. mapped (λ ps. object (pairs_from ps)) (list_at (member_at (value_at k)) 125 r)) (sym deeper)
+abbrev taken : Bool → ℕ → List ℕ → Outcome (Unit {0})
+taken b c s = cond b (done tt s) (stops (c ∷ s))
+
+passes_ones : (ps : List (ℕ → Bool)) (s : List ℕ) → past (passes_at ps s) ≡ ones_at ps s
+passes_ones [] s = refl
+passes_ones (p ∷ ps) [] = refl
+passes_ones (p ∷ ps) (c ∷ s) = at ps c s (p c) (passes_ones ps s)
+  where
+    at : (ps : List (ℕ → Bool)) (c : ℕ) (s : List ℕ) (b : Bool) → past (passes_at ps s) ≡ ones_at ps s
+        → past (cond b (mapped (λ w. c ∷ w) (passes_at ps s)) (stops (c ∷ s))) ≡ (taken b c s >>= λ u rest. ones_at ps rest)
+    at ps c s true h = past_past (λ w. c ∷ w) (passes_at ps s) ∙ h
+    at ps c s false h = refl
+
+pub char_plain : (bytes : List ℕ) (c : ℕ) (s : List ℕ) → bytes ≡ c ∷ s → is_plain c ≡ true → char_at bytes ≡ done tt s
+char_plain bytes c s e p = ap char_at e ∙ ap (λ o. past (follow_at o c s)) (on (is_plain c) (Some []) _ p)
+
+pub char_none : (bytes : List ℕ) (c : ℕ) (s : List ℕ) → bytes ≡ c ∷ s → followers c ≡ None → char_at bytes ≡ stops bytes
+char_none bytes c s e f = ap char_at e ∙ ap (λ o. past (follow_at o c s)) f ∙ ap stops (sym e)
+
+pub char_led : (bytes : List ℕ) (c : ℕ) (s : List ℕ) (p : ℕ → Bool) (ps : List (ℕ → Bool)) → bytes ≡ c ∷ s → followers c ≡ Some (p ∷ ps) → char_at bytes ≡ (one_at p s >>= λ u rest. ones_at ps rest)
+char_led bytes c s p ps e f = ap char_at e ∙ ap (λ o. past (follow_at o c s)) f ∙ past_past (λ w. c ∷ w) (passes_at (p ∷ ps) s) ∙ passes_ones (p ∷ ps) s
+
+pub tails_step : (due : ℕ) (s : List ℕ) → 0 < due → ones_at (tails_of due) s ≡ (one_at (in_range 128 191) s >>= λ u rest. ones_at (tails_of (due - 1)) rest)
+tails_step zero s h = absurd (omega arith)
+tails_step (suc n) s h = let same : suc n - 1 ≡ n = omega arith in ap (λ k. one_at (in_range 128 191) s >>= λ u rest. ones_at (tails_of k) rest) (sym same)
+
+pub tails_end : (due : ℕ) (s : List ℕ) → due ≡ 0 → ones_at (tails_of due) s ≡ done tt s
+tails_end due s e = ap (λ k. ones_at (tails_of k) s) e

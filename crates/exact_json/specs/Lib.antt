@@ -1,5 +1,15 @@
 pub mod Tree
+pub mod Shapes
+pub mod Numbers
+pub mod Strings
 pub mod Grammar
-pub mod View
 pub mod Reading
+pub mod View
 pub mod Gives
+pub mod Phases
+pub mod Escapes
+pub mod Forms
+pub mod Docs
+pub mod Places
+pub mod PlaceViews
+pub mod Faults

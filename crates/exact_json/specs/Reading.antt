@@ -1,18 +1,21 @@
--- Reading as a function on lists, which the crate's private clauses cite.
-use Rattle.std.specs.Prelude.{ℕ, zero, suc, ◌-◌, List, [], ◌∷◌, length, take, drop, Bool, true, false, cond, not, ◌==◌, ◌&&◌, ◌||◌, nat_le, nat_eq, codes}
-use Rattle.std.specs.Cmp.Lexicographic.{pointwise}
+-- Reading as functions on lists, which the crate's private clauses cite.
+use Rattle.std.specs.Prelude.{◌≡◌, ℕ, zero, suc, ◌+◌, ◌-◌, ◌*◌, List, [], ◌∷◌, ◌++◌, length, take, Bool, true, false, cond, ◌==◌, ◌||◌, Option, None, Some, codes}
+use Rattle.exact_json.specs.Numbers.{is_digit, start, next_phase, ends_number}
+use Rattle.exact_json.specs.Strings.{Piece, character, escape, code_unit, followers, is_escape, four_hex, hex_onto, is_hex, hex_digit, is_tail, text_behind, alone}
 use Rattle.exact_json.specs.Tree.{Tree, null, boolean, number, string, array, object}
 use Rattle.exact_json.specs.View.{trees_from, pairs_from}
 
--- what was read, and the rest; or there is no such thing
+-- what was read, and the rest; or what stands from the fault on; or all is gone too early
 pub data Outcome (A : Type 0) : Type 0 where
   done : A → List ℕ → Outcome A
-  fails : Outcome A
+  stops : List ℕ → Outcome A
+  short : Outcome A
 
 infixl 10 ◌>>=◌
 abbrev pub ◌>>=◌ : {A B : Type 0} → Outcome A → (A → List ℕ → Outcome B) → Outcome B
 (done x rest) >>= f = f x rest
-fails >>= f = fails
+(stops rest) >>= f = stops rest
+short >>= f = short
 
 abbrev pub Reader : Type 0 → Type 0
 Reader A = List ℕ → Outcome A
@@ -20,89 +23,172 @@ Reader A = List ℕ → Outcome A
 abbrev pub mapped : {A B : Type 0} → (A → B) → Outcome A → Outcome B
 mapped k o = o >>= λ x rest. done (k x) rest
 
+-- one thing and then another
+abbrev pub in_turn : {A B : Type 0} → Reader A → Reader B → Reader (A × B)
+in_turn f g s = f s >>= λ x rest. mapped (λ y. (x, y)) (g rest)
+
+-- a byte, and the reader of the rest
+abbrev pub byte_then : {A : Type 0} → ℕ → Reader A → Reader A
+byte_then k f [] = short
+byte_then k f (c ∷ s) = cond (c == k) (f s) (stops (c ∷ s))
+
 abbrev pub is_space : ℕ → Bool
 is_space c = (c == 32) || ((c == 9) || ((c == 10) || (c == 13)))
 
-abbrev pub is_digit : ℕ → Bool
-is_digit c = nat_le 48 c && nat_le c 57
+-- what stands behind white space
+unfoldable pub skip : List ℕ → List ℕ
+skip [] = []
+skip (c ∷ s) = cond (is_space c) (skip s) (c ∷ s)
 
-abbrev pub is_plain : ℕ → Bool
-is_plain c = (nat_le 32 c && nat_le c 126) && (not (c == 34) && not (c == 92))
+-- bytes that pass these tests in turn
+abbrev pub passes_at : List (ℕ → Bool) → Reader (List ℕ)
+passes_at [] s = done [] s
+passes_at (p ∷ ps) [] = short
+passes_at (p ∷ ps) (c ∷ s) = cond (p c) (mapped (λ w. c ∷ w) (passes_at ps s)) (stops (c ∷ s))
 
--- what stands behind the bytes that pass
-unfoldable pub behind : (ℕ → Bool) → List ℕ → List ℕ
-behind p [] = []
-behind p (c ∷ s) = cond (p c) (behind p s) (c ∷ s)
+-- these bytes
+abbrev pub word_at : List ℕ → Reader (List ℕ)
+word_at [] s = done [] s
+word_at (k ∷ ks) [] = short
+word_at (k ∷ ks) (c ∷ s) = cond (c == k) (mapped (λ w. c ∷ w) (word_at ks s)) (stops (c ∷ s))
 
-abbrev pub skip : List ℕ → List ℕ
-skip s = behind is_space s
+-- bytes as long as they lead from state to state, which must end in one where they may
+unfoldable pub scan : {Q : Type 0} → (Q → ℕ → Option Q) → (Q → Bool) → Q → Reader (List ℕ)
+scan next ends q [] = cond (ends q) (done [] []) short
+scan next ends q (c ∷ s) = elim (next q c) [ None ↦ cond (ends q) (done [] (c ∷ s)) (stops (c ∷ s)) | Some r ↦ mapped (λ w. c ∷ w) (scan next ends r s) ]
+
+unfoldable pub number_at : Reader (List ℕ)
+number_at s = scan next_phase ends_number start s
+
+-- what must follow, and the first byte before it
+abbrev pub follow_at : Option (List (ℕ → Bool)) → ℕ → Reader (List ℕ)
+follow_at None c s = stops (c ∷ s)
+follow_at (Some ps) c s = mapped (λ w. c ∷ w) (passes_at ps s)
+
+-- an escape, behind its backslash
+abbrev pub escape_at : Reader Piece
+escape_at [] = short
+escape_at (c ∷ s) =
+    cond (c == 117) (mapped (λ h. code_unit (hex_onto 0 h)) (passes_at four_hex s))
+    (cond (is_escape c) (done (escape c) s) (stops (c ∷ s)))
+
+unfoldable pub piece_at : Reader Piece
+piece_at [] = short
+piece_at (c ∷ s) = cond (c == 92) (escape_at s) (mapped character (follow_at (followers c) c s))
+
+-- pieces up to a quotation mark; the number bounds the turns, and one more than there are bytes is enough
+unfoldable pub pieces_at : ℕ → Reader (List Piece)
+pieces_at zero s = short
+pieces_at (suc n) [] = short
+pieces_at (suc n) (c ∷ s) = cond (c == 34) (done [] s) (mapped (λ (p : Piece × List Piece). p.0 ∷ p.1) (in_turn piece_at (pieces_at n) (c ∷ s)))
+
+-- the text of the pieces behind a high surrogate, or none, up to the quotation mark
+unfoldable pub body_at : Option ℕ → Reader (List ℕ)
+body_at high s = mapped (text_behind high) (pieces_at (suc (length s)) s)
+
+-- a string's text, behind the opening quotation mark
+abbrev pub quoted_at : Reader (List ℕ)
+quoted_at = body_at None
+
+-- what follows an entry; the number bounds the turns, and as many as there are bytes are enough
+unfoldable pub more_at : {A : Type 0} → Reader A → ℕ → ℕ → Reader (List A)
+more_at entry close zero s = short
+more_at entry close (suc n) [] = short
+more_at {A} entry close (suc n) (c ∷ s) =
+    cond (c == close) (done [] s)
+    (cond (c == 44) (mapped (λ (p : A × List A). p.0 ∷ p.1) (in_turn entry (λ rest. more_at entry close n (skip rest)) (skip s))) (stops (c ∷ s)))
+
+-- the entries and the closing byte
+unfoldable pub entries_at : {A : Type 0} → Reader A → ℕ → Reader (List A)
+entries_at entry close [] = short
+entries_at {A} entry close (c ∷ s) =
+    cond (c == close) (done [] s) (mapped (λ (p : A × List A). p.0 ∷ p.1) (in_turn entry (λ rest. more_at entry close (length (skip rest)) (skip rest)) (c ∷ s)))
+
+-- a member, where value reads the value
+unfoldable pub member_at : Reader Tree → Reader (List ℕ × Tree)
+member_at value s = in_turn (byte_then 34 quoted_at) (λ rest. byte_then 58 (λ after. value (skip after)) (skip rest)) s
+
+-- a value that is neither an array nor an object, by its first byte
+unfoldable pub scalar_at : ℕ → Reader Tree
+scalar_at c s =
+    cond (c == 34) (mapped string (quoted_at s))
+    (cond ((c == 45) || is_digit c) (mapped number (number_at (c ∷ s)))
+    (cond (c == 110) (mapped (λ w. null) (word_at (codes "ull") s))
+    (cond (c == 116) (mapped (λ w. boolean true) (word_at (codes "rue") s))
+    (cond (c == 102) (mapped (λ w. boolean false) (word_at (codes "alse") s)) (stops (c ∷ s))))))
+
+-- arrays and objects nest at most that deep; no white space stands before
+unfoldable pub value_at : ℕ → Reader Tree
+value_at d [] = short
+value_at zero (c ∷ s) = scalar_at c s
+value_at (suc d) (c ∷ s) =
+    cond (c == 91) (mapped (λ ts. array (trees_from ts)) (entries_at (value_at d) 93 (skip s)))
+    (cond (c == 123) (mapped (λ ps. object (pairs_from ps)) (entries_at (member_at (value_at d)) 125 (skip s))) (scalar_at c s))
+
+-- the end of the text
+abbrev pub end_of : Tree → List ℕ → Outcome Tree
+end_of t [] = done t []
+end_of t (c ∷ s) = stops (c ∷ s)
+
+unfoldable pub text_at : ℕ → Reader Tree
+text_at d s = value_at d (skip s) >>= λ t rest. end_of t (skip rest)
+
+-- what the code does, step by step
+
+-- the rest alone
+abbrev pub past : {A : Type 0} → Outcome A → Outcome (Unit {0})
+past o = mapped (λ x. tt) o
+
+-- a byte that passes, and no more is kept of it
+abbrev pub one_at : (ℕ → Bool) → Reader (Unit {0})
+one_at p [] = short
+one_at p (c ∷ s) = cond (p c) (done tt s) (stops (c ∷ s))
+
+abbrev pub ones_at : List (ℕ → Bool) → Reader (Unit {0})
+ones_at [] s = done tt s
+ones_at (p ∷ ps) s = one_at p s >>= λ u rest. ones_at ps rest
+
+-- so many bytes of UTF8-tail
+abbrev pub tails_of : ℕ → List (ℕ → Bool)
+tails_of zero = []
+tails_of (suc n) = is_tail ∷ tails_of n
+
+-- an unescaped character
+abbrev pub char_at : Reader (Unit {0})
+char_at [] = short
+char_at (c ∷ s) = past (follow_at (followers c) c s)
+
+-- a hexadecimal digit, as its value, and four of them
+abbrev pub hex_at : Reader ℕ
+hex_at [] = short
+hex_at (c ∷ s) = cond (is_hex c) (done (hex_digit c) s) (stops (c ∷ s))
+
+unfoldable pub unit_at : Reader ℕ
+unit_at s = hex_at s >>= λ a r1. hex_at r1 >>= λ b r2. hex_at r2 >>= λ c r3. hex_at r3 >>= λ d rest. done (((a * 16 + b) * 16 + c) * 16 + d) rest
+
+-- so many hexadecimal digits behind a number
+abbrev pub hexes_at : ℕ → ℕ → Reader ℕ
+hexes_at zero n s = done n s
+hexes_at (suc k) n s = hex_at s >>= λ d rest. hexes_at k (n * 16 + d) rest
+
+-- what stops a run of unescaped characters
+abbrev pub is_special : ℕ → Bool
+is_special c = (c == 34) || (c == 92)
+
+abbrev pub EndsRun : List ℕ → Type 0
+EndsRun [] = Unit {0}
+EndsRun (c ∷ s) = is_special c ≡ true
+
+-- a run of unescaped characters behind a high surrogate, or none, and then the rest of the body
+abbrev pub after_run : Option ℕ → List ℕ → Reader (List ℕ)
+after_run high [] s = body_at high s
+after_run high (c ∷ w) s = mapped (λ t. alone high ++ (c ∷ w ++ t)) (body_at None s)
+
+-- a value that is neither an array nor an object
+abbrev pub flat_at : Reader Tree
+flat_at [] = short
+flat_at (c ∷ s) = scalar_at c s
 
 -- what stands before this rest
 abbrev pub before : List ℕ → List ℕ → List ℕ
 before rest s = take (length s - length rest) s
-
--- this byte
-abbrev pub byte_at : ℕ → Reader ℕ
-byte_at k [] = fails
-byte_at k (c ∷ s) = cond (c == k) (done c s) fails
-
-unfoldable pub string_at : Reader (List ℕ)
-string_at s = byte_at 34 s >>= λ q inner. byte_at 34 (behind is_plain inner) >>= λ r rest. done (before (behind is_plain inner) inner) rest
-
--- what stands behind the digits of a number
-abbrev pub after_digits : List ℕ → List ℕ
-after_digits [] = []
-after_digits (c ∷ s) = cond (c == 48) s (behind is_digit s)
-
--- a number, where a digit stands first
-unfoldable pub number_at : Reader Tree
-number_at s = done (number (before (after_digits s) s)) (after_digits s)
-
-abbrev pub begins : List ℕ → List ℕ → Bool
-begins word s = pointwise nat_eq (take (length word) s) word
-
-unfoldable pub literal_at : Reader Tree
-literal_at s =
-    cond (begins (codes "null") s) (done null (drop 4 s))
-    (cond (begins (codes "true") s) (done (boolean true) (drop 4 s))
-    (cond (begins (codes "false") s) (done (boolean false) (drop 5 s)) fails))
-
--- what is neither an array nor an object
-unfoldable pub scalar_at : Reader Tree
-scalar_at [] = fails
-scalar_at (c ∷ s) = cond (c == 34) (mapped string (string_at (c ∷ s))) (cond (is_digit c) (number_at (c ∷ s)) (literal_at (c ∷ s)))
-
--- whether a comma stands first, and not the closing byte
-unfoldable pub next_at : ℕ → Reader Bool
-next_at close [] = fails
-next_at close (c ∷ s) = cond (c == 44) (done true s) (cond (c == close) (done false s) fails)
-
--- what follows an entry, where more reads what follows a comma
-abbrev pub tail_at : {A : Type 0} → Reader (List A) → ℕ → Reader (List A)
-tail_at more close s = next_at close s >>= λ goes rest. cond goes (more (skip rest)) (done [] rest)
-
--- one entry or more and the closing byte; the number bounds the turns, and one more than there are bytes is enough
-unfoldable pub filled_at : {A : Type 0} → Reader A → ℕ → ℕ → Reader (List A)
-filled_at entry close zero s = fails
-filled_at entry close (suc n) s = entry s >>= λ x rest. mapped (λ xs. x ∷ xs) (tail_at (filled_at entry close n) close (skip rest))
-
--- the entries and the closing byte
-unfoldable pub list_at : {A : Type 0} → Reader A → ℕ → Reader (List A)
-list_at entry close [] = fails
-list_at entry close (c ∷ s) = cond (c == close) (done [] s) (filled_at entry close (suc (length (c ∷ s))) (c ∷ s))
-
--- a member, where value reads the value
-unfoldable pub member_at : Reader Tree → Reader (List ℕ × Tree)
-member_at value s = string_at s >>= λ name rest. byte_at 58 (skip rest) >>= λ colon after. mapped (λ t. (name, t)) (value (skip after))
-
--- an array, an object or a scalar, where value reads what is inside
-unfoldable pub nested_at : Reader Tree → Reader Tree
-nested_at value [] = fails
-nested_at value (c ∷ s) =
-    cond (c == 91) (mapped (λ ts. array (trees_from ts)) (list_at value 93 (skip s)))
-    (cond (c == 123) (mapped (λ ps. object (pairs_from ps)) (list_at (member_at value) 125 (skip s))) (scalar_at (c ∷ s)))
-
--- arrays and objects nest at most that deep; no white space stands before
-unfoldable pub value_at : ℕ → Reader Tree
-value_at zero s = scalar_at s
-value_at (suc d) s = nested_at (value_at d) s

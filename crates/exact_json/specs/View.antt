@@ -4,7 +4,6 @@ use Rattle.exact_json.specs.Tree.{Tree, null, boolean, number, string, array, ob
 use Rattle.exact_json.specs.declared.value.Value.{Value, fold-Value}
 use Rattle.exact_json.specs.declared.value.Items.{Items}
 use Rattle.exact_json.specs.declared.value.Members.{Members}
-use Rattle.exact_json.specs.declared.value.Doc.{Doc}
 use Rattle.exact_json.specs.declared.value.Value.TheOpen.{Value-F, Items-F, Members-F}
 
 abbrev pub trees_from : List Tree → Trees
@@ -46,7 +45,3 @@ trees_in items = trees_of items.values.items
 -- the members of an object
 abbrev pub pairs_in : Members → Pairs
 pairs_in members = pairs_of members.pairs.items
-
--- the tree of a whole text
-abbrev pub doc_tree : Doc → Tree
-doc_tree doc = tree_of doc.root

@@ -4,8 +4,20 @@
 //! `specs/View.antt` which tree a `Value` stands for.
 #![tactic(auto)]
 
+mod character;
+mod doc;
+mod fault;
+mod number;
+mod place;
 mod reader;
+mod stop;
+mod string;
+#[cfg(test)]
+mod tests;
 mod value;
+mod whole;
 
-pub use reader::{JsonFault, read};
-pub use value::{Doc, Items, Members, Value, get};
+pub use doc::Doc;
+pub use fault::JsonFault;
+pub use value::{Items, Members, Value, get};
+pub use whole::{bytes_have_one_fault, read, text_has_one_tree};

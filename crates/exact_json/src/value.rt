@@ -1,6 +1,8 @@
-ghost use Rattle.std.specs.Prelude.{◌≡◌, map, option_map};
+ghost use Rattle.std.specs.Prelude.{◌≡◌, true, map, option_map, IfSome};
+ghost use Rattle.std.specs.List.{All};
+ghost use Rattle.exact_json.specs.Forms.{HasForms, all_formed, members_formed};
 ghost use Rattle.exact_json.specs.Tree.{get as get_in, get_pair, list_of, members_of};
-ghost use Rattle.exact_json.specs.View.{doc_tree, pairs_in, pairs_of, tree_of, trees_in};
+ghost use Rattle.exact_json.specs.View.{pairs_in, pairs_of, tree_of, trees_in};
 
 use rtb_num::Txt;
 
@@ -32,26 +34,18 @@ pub struct Members {
     pub(crate) pairs: Vec<(Txt, Value)>,
 }
 
-/// The value of a whole text. Only `read` makes one.
-#[derive(Debug, Drop)]
-pub struct Doc {
-    pub(crate) root: Value,
-}
-
-impl Doc {
-    /// The value.
-    pub fn root(&self) -> &Value
-        ensures { tree_of result.now ≡ doc_tree self.now }
-    {
-        &self.root
-    }
-}
-
 #[tactic(auto, using(crate::proofs::Lists::list_from))]
 impl Items {
+    pub(crate) fn from_vec(values: Vec<Value>) -> Items
+        ensures { result.values.items ≡ values.items }
+    {
+        Items { values }
+    }
+
     /// The values.
     pub fn as_slice(&self) -> &[Value]
-        ensures { list_of (trees_in self.now) ≡ map tree_of result.now }
+        ensures values { list_of (trees_in self.now) ≡ map tree_of result.now }
+        ensures numbers { all_formed (trees_in self.now) ≡ true → All (λ v. HasForms (tree_of v)) result.now }
     {
         self.values.as_slice()
     }
@@ -59,9 +53,16 @@ impl Items {
 
 #[tactic(auto, using(crate::proofs::Lists::members_from))]
 impl Members {
+    pub(crate) fn from_vec(pairs: Vec<(Txt, Value)>) -> Members
+        ensures { result.pairs.items ≡ pairs.items }
+    {
+        Members { pairs }
+    }
+
     /// The names and the values.
     pub fn as_slice(&self) -> &[(Txt, Value)]
-        ensures { members_of (pairs_in self.now) ≡ map (λ p. (p.0, tree_of p.1)) result.now }
+        ensures pairs { members_of (pairs_in self.now) ≡ map (λ p. (p.0, tree_of p.1)) result.now }
+        ensures numbers { members_formed (pairs_in self.now) ≡ true → All (λ p. HasForms (tree_of p.1)) result.now }
     {
         self.pairs.as_slice()
     }
@@ -69,7 +70,8 @@ impl Members {
 
 /// The value of the last member of that name, where the value is an object and has one.
 pub fn get<'a>(value: &'a Value, name: &[u8]) -> Option<&'a Value>
-    ensures { option_map (λ v. tree_of v.now) result ≡ get_in name.now (tree_of value.now) }
+    ensures value { option_map (λ v. tree_of v.now) result ≡ get_in name.now (tree_of value.now) }
+    ensures numbers { HasForms (tree_of value.now) → IfSome result (λ v. HasForms (tree_of v.now)) }
 {
     match value {
         Value::Obj(members) => find(&members.pairs, name),

@@ -2,7 +2,7 @@
 use Rattle.std.specs.Prelude.{◌≡◌, ℕ, ◌<◌, ◌≤◌, ◌⊎◌, ◌==◌, List, [], ◌∷◌, ◌++◌, cond, length, Option, Some, codes}
 use Rattle.std.specs.Io.KnownBytes.{Consumes, Appends, IsAtEnd}
 use Rattle.exact_json.specs.Tree.{Tree}
-use Rattle.exact_json.specs.Grammar.{IsPlainText}
+use Rattle.exact_json.specs.Grammar.{IsText}
 use Rattle.exchange_run.specs.Words.{Campaign, command_of}
 use Rattle.exchange_run.specs.Request.{Request, request_of}
 use Rattle.exchange_run.specs.Auction.{Sale, sales_of}
@@ -13,11 +13,11 @@ use Rattle.exchange_run.specs.Response.{response_text}
 abbrev pub max_input : ℕ
 max_input = 262144
 
--- these bytes are a plain bid request
+-- these bytes are a JSON text that makes a plain bid request
 pub record IsRequest (bytes : List ℕ) (r : Request) : Type 0 where
   pub within : length bytes ≤ max_input
   pub tree : Tree
-  pub spelled : IsPlainText tree bytes
+  pub spelled : IsText tree bytes
   pub means : request_of tree ≡ Some r
 
 -- the sales, or `no-bid` where nothing is sold

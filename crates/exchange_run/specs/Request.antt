@@ -96,9 +96,17 @@ as_list (object ps) = None
 abbrev pub is_empty_object : Tree → Bool
 is_empty_object t = option_map_or (λ ms. length ms == 0) (as_members t) false
 
--- `id`: required, a text of 1 to 255 bytes
+-- printable ASCII that stands in a JSON string as it is
+abbrev pub is_plain_byte : ℕ → Bool
+is_plain_byte c = (nat_le 32 c && nat_le c 126) && (not (c == 34) && not (c == 92))
+
+-- an id of this stage: 1 to 255 such bytes
+abbrev pub is_plain_id : List ℕ → Bool
+is_plain_id id = is_within 255 (length id) && list_all is_plain_byte id
+
+-- `id`: required, a text
 abbrev pub id_of : Tree → Option (List ℕ)
-id_of t = option_and_then (λ id. cond (is_within 255 (length id)) (Some id) None) (option_and_then as_text (get (codes "id") t))
+id_of t = option_and_then (λ id. cond (is_plain_id id) (Some id) None) (option_and_then as_text (get (codes "id") t))
 
 -- a member that may be absent: d where it is
 abbrev pub or_absent : {A : Type 0} → A → (Tree → Option A) → Option Tree → Option A

@@ -2,7 +2,7 @@ ghost use Rattle.std.specs.Prelude.{◌≡◌, Option, option_map, List, map, If
 ghost use Rattle.std.specs.List.{list_all, list_any};
 ghost use Rattle.std.specs.Str.{bytes_eq};
 ghost use Rattle.exact_json.specs.View.{tree_of};
-ghost use Rattle.exchange_run.specs.Request.{all_imps_of, as_amount, as_members, as_text, as_list, banner_of, floor_of, id_of, imp_of, imps_of, is_allowed, is_empty_object, is_null, is_plain as is_plain_tree, request_of, site_domain_of, site_of};
+ghost use Rattle.exchange_run.specs.Request.{all_imps_of, as_amount, as_members, as_text, as_list, banner_of, floor_of, id_of, imp_of, imps_of, is_allowed, is_empty_object, is_plain_byte as is_plain_byte_of, is_null, is_plain as is_plain_tree, request_of, site_domain_of, site_of};
 ghost use Rattle.exchange_run.specs.Request.{distinct_imps_of, known_in_imp, known_in_request, known_in_site, later_in_imp, later_in_request, later_in_site};
 ghost use Rattle.exchange_run.specs.View.{imp_view, request_view};
 
@@ -29,6 +29,8 @@ pub(crate) struct PlainRequest<'a> {
     pub domain: Option<&'a Txt>,
     pub imps: Vec<PlainImp<'a>>,
 }
+
+const MAX_ID: usize = 255;
 
 const LATER_IN_REQUEST: [&[u8]; 10] = [
     b"at", b"test", b"wseat", b"bseat", b"cur", b"bcat", b"badv", b"app", b"device", b"user",
@@ -136,7 +138,19 @@ fn is_plain_request(value: &Value) -> bool
     is_plain(&LATER_IN_REQUEST, &KNOWN_IN_REQUEST, value)
 }
 
-// `id`: required, a text of 1 to 255 bytes.
+fn is_plain_byte(byte: u8) -> bool
+    ensures { result ≡ is_plain_byte_of byte }
+{
+    matches!(byte, b' '..=b'~') && byte != b'"' && byte != b'\\'
+}
+
+fn are_plain_bytes(bytes: &[u8]) -> bool
+    ensures { result ≡ list_all is_plain_byte_of bytes.now }
+{
+    bytes.iter().all(|byte| is_plain_byte(*byte))
+}
+
+// `id`: required, a text of 1 to 255 bytes that stand in a JSON string as they are.
 fn id_in(value: &Value) -> Option<&Txt>
     ensures { option_map (λ t. t.now) result ≡ id_of (tree_of value.now) }
 {
@@ -144,7 +158,10 @@ fn id_in(value: &Value) -> Option<&Txt>
     if id.is_empty() {
         return None;
     }
-    if id.len() > 255 {
+    if id.len() > MAX_ID {
+        return None;
+    }
+    if !are_plain_bytes(id.as_bytes()) {
         return None;
     }
     Some(id)

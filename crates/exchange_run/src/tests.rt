@@ -152,6 +152,8 @@ fn sells_an_impression_to_the_best_offer(rt: HostRuntime) -> Result<(), Fail> {
     let alloc = rt.alloc();
     let floor_2 =
         b"{\"id\":\"b1\",\"imp\":[{\"id\":\"1\",\"bidfloor\":2,\"banner\":{}}]}".as_slice();
+    let floor_30_cents =
+        b"{\"id\":\"b1\",\"imp\":[{\"id\":\"1\",\"bidfloor\":0.30,\"banner\":{}}]}".as_slice();
     let many = repeated(alloc, b" 1", 64)?;
     let many = joined(alloc, &[b"try", many.as_bytes()])?;
     // words, request, the campaign that buys, its price
@@ -172,6 +174,7 @@ fn sells_an_impression_to_the_best_offer(rt: HostRuntime) -> Result<(), Fail> {
         (b"try 1000000.000000", NEWS, b"1", b"0.01"),
         (b"try 2.50", floor_2, b"1", b"2"),
         (b"try 2", floor_2, b"1", b"2"),
+        (b"try 1.00", floor_30_cents, b"1", b"0.3"),
         (b"try 2.50 2.495", floor_2, b"1", b"2.5"),
         (many.as_bytes(), NEWS, b"1", b"1"),
     ];
@@ -222,6 +225,12 @@ fn answers_where_nothing_is_sold(rt: HostRuntime) -> Result<(), Fail> {
         (b"try 1", most_imps.as_bytes(), 0, NO_BID),
         (b"try 2.50", b"{\"id\":\"b1\",\"imp\":[]}", 1, NO_IMPS),
         (b"try", b"{\"id\":\"b1\",\"imp\":[]}", 1, NO_IMPS),
+        (
+            b"try",
+            b"{\"\\u0069d\":\"b\\u0031\",\"imp\":[]}",
+            1,
+            NO_IMPS,
+        ),
     ];
     for (line, request, status, text) in cases {
         assert_run(&rt, alloc, line, request, (status, text))?;
@@ -336,7 +345,8 @@ fn refuses_what_is_no_request(rt: HostRuntime) -> Result<(), Fail> {
         b"{\"id\":\"b1\",\"imp\":[{\"id\":\"1\"},{\"id\":\"2\"},{\"id\":\"1\"}]}",
         b"{\"id\":\"b1\",\"imp\":[]} x",
         b"{\"id\":\"b1\",\"imp\":[]",
-        b"{\"id\":\"b\\u0031\",\"imp\":[]}",
+        b"{\"id\":\"b\\\"\",\"imp\":[]}",
+        b"{\"id\":\"\\u00e9\",\"imp\":[]}",
         b"{\"id\":\"b1\",\"imp\":[],\"site\":[]}",
         b"{\"id\":\"b1\",\"imp\":[],\"site\":null}",
         b"{\"id\":\"b1\",\"imp\":[],\"at\":1}",
@@ -377,7 +387,7 @@ fn refuses_members_that_it_does_not_serve(rt: HostRuntime) -> Result<(), Fail> {
         [b"", b",\"id\":1", b""],
         [b"", b",\"bidfloor\":null", b""],
         [b"", b",\"bidfloor\":\"1\"", b""],
-        [b"", b",\"bidfloor\":0.30", b""],
+        [b"", b",\"bidfloor\":3e-1", b""],
         [b"", b",\"bidfloor\":-1", b""],
         [b"", b",\"bidfloor\":1000001", b""],
         [b"", b",\"banner\":null", b""],

@@ -1,4 +1,4 @@
-ghost use Rattle.std.specs.Prelude.{◌≡◌, ◌≢◌, ◌⊎◌, ◌↔◌, ◌≤◌, None, Some, map, length, IfOk, IsSome};
+ghost use Rattle.std.specs.Prelude.{◌≡◌, ◌≢◌, ◌⊎◌, ◌↔◌, ◌≤◌, None, Some, map, length, IfOk, IsSome, OnOk};
 ghost use Rattle.std.specs.Io.KnownBytes.{Appends};
 ghost use Rattle.rtb_base.specs.Faults.{Rose};
 ghost use Rattle.exchange_run.specs.Answer.{Answered, CutShort, HalfAnswered, IsReply, Replies, Sent, not_plain_reply, refusal_of, reply_to};
@@ -95,6 +95,17 @@ fn value_reply(
     }
 }
 
+// The refusal of bytes that are no JSON text.
+fn fault_reply(alloc: Global, fault: JsonFault) -> Result<Reply, AllocError>
+    ensures refused { IfOk result (λ r. r ≡ not_plain_reply) }
+    ensures fault { OnOk result (fault ≢ JsonFault.Memory) }
+{
+    if fault == JsonFault::Memory {
+        return Err(AllocError);
+    }
+    not_plain(alloc)
+}
+
 // The reply to the bytes.
 fn bytes_reply(
     alloc: Global,
@@ -109,8 +120,7 @@ fn bytes_reply(
     }
     match read(alloc, bytes) {
         Ok(doc) => value_reply(alloc, campaigns, doc.root()),
-        Err(JsonFault::Memory) => Err(AllocError),
-        Err(JsonFault::Syntax { .. }) => not_plain(alloc),
+        Err(fault) => fault_reply(alloc, fault),
     }
 }
 

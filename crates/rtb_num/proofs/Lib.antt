@@ -3,4 +3,7 @@ pub mod Moved
 pub mod Points
 pub mod Written
 pub mod Numbers
+pub mod Scaling
+pub mod Scaled
 pub mod Millionths
+pub mod Decimals

@@ -1,149 +1,159 @@
--- A number of millionths and what is finer, over plain numbers.
-use Rattle.std.proofs.Common.{List, ◌++◌, length, take, drop, min, true, false, not, Bool, ◌==◌, take-append-drop, length-append, inl, inr, ◌↔◌, ◌≡◌, ◌≢◌, ℕ, ◌+◌, ◌-◌, ◌*◌, ◌^◌, ◌<◌, ◌≤◌, ◌⊎◌, arith, sym, ◌∙◌, ap}
-use Rattle.std.specs.List.{list_all}
-use Rattle.std.proofs.Math.Nat.{mul-lt-mul_of_pos_right, mul-le-mul_left}
-use Rattle.std.proofs.lemmas.List.Folds.{list_all-append}
-use Rattle.std.proofs.lemmas.Bool.{and_parts, cases_lt, cases_order, cases_Bool, not-true, not-false}
-use Rattle.rtb_num.specs.Amounts.{number_of, is_digit}
-use Rattle.rtb_num.proofs.Numbers.{number_append, number_lt, number_pos, number_zeros, pow_ten_pos}
-use Rattle.std.proofs.lemmas.Nat.{same_from_place, pow-add}
+-- Numbers in whole units and something finer, over plain numbers.
+use Rattle.std.proofs.Common.{◌≡◌, ℕ, zero, suc, ◌+◌, ◌*◌, ◌/◌, ◌%◌, ◌^◌, ◌<◌, ◌≤◌, ◌==◌, ◌↔◌, Bool, true, false, not, arith, sym, ◌∙◌, ap, refl, inl, inr, ◌⊎◌, ℤ, pos, negsuc, ◌≤ℤ◌, subst}
+use Rattle.std.specs.Prelude.{IsTrue}
+use Rattle.std.proofs.lemmas.Int.{ints}
+use Rattle.std.specs.Int.{from_bool}
+use Rattle.std.proofs.lemmas.Bool.{cases_lt, and_parts}
+use Rattle.std.proofs.lemmas.Bool.Decides.{nat_tests}
+use Rattle.std.proofs.lemmas.Nat.{div-add-mod', mod_below, same_from_place}
+use Rattle.std.proofs.Math.Nat.{mul-le-mul_right, mul-lt-mul_of_pos_right, mul-pos, zero-mul}
+use Rattle.rtb_num.specs.Amounts.{number_of}
+use Rattle.rtb_num.specs.Numbers.{Number, IsWithinMillionths, IsMillionths, IsWhole, IsInteger, is_below_zero}
+use Rattle.rtb_num.specs.Parts.{units_of, is_finer, with_sign}
+use Rattle.rtb_num.proofs.Numbers.{pow_ten_pos}
 
--- above the limit
-pub above : (limit m p r : ℕ) → r < p → limit < m → limit * p < m * p + r
-above limit m p r h g = grind arith
+-- one more where something finer is left
+abbrev pub rounded : ℕ → Bool → ℕ
+rounded q z = q + from_bool z
 
--- not above it
-pub below : (limit m p r : ℕ) → r < p → m < limit → m * p + r ≤ limit * p
-below limit m p r h g = grind arith
+more : (r : ℕ) → true ≡ not (r == 0) → 0 < r
+more r e = grind (arith, nat_tests)
 
--- what is finer is in no whole number of parts
-pub not_whole : (k m p r : ℕ) → r < p → 0 < r → k * p ≢ m * p + r
-not_whole k m p r h g e = let same = (same_from_place k 0 m r p (omega arith) h (omega (arith, e))).1 in omega (arith, same)
+none : (r : ℕ) → false ≡ not (r == 0) → r ≡ 0
+none r e = grind (arith, nat_tests)
 
--- the parts of a number: w before the point, a of i digits and b of j digits behind it, s scales i digits to six
-pub parts_add : (w a b i j s : ℕ) → s * i ≡ 1000000 → ((w * i + a) * j + b) * 1000000 ≡ (w * 1000000 + a * s) * (i * j) + b * 1000000
-parts_add w a b i j s e = let scaled = ap (λ (k : ℕ). a * j * k) e in omega (arith, scaled)
+-- n is q units of p, and r of the next
+within_parts : (n p q r k : ℕ) (z : Bool) → n ≡ q * p + r → r < p → z ≡ not (r == 0) → (n ≤ k * p) ↔ (rounded q z ≤ k)
+within_parts n p q r k true e h f =
+    let some = more r f in (
+      λ g. elim (cases_lt q k) [ inl less ↦ omega arith | inr no_less ↦ absurd (omega (arith, mul-le-mul_right {m = k} {n = q} p no_less)) ],
+      λ g. omega (arith, mul-le-mul_right {m = q + 1} {n = k} p g),
+    )
+within_parts n p q r k false e h f =
+    let zero_is = none r f in (
+      λ g. elim (cases_lt k q) [ inl less ↦ absurd (omega (arith, mul-lt-mul_of_pos_right {m = k} {n = q} {k = p} less (omega arith))) | inr no_less ↦ omega arith ],
+      λ g. (let le : q ≤ k = omega arith in omega (arith, mul-le-mul_right {m = q} {n = k} p le)),
+    )
 
--- ten to the power of k times what is left of six places
-pub six_places : (k : ℕ) → k ≤ 6 → 10 ^ (6 - k) * 10 ^ k ≡ 1000000
-six_places k h = let e : 6 - k + k ≡ 6 = omega arith in sym (pow-add 10 (6 - k) k) ∙ ap (λ n. 10 ^ n) e
+exact_parts : (n p q r m : ℕ) (z : Bool) → n ≡ q * p + r → r < p → z ≡ not (r == 0) → (m * p ≡ n) ↔ ((m ≡ q) × (z ≡ false))
+exact_parts n p q r m true e h f =
+    let some = more r f in
+    (λ g. absurd (omega (arith, (same_from_place m 0 q r p (omega arith) h (omega arith)).1)), λ g. cc)
+exact_parts n p q r m false e h f =
+    let zero_is = none r f in
+    (λ g. ((same_from_place m 0 q r p (omega arith) h (omega arith)).0, refl), λ g. ap (λ k. k * p) g.0 ∙ omega arith)
 
--- the value of the digits w, and behind the point a and b
-pub value_parts : (w a b : List ℕ) → length a ≤ 6 → number_of (w ++ (a ++ b)) * 1000000 ≡ (number_of w * 1000000 + number_of a * 10 ^ (6 - length a)) * 10 ^ length (a ++ b) + number_of b * 1000000
-value_parts w a b h =
-    let p : 10 ^ length (a ++ b) ≡ 10 ^ length a * 10 ^ length b = ap (λ k. 10 ^ k) (length-append a b) ∙ pow-add 10 (length a) (length b) in
-    all_of _ _ _ _ _ _ _ _ _ p (number_append w (a ++ b)) (number_append a b) (six_places (length a) h)
+pub within_is : (n p k : ℕ) → 0 < p → (n ≤ k * p) ↔ (rounded (n / p) (not (n % p == 0)) ≤ k)
+within_is n p k h = within_parts n p (n / p) (n % p) k _ (sym (div-add-mod' n p)) (mod_below n p h) refl
+
+pub exactly_is : (n p m : ℕ) → 0 < p → (m * p ≡ n) ↔ ((m ≡ n / p) × (not (n % p == 0) ≡ false))
+exactly_is n p m h = exact_parts n p (n / p) (n % p) m _ (sym (div-add-mod' n p)) (mod_below n p h) refl
+
+clash : true ≡ false → ⊥
+clash e = cc
+
+-- ---- what was read of a number in units: u of them, and z where something finer is left
+
+pub floor_enough : (n : Number) (u m : ℕ) (z : Bool) → u ≡ units_of n 6 → z ≡ is_finer n 6 → m ≡ u + from_bool z → m ≤ 10 ^ 12 → IsWithinMillionths n m
+unfolding units_of is_finer
+floor_enough n u m z e f g h =
+    let rest = ap from_bool f in
+    (within_is (number_of n.digits * 10 ^ (n.up + 6)) (10 ^ n.down) m (pow_ten_pos n.down)).1 (omega (arith, e, g, rest))
+
+pub floor_least : (n : Number) (u m : ℕ) (z : Bool) → u ≡ units_of n 6 → z ≡ is_finer n 6 → m ≡ u + from_bool z → (k : ℕ) → IsWithinMillionths n k → m ≤ k
+unfolding units_of is_finer
+floor_least n u m z e f g k w =
+    let rest = ap from_bool f in
+    let least = (within_is (number_of n.digits * 10 ^ (n.up + 6)) (10 ^ n.down) k (pow_ten_pos n.down)).0 w in
+    omega (arith, e, g, rest, least)
+
+pub floor_large : (n : Number) (u m : ℕ) (z : Bool) → u ≡ units_of n 6 → z ≡ is_finer n 6 → m ≡ u + from_bool z → (10 ^ 12 < m) ↔ (IsWithinMillionths n (10 ^ 12) → ⊥)
+unfolding units_of is_finer
+floor_large n u m z e f g =
+    let rest = ap from_bool f in (
+      λ big w. omega (arith, big, floor_least n u m z e f g (10 ^ 12) w),
+      λ none. elim (cases_lt (10 ^ 12) m) [
+        | inl big ↦ big
+        | inr small ↦ absurd (none ((within_is (number_of n.digits * 10 ^ (n.up + 6)) (10 ^ n.down) (10 ^ 12) (pow_ten_pos n.down)).1 (omega (arith, e, g, rest, small))))
+      ],
+    )
+
+pub exact_value : (n : Number) (u m : ℕ) (z : Bool) → u ≡ units_of n 6 → z ≡ is_finer n 6 → (m ≡ u) × (m ≤ 10 ^ 12) × (z ≡ false) → IsMillionths n m
+unfolding units_of is_finer
+exact_value n u m z e f (same, small, whole) =
+    (exactly_is (number_of n.digits * 10 ^ (n.up + 6)) (10 ^ n.down) m (pow_ten_pos n.down)).1 (omega (arith, same, e, small), sym f ∙ whole)
+
+-- too large: more than the greatest, or the greatest and something finer
+large_is : (u : ℕ) (z : Bool) → (10 ^ 12 < u + from_bool z) ↔ ((10 ^ 12 < u) ⊎ ((u ≡ 10 ^ 12) × (z ≡ true)))
+large_is u true = (λ h. elim (cases_lt (10 ^ 12) u) [ inl more ↦ inl more | inr less ↦ inr (omega arith, refl) ], λ h. elim h [ inl more ↦ omega arith | inr (same, some) ↦ omega arith ])
+large_is u false = (λ h. inl (omega arith), λ h. elim h [ inl more ↦ omega arith | inr (same, some) ↦ cc ])
+
+pub exact_large : (n : Number) (u : ℕ) (z : Bool) → u ≡ units_of n 6 → z ≡ is_finer n 6 → ((10 ^ 12 < u) ⊎ ((u ≡ 10 ^ 12) × (z ≡ true))) ↔ (IsWithinMillionths n (10 ^ 12) → ⊥)
+exact_large n u z e f =
+    let large = floor_large n u (u + from_bool z) z e f refl in
+    let is = large_is u z in
+    (λ h. large.0 (is.1 h), λ h. is.0 (large.1 h))
+
+pub exact_fine : (n : Number) (u : ℕ) (z : Bool) → u ≡ units_of n 6 → z ≡ is_finer n 6 → ((u < 10 ^ 12) × (z ≡ true)) ↔ (IsWithinMillionths n (10 ^ 12) × ((m : ℕ) → IsMillionths n m → ⊥))
+unfolding units_of is_finer
+exact_fine n u true e f =
+    let within = within_is (number_of n.digits * 10 ^ (n.up + 6)) (10 ^ n.down) (10 ^ 12) (pow_ten_pos n.down) in
+    let rest = ap from_bool f in (
+      λ (less, some). (within.1 (omega (arith, e, less, rest)), λ m w. clash (f ∙ ((exactly_is (number_of n.digits * 10 ^ (n.up + 6)) (10 ^ n.down) m (pow_ten_pos n.down)).0 w).1)),
+      λ (w, never). (omega (arith, e, within.0 w, rest), refl),
+    )
+exact_fine n u false e f =
+    let q = number_of n.digits * 10 ^ (n.up + 6) / 10 ^ n.down in (
+      λ (less, some). absurd (clash (sym some)),
+      λ (w, never). absurd (never q ((exactly_is (number_of n.digits * 10 ^ (n.up + 6)) (10 ^ n.down) q (pow_ten_pos n.down)).1 (refl, sym f))),
+    )
+
+-- ---- whole numbers
+
+-- a number of whole units is the whole part, and nothing finer is left
+whole_exactly : (n : Number) (m : ℕ) → IsWhole n m ↔ ((m ≡ number_of n.digits * 10 ^ (n.up + 0) / 10 ^ n.down) × (is_finer n 0 ≡ false))
+unfolding is_finer
+whole_exactly n m =
+    let is = exactly_is (number_of n.digits * 10 ^ (n.up + 0)) (10 ^ n.down) m (pow_ten_pos n.down) in
+    let plain : number_of n.digits * 10 ^ (n.up + 0) ≡ number_of n.digits * 10 ^ n.up = ap (λ k. number_of n.digits * 10 ^ k) (omega arith) in
+    (λ w. is.0 (w ∙ sym plain), λ h. is.1 h ∙ plain)
+
+pub whole_is : (n : Number) (z : Bool) → z ≡ is_finer n 0 → IsTrue (not z) ↔ ((m : ℕ) × IsWhole n m)
+whole_is n true f = (λ h. absurd (clash (sym h)), λ (m, w). absurd (clash (f ∙ ((whole_exactly n m).0 w).1)))
+whole_is n false f = (λ h. (number_of n.digits * 10 ^ (n.up + 0) / 10 ^ n.down, (whole_exactly n _).1 (refl, sym f)), λ h. refl)
+
+pub no_integer : (n : Number) (z : Bool) → z ≡ is_finer n 0 → z ≡ true → (k : ℤ) → IsInteger n k → ⊥
+no_integer n z f some (pos m) (sign, w) = clash (sym some ∙ f ∙ ((whole_exactly n m).0 w).1)
+no_integer n z f some (negsuc m) (sign, w) = clash (sym some ∙ f ∙ ((whole_exactly n (m + 1)).0 w).1)
+
+-- what is below 0 is not 0
+below_pos : (n : Number) → is_below_zero n ≡ true → IsWhole n 0 → ⊥
+below_pos n b w =
+    let some = positive (number_of n.digits) (and_parts n.minus (not (number_of n.digits == 0)) b).1 in
+    omega (arith, mul-pos some (pow_ten_pos n.up), sym w ∙ zero-mul (10 ^ n.down))
   where
-    all_of : (n w m a b s i j p : ℕ) → p ≡ i * j → n ≡ w * p + m → m ≡ a * j + b → s * i ≡ 1000000 → n * 1000000 ≡ (w * 1000000 + a * s) * p + b * 1000000
-    all_of n w m a b s i j p e f g h = rw (f, g, e) (omega (arith, parts_add w a b i j s h))
+    positive : (k : ℕ) → not (k == 0) ≡ true → 0 < k
+    positive k e = grind (arith, nat_tests)
 
--- what stands behind six digits is less than a millionth
-pub finer_lt : (a b : List ℕ) → list_all is_digit b ≡ true → (length b ≡ 0) ⊎ (length a ≡ 6) → number_of b * 1000000 < 10 ^ length (a ++ b)
-finer_lt a b digits (inl none) =
-    let one : 10 ^ length b ≡ 1 = ap (λ k. 10 ^ k) none in
-    omega (arith, one, number_lt b digits, pow_ten_pos (length (a ++ b)))
-finer_lt a b digits (inr full) =
-    let million : 10 ^ length a ≡ 1000000 = ap (λ k. 10 ^ k) full in
-    let p : 10 ^ length (a ++ b) ≡ 1000000 * 10 ^ length b = ap (λ k. 10 ^ k) (length-append a b) ∙ pow-add 10 (length a) (length b) ∙ ap (λ k. k * 10 ^ length b) million in
-    omega (arith, p, number_lt b digits)
+with_sign_is : (n : Number) (u : ℕ) (b : Bool) → IsWhole n u → b ≡ is_below_zero n → IsInteger n (with_sign b u)
+with_sign_is n u false w e = (sym e, w)
+with_sign_is n zero true w e = absurd (below_pos n (sym e) w)
+with_sign_is n (suc m) true w e = let next : m + 1 ≡ suc m = omega arith in (sym e, ap (λ k. k * 10 ^ n.down) next ∙ w)
 
--- what the clauses of `exact_micros` ask, where n stands for the value in millionths times p
-pub exact_is : (w x p r n m : ℕ) → n ≡ (w * 1000000 + x) * p + r → m ≡ min w 1000001 * 1000000 + x → m ≤ 1000000000000 → r ≡ 0 → m * p ≡ n
-exact_is w x p r n m e f h z = let same : m ≡ w * 1000000 + x = omega arith in ap (λ k. k * p) same ∙ omega (arith, e, z)
+pub integer_is : (n : Number) (u : ℕ) (b z : Bool) (k : ℤ) → u ≡ units_of n 0 → z ≡ is_finer n 0 → z ≡ false → b ≡ is_below_zero n → (k ≡ with_sign b u) × (u ≤ 2147483648) → IsInteger n k
+unfolding units_of
+integer_is n u b z k e f none sign (is, few) =
+    let w : IsWhole n u = (whole_exactly n u).1 (omega (arith, e, few), sym f ∙ none) in
+    subst (IsInteger n) (sym is) (with_sign_is n u b w sign)
 
-large_forth : (w x p r n m : ℕ) → n ≡ (w * 1000000 + x) * p + r → m ≡ min w 1000001 * 1000000 + x → r < p → x < 1000000 → (1000000000000 < m) ⊎ ((m ≡ 1000000000000) × (0 < r)) → 1000000000000 * p < n
-large_forth w x p r n m e f h g (inl big) =
-    let more : 1000000000000 < w * 1000000 + x = omega arith in
-    omega (arith, e, above 1000000000000 (w * 1000000 + x) p r h more)
-large_forth w x p r n m e f h g (inr (same, some)) =
-    let full : w * 1000000 + x ≡ 1000000000000 = omega arith in
-    omega (arith, e, ap (λ k. k * p) full)
-
-large_back : (w x p r n m : ℕ) → n ≡ (w * 1000000 + x) * p + r → m ≡ min w 1000001 * 1000000 + x → r < p → x < 1000000 → 1000000000000 * p < n → (m ≡ 1000000000000) ⊎ ((m < 1000000000000) ⊎ (1000000000000 < m)) → (1000000000000 < m) ⊎ ((m ≡ 1000000000000) × (0 < r))
-large_back w x p r n m e f h g big (inl same) =
-    let full : w * 1000000 + x ≡ 1000000000000 = omega arith in
-    inr (same, omega (arith, e, ap (λ k. k * p) full))
-large_back w x p r n m e f h g big (inr (inl less)) =
-    let few : w * 1000000 + x < 1000000000000 = omega arith in
-    absurd (omega (arith, e, below 1000000000000 (w * 1000000 + x) p r h few))
-large_back w x p r n m e f h g big (inr (inr more)) = inl more
-
-pub large_is : (w x p r n m : ℕ) → n ≡ (w * 1000000 + x) * p + r → m ≡ min w 1000001 * 1000000 + x → r < p → x < 1000000 → ((1000000000000 < m) ⊎ ((m ≡ 1000000000000) × (0 < r))) ↔ (1000000000000 * p < n)
-large_is w x p r n m e f h g = (large_forth w x p r n m e f h g, λ big. large_back w x p r n m e f h g big (cases_order m 1000000000000))
-
-pub fine_is : (w x p r n : ℕ) → n ≡ (w * 1000000 + x) * p + r → r < p → 0 < r → (k : ℕ) → k * p ≢ n
-fine_is w x p r n e h g k same = not_whole k (w * 1000000 + x) p r h g (same ∙ e)
-
--- digits behind the point, in millionths
-pub scaled_lt : (a : List ℕ) → list_all is_digit a ≡ true → length a ≤ 6 → number_of a * 10 ^ (6 - length a) < 1000000
-scaled_lt a digits few =
-    let step : number_of a * 10 ^ (6 - length a) < 10 ^ length a * 10 ^ (6 - length a) = mul-lt-mul_of_pos_right (number_lt a digits) (pow_ten_pos (6 - length a)) in
-    omega (arith, step, six_places (length a) few)
-
-pub few_lt : (a : List ℕ) → list_all is_digit a ≡ true → length a ≤ 6 → number_of a < 1000000
-few_lt a digits few =
-    let step : number_of a * 1 ≤ number_of a * 10 ^ (6 - length a) = mul-le-mul_left (number_of a) (pow_ten_pos (6 - length a)) in
-    omega (arith, step, scaled_lt a digits few)
-
--- A text's digits w before the point and f behind it, read as a and b, with what is known of the
--- numbers made of them: x of a, `micros` of both, and whether b is zeros.
-pub record Read (w f a b : List ℕ) (x micros : ℕ) (z : Bool) : Type 0 where
-  pub joined : f ≡ a ++ b
-  pub few : length a ≤ 6
-  pub full : (length b ≡ 0) ⊎ (length a ≡ 6)
-  pub digits : list_all is_digit f ≡ true
-  pub behind : x ≡ number_of a * 10 ^ (6 - length a)
-  pub small : x < 1000000
-  pub worth : micros ≡ min (number_of w) 1000001 * 1000000 + x
-  pub zeros : z ≡ list_all (λ c. c == 48) b
-
-pub first_digits : (f a b : List ℕ) → f ≡ a ++ b → list_all is_digit f ≡ true → list_all is_digit a ≡ true
-first_digits f a b joined digits = (and_parts (list_all is_digit a) (list_all is_digit b) (sym (list_all-append is_digit a b) ∙ ap (list_all is_digit) (sym joined) ∙ digits)).0
-
--- a list parted at a place
-pub joined_at : (f a b : List ℕ) (k : ℕ) → a ≡ take k f → b ≡ drop k f → f ≡ a ++ b
-joined_at f a b k front back = sym (ap (λ s. s ++ b) front ∙ ap (λ s. take k f ++ s) back ∙ take-append-drop k f)
-
-pub parted_full : (n a b k : ℕ) → k ≡ min n 6 → a ≡ k → b + k ≡ n → (b ≡ 0) ⊎ (a ≡ 6)
-parted_full n a b k e f g = elim (cases_lt n 6) [ inl less ↦ inl (omega arith) | inr more ↦ inr (omega arith) ]
-
-last_digits : (w f a b : List ℕ) (x micros : ℕ) (z : Bool) → Read w f a b x micros z → list_all is_digit b ≡ true
-last_digits w f a b x micros z r = (and_parts (list_all is_digit a) (list_all is_digit b) (sym (list_all-append is_digit a b) ∙ ap (list_all is_digit) (sym r.joined) ∙ r.digits)).1
-
-value : (w f a b : List ℕ) (x micros : ℕ) (z : Bool) → Read w f a b x micros z → number_of (w ++ f) * 1000000 ≡ (number_of w * 1000000 + x) * 10 ^ length f + number_of b * 1000000
-value w f a b x micros z r =
-    ap (λ s. number_of (w ++ s) * 1000000) r.joined
-    ∙ value_parts w a b r.few
-    ∙ ap (λ k. (number_of w * 1000000 + k) * 10 ^ length (a ++ b) + number_of b * 1000000) (sym r.behind)
-    ∙ ap (λ (s : List ℕ). (number_of w * 1000000 + x) * 10 ^ length s + number_of b * 1000000) (sym r.joined)
-
-left : (w f a b : List ℕ) (x micros : ℕ) (z : Bool) → Read w f a b x micros z → number_of b * 1000000 < 10 ^ length f
-left w f a b x micros z r =
-    let same : 10 ^ length f ≡ 10 ^ length (a ++ b) = ap (λ (s : List ℕ). 10 ^ length s) r.joined in
-    omega (arith, same, finer_lt a b (last_digits w f a b x micros z r) r.full)
-
-pub read_exact : (w f a b : List ℕ) (x micros : ℕ) (z : Bool) → Read w f a b x micros z → (m : ℕ) → (m ≡ micros) × (m ≤ 10 ^ 12) × (not z ≡ false) → m * 10 ^ length f ≡ number_of (w ++ f) * 10 ^ 6
-read_exact w f a b x micros z r m (same, le, zeros) =
-    exact_is (number_of w) x (10 ^ length f) (number_of b * 1000000) _ m (value w f a b x micros z r) (same ∙ r.worth) le (ap (λ k. k * 1000000) (number_zeros b (sym r.zeros ∙ not-false z zeros)))
-
-some_left : (w f a b : List ℕ) (x micros : ℕ) (z : Bool) → Read w f a b x micros z → not z ≡ true → 0 < number_of b * 1000000
-some_left w f a b x micros z r h = let some = number_pos b (last_digits w f a b x micros z r) (sym r.zeros ∙ not-true z h) in omega (arith, some)
-
-none_left : (w f a b : List ℕ) (x micros : ℕ) (z : Bool) → Read w f a b x micros z → 0 < number_of b * 1000000 → not z ≡ true
-none_left w f a b x micros z r h =
-    elim (cases_Bool z) [
-      | inl all ↦ (let none = number_zeros b (sym r.zeros ∙ all) in absurd (omega (arith, h, none)))
-      | inr other ↦ ap not other
-    ]
-
-plain : (w f a b : List ℕ) (x micros : ℕ) (z : Bool) → Read w f a b x micros z → ((1000000000000 < micros) ⊎ ((micros ≡ 1000000000000) × (0 < number_of b * 1000000))) ↔ (1000000000000 * 10 ^ length f < number_of (w ++ f) * 1000000)
-plain w f a b x micros z r = large_is (number_of w) x (10 ^ length f) (number_of b * 1000000) _ micros (value w f a b x micros z r) r.worth (left w f a b x micros z r) r.small
-
-pub read_large : (w f a b : List ℕ) (x micros : ℕ) (z : Bool) → Read w f a b x micros z → ((10 ^ 12 < micros) ⊎ ((micros ≡ 10 ^ 12) × (not z ≡ true))) ↔ (10 ^ 12 * 10 ^ length f < number_of (w ++ f) * 10 ^ 6)
-read_large w f a b x micros z r = (
-  λ either. (plain w f a b x micros z r).0 (elim either [ inl big ↦ inl big | inr (same, more) ↦ inr (same, some_left w f a b x micros z r more) ]),
-  λ big. elim ((plain w f a b x micros z r).1 big) [ inl above ↦ inl above | inr (same, more) ↦ inr (same, none_left w f a b x micros z r more) ],
-)
-
-pub read_fine : (w f a b : List ℕ) (x micros : ℕ) (z : Bool) → Read w f a b x micros z → not z ≡ true → (m : ℕ) → m * 10 ^ length f ≢ number_of (w ++ f) * 10 ^ 6
-read_fine w f a b x micros z r h m = fine_is (number_of w) x (10 ^ length f) (number_of b * 1000000) _ (value w f a b x micros z r) (left w f a b x micros z r) (some_left w f a b x micros z r h) m
+pub out_of_range : (n : Number) (u : ℕ) (b : Bool) → u ≡ units_of n 0 → b ≡ is_below_zero n → (b ≡ false → 2147483647 < u) → (b ≡ true → 2147483648 < u)
+    → (k : ℤ) → negsuc 2147483647 ≤ℤ k → k ≤ℤ pos 2147483647 → IsInteger n k → ⊥
+unfolding units_of
+out_of_range n u b e sign above below (pos m) low high (plus, w) =
+    let more = above (sign ∙ plus) in
+    let same = ((whole_exactly n m).0 w).0 in
+    omega (arith, ints, e, more, same, high)
+out_of_range n u b e sign above below (negsuc m) low high (minus, w) =
+    let more = below (sign ∙ minus) in
+    let same = ((whole_exactly n (m + 1)).0 w).0 in
+    omega (arith, ints, e, more, same, low)

@@ -70,3 +70,6 @@ number_push xs i h =
     let d = get_or xs i 0 in
     let last : number_of (d ∷ []) ≡ (d - 48) * 1 + 0 = number_cons d [] ∙ ap (λ k. (d - 48) * 1 + k) number_none in
     ap number_of (take_more xs i 0 h) ∙ number_append (take i xs) (d ∷ []) ∙ omega (arith, last)
+
+pub pow_ten_more : (k : ℕ) → 10 ^ (k + 1) ≡ 10 ^ k * 10
+pow_ten_more k = let one : 10 ^ 1 ≡ 10 = refl in pow-add 10 k 1 ∙ ap (λ p. 10 ^ k * p) one

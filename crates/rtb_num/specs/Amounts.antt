@@ -31,14 +31,6 @@ digits_of text = before_first is_point text ++ after_first is_point text
 abbrev pub places_of : List ℕ → ℕ
 places_of text = length (after_first is_point text)
 
--- The value of a decimal text is `number_of (digits_of text)` divided by ten to the power of
--- `places_of text`. So its value in millionths is `millionths_of text / parts_of text`.
-abbrev pub millionths_of : List ℕ → ℕ
-millionths_of text = number_of (digits_of text) * 10 ^ 6
-
-abbrev pub parts_of : List ℕ → ℕ
-parts_of text = 10 ^ places_of text
-
 -- the digits of r / 10 ^ k behind the point, up to the last that is not 0
 unfoldable pub fraction_digits : ℕ → ℕ → List ℕ
 fraction_digits zero r = []

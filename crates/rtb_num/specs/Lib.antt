@@ -1,2 +1,5 @@
 pub mod Amounts
 pub mod Bytes
+pub mod Fields
+pub mod Numbers
+pub mod Parts

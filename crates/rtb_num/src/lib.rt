@@ -2,12 +2,18 @@
 //! and go to.
 //!
 //! Contracts see a `Txt` and a `List` as the list of what is in it, and `Micros` and `Nanos` as
-//! numbers. `specs/Amounts.antt` says what a decimal text is worth and how an amount is written.
+//! numbers. `specs/Numbers.antt` says what a number of RFC 8259 is and what it is worth,
+//! `specs/Amounts.antt` how an amount is written, and `specs/Fields.antt` what a field of bytes holds.
 #![tactic(auto)]
 
+mod fields;
 mod lists;
 mod memory;
 mod money;
+mod number_form;
+mod number_parts;
+#[cfg(test)]
+mod number_tests;
 mod read_amounts;
 mod real;
 mod streams;
@@ -16,10 +22,12 @@ mod tests;
 mod text;
 mod write_amounts;
 
+pub use fields::{fields_are_read_again, get_u32, get_u64, put_u32, put_u64};
 pub use lists::List;
 pub use memory::{MemSink, MemSource};
 pub use money::{Micros, Nanos};
-pub use read_amounts::{PriceFault, exact_micros, is_decimal};
+pub use number_form::{is_decimal, is_number};
+pub use read_amounts::{PriceFault, exact_micros, floor_micros, is_whole, whole};
 pub use real::{StdSink, StdSource};
 pub use streams::{Failed, Sink, Source};
 pub use text::Txt;

@@ -89,4 +89,12 @@ impl<T: Drop> List<T> {
     {
         self.items.truncate(n);
     }
+
+    /// Makes room for so many items more.
+    pub fn reserve(&mut self, more: usize) -> Result<(), AllocError>
+        ensures { self.new ≡ self.old }
+    {
+        self.items.reserve(more)?;
+        Ok(())
+    }
 }

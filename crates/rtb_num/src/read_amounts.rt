@@ -1,8 +1,10 @@
-ghost use Rattle.std.specs.Prelude.{◌≡◌, ◌≢◌, ℕ, ◌+◌, ◌-◌, ◌*◌, ◌^◌, ◌<◌, ◌≤◌, ◌↔◌, ◌⊎◌, ◌==◌, ◌&&◌, not, IfOk, IsErrOf, IsTrue, length, min, position, true, false};
-ghost use Rattle.std.specs.List.{before_first, after_first, list_all};
-ghost use Rattle.rtb_num.specs.Amounts.{is_decimal as is_decimal_text, is_whole_part as is_whole_text, is_digit as is_digit_code, is_point, number_of, millionths_of, parts_of};
+ghost use Rattle.std.specs.Prelude.{◌≡◌, ◌≢◌, ℕ, ℤ, pos, negsuc, ◌+◌, ◌-◌, ◌*◌, ◌^◌, ◌<◌, ◌≤◌, ◌≤ℤ◌, ◌↔◌, ◌⊎◌, IfOk, IfSome, IsErrOf, IsTrue, true, false, None};
+ghost use Rattle.std.specs.Int.{from_bool};
+ghost use Rattle.rtb_num.specs.Numbers.{is_number, number_in, is_below_zero, IsWithinMillionths, IsMillionths, IsWhole, IsInteger};
+ghost use Rattle.rtb_num.specs.Parts.{with_sign};
 
 use crate::money::Micros;
+use crate::number_parts::scale;
 use thiserror::Error;
 
 /// Why a number is no amount. Where several apply, the first in this order is answered.
@@ -19,118 +21,104 @@ pub enum PriceFault {
 // How many digits behind the point a whole number of millionths has.
 const PLACES: usize = 6;
 
-// Dollars above the greatest amount: any number above it is taken for this one.
-const TOO_MANY: u64 = 1_000_001;
-
 // The greatest amount in micro-dollars.
 const GREATEST: u64 = 1_000_000_000_000;
 
-/// Whether the text is a number of RFC 8259, section 6, without sign and without exponent.
-pub fn is_decimal(text: &[u8]) -> bool
-    ensures { result ≡ is_decimal_text text.now }
+/// The least whole number of millionths that is not below the value of the number: US dollars become
+/// micro-dollars, rounded up. It is never `TooFine`.
+pub fn floor_micros(text: &[u8]) -> Result<Micros, PriceFault>
+    requires { IsTrue (is_number text.now) }
+    ensures enough { IfOk result (λ m. IsWithinMillionths (number_in text.now) m) }
+    ensures least { IfOk result (λ m. (k : ℕ) → IsWithinMillionths (number_in text.now) k → m ≤ k) }
+    ensures negative { IsErrOf result PriceFault.Negative ↔ IsTrue (is_below_zero (number_in text.now)) }
+    ensures large { IsErrOf result PriceFault.TooLarge ↔ ((is_below_zero (number_in text.now) ≡ false) × ¬ IsWithinMillionths (number_in text.now) (10 ^ 12)) }
+    ensures never { result ≢ Err PriceFault.TooFine }
 {
-    match point_of(text) {
-        None => is_whole_part(text),
-        Some(at) => is_whole_part(&text[..at]) && is_fraction(&text[at + 1..]),
+    let number = scale(text, PLACES);
+    if number.below_zero {
+        return Err(PriceFault::Negative);
     }
+    rounded_up(number.units, number.finer)
 }
 
-// Where the point stands.
-fn point_of(text: &[u8]) -> Option<usize>
-    ensures { result ≡ position is_point text.now }
-{
-    text.iter().position(|c| *c == b'.')
-}
-
-fn are_digits(text: &[u8]) -> bool
-    ensures { result ≡ list_all is_digit_code text.now }
-{
-    text.iter().all(|c| c.is_ascii_digit())
-}
-
-fn is_whole_part(text: &[u8]) -> bool
-    ensures { result ≡ is_whole_text text.now }
-{
-    match text {
-        [] => false,
-        [first, rest @ ..] => are_digits(text) && (*first != b'0' || rest.is_empty()),
-    }
-}
-
-fn is_fraction(text: &[u8]) -> bool
-    ensures { result ≡ (list_all is_digit_code text.now && not (length text.now == 0)) }
-{
-    are_digits(text) && !text.is_empty()
-}
-
-/// The value of the text in millionths, exactly: US dollars become micro-dollars.
-///
-/// It is never `Negative`, since the text has no sign.
+/// The value of the number in millionths, exactly: US dollars become micro-dollars.
 pub fn exact_micros(text: &[u8]) -> Result<Micros, PriceFault>
-    requires { IsTrue (is_decimal_text text.now) }
-    ensures exact { IfOk result (λ m. m * parts_of text.now ≡ millionths_of text.now) }
-    ensures large { IsErrOf result PriceFault.TooLarge ↔ (10 ^ 12 * parts_of text.now < millionths_of text.now) }
-    ensures fine { IsErrOf result PriceFault.TooFine → (m : ℕ) → m * parts_of text.now ≢ millionths_of text.now }
+    requires { IsTrue (is_number text.now) }
+    ensures exact { IfOk result (λ m. IsMillionths (number_in text.now) m) }
+    ensures negative { IsErrOf result PriceFault.Negative ↔ IsTrue (is_below_zero (number_in text.now)) }
+    ensures large { IsErrOf result PriceFault.TooLarge ↔ ((is_below_zero (number_in text.now) ≡ false) × ¬ IsWithinMillionths (number_in text.now) (10 ^ 12)) }
+    ensures fine { IsErrOf result PriceFault.TooFine ↔ ((is_below_zero (number_in text.now) ≡ false) × IsWithinMillionths (number_in text.now) (10 ^ 12) × ((m : ℕ) → ¬ IsMillionths (number_in text.now) m)) }
+{
+    let number = scale(text, PLACES);
+    if number.below_zero {
+        return Err(PriceFault::Negative);
+    }
+    amount(number.units, number.finer)
+}
+
+/// The value of the number, or none where it is not whole or is no `i32`.
+pub fn whole(text: &[u8]) -> Option<i32>
+    requires { IsTrue (is_number text.now) }
+    ensures value { IfSome result (λ z. IsInteger (number_in text.now) z) }
+    ensures none { result ≡ None → (z : ℤ) → negsuc 2147483647 ≤ℤ z → z ≤ℤ pos 2147483647 → ¬ IsInteger (number_in text.now) z }
+{
+    let number = scale(text, 0);
+    if number.finer {
+        return None;
+    }
+    signed(number.units, number.below_zero)
+}
+
+/// Whether the value of the number is whole, whatever its size.
+pub fn is_whole(text: &[u8]) -> bool
+    requires { IsTrue (is_number text.now) }
+    ensures { IsTrue result ↔ ((m : ℕ) × IsWhole (number_in text.now) m) }
+{
+    !scale(text, 0).finer
+}
+
+// The amount of so many units, and one more where there is finer.
+fn rounded_up(units: u64, finer: bool) -> Result<Micros, PriceFault>
+    requires { units ≤ 1000000000001 }
+    ensures value { IfOk result (λ m. (m ≡ units + from_bool finer) × (m ≤ 10 ^ 12)) }
+    ensures large { IsErrOf result PriceFault.TooLarge ↔ (10 ^ 12 < units + from_bool finer) }
     ensures never { result ≢ Err PriceFault.Negative }
+    ensures never_fine { result ≢ Err PriceFault.TooFine }
 {
-    let (whole, fraction) = split_at_point(text);
-    let (first, finer) = fraction.split_at(fraction.len().min(PLACES));
-    let micros = capped(whole) * 1_000_000 + millionths(first);
-    amount(micros, !are_zeros(finer))
+    Micros::new(units + u64::from(finer)).ok_or(PriceFault::TooLarge)
 }
 
-// The digits before the point and those behind it.
-fn split_at_point(text: &[u8]) -> (&[u8], &[u8])
-    ensures whole { result.0.now ≡ before_first is_point text.now }
-    ensures fraction { result.1.now ≡ after_first is_point text.now }
-{
-    match point_of(text) {
-        None => text.split_at(text.len()),
-        Some(at) => (&text[..at], &text[at + 1..]),
-    }
-}
-
-// What the digits spell, or `TOO_MANY` where that is less.
-fn capped(digits: &[u8]) -> u64
-    requires { IsTrue (list_all is_digit_code digits.now) }
-    ensures { result ≡ min (number_of digits.now) 1000001 }
-{
-    let mut number: u64 = 0;
-    for c in digits {
-        number = (number * 10 + u64::from(*c - b'0')).min(TOO_MANY);
-    }
-    number
-}
-
-// What the digits behind the point are worth in millionths.
-fn millionths(digits: &[u8]) -> u64
-    requires few { length digits.now ≤ 6 }
-    requires digits { IsTrue (list_all is_digit_code digits.now) }
-    ensures value { result ≡ number_of digits.now * 10 ^ (6 - length digits.now) }
-    ensures bound { result < 10 ^ 6 }
-{
-    capped(digits) * 10u64.pow((PLACES - digits.len()) as u32)
-}
-
-fn are_zeros(digits: &[u8]) -> bool
-    ensures { result ≡ list_all (λ c. c == 48) digits.now }
-{
-    digits.iter().all(|c| *c == b'0')
-}
-
-// The amount of these millionths, and of something less than one more where there is finer.
-fn amount(micros: u64, finer: bool) -> Result<Micros, PriceFault>
-    ensures exact { IfOk result (λ m. (m ≡ micros) × (m ≤ 10 ^ 12) × (finer ≡ false)) }
-    ensures large { IsErrOf result PriceFault.TooLarge ↔ ((10 ^ 12 < micros) ⊎ ((micros ≡ 10 ^ 12) × (finer ≡ true))) }
-    ensures fine { IsErrOf result PriceFault.TooFine → finer ≡ true }
+// The amount of so many units, and of something less than one more where there is finer.
+fn amount(units: u64, finer: bool) -> Result<Micros, PriceFault>
+    ensures exact { IfOk result (λ m. (m ≡ units) × (m ≤ 10 ^ 12) × (finer ≡ false)) }
+    ensures large { IsErrOf result PriceFault.TooLarge ↔ ((10 ^ 12 < units) ⊎ ((units ≡ 10 ^ 12) × (finer ≡ true))) }
+    ensures fine { IsErrOf result PriceFault.TooFine ↔ ((units < 10 ^ 12) × (finer ≡ true)) }
     ensures never { result ≢ Err PriceFault.Negative }
 {
     if finer {
-        return Err(if micros >= GREATEST {
+        return Err(if units >= GREATEST {
             PriceFault::TooLarge
         } else {
             PriceFault::TooFine
         });
     }
-    Micros::new(micros).ok_or(PriceFault::TooLarge)
+    Micros::new(units).ok_or(PriceFault::TooLarge)
+}
+
+// The number with its sign.
+fn signed(size: u64, below_zero: bool) -> Option<i32>
+    ensures value { IfSome result (λ z. (z ≡ with_sign below_zero size) × (size ≤ 2147483648)) }
+    ensures none { result ≡ None → below_zero ≡ false → 2147483647 < size }
+    ensures none_below { result ≡ None → below_zero ≡ true → 2147483648 < size }
+{
+    if below_zero {
+        if size > 1 << 31 {
+            return None;
+        }
+        return Some((-(size as i64)) as i32);
+    }
+    if size >= 1 << 31 {
+        return None;
+    }
+    Some(size as i32)
 }

@@ -1,80 +1,13 @@
 //! What the crate's calls answer on examples from outside.
 use crate::{
-    Failed, List, MemSink, MemSource, Micros, Nanos, PriceFault, Sink, Source, StdSink, StdSource,
-    Txt, exact_micros, is_decimal, write_micros, write_nanos,
+    Failed, List, MemSink, MemSource, Micros, Nanos, Sink, Source, StdSink, StdSource, Txt,
+    get_u32, get_u64, put_u32, put_u64, write_micros, write_nanos,
 };
 use std::alloc::Global;
 use std::test::Fail;
 
 fn text(alloc: Global, bytes: &[u8]) -> Result<Txt, Fail> {
     Ok(Txt::from_vec(bytes.to_vec(alloc)?))
-}
-
-// These bytes, then so many zeros.
-fn long(alloc: Global, front: &[u8], zeros: usize) -> Result<Txt, Fail> {
-    let mut all = text(alloc, front)?;
-    all.extend(vec![in alloc; b'0'; zeros]?.as_slice())?;
-    Ok(all)
-}
-
-#[test]
-fn numbers_without_sign_and_exponent_are_decimal(rt: HostRuntime) {
-    let cases = [
-        (b"0".as_slice(), true),
-        (b"0.30".as_slice(), true),
-        (b"10.05".as_slice(), true),
-        (b"".as_slice(), false),
-        (b".".as_slice(), false),
-        (b".5".as_slice(), false),
-        (b"1.".as_slice(), false),
-        (b"00".as_slice(), false),
-        (b"01".as_slice(), false),
-        (b"+1".as_slice(), false),
-        (b"-1".as_slice(), false),
-        (b"1e3".as_slice(), false),
-        (b"1.2.3".as_slice(), false),
-        (b" 1".as_slice(), false),
-    ];
-    for (number, want) in cases {
-        assert_eq!(rt; is_decimal(number), want, "at {number:?}");
-    }
-}
-
-#[test]
-fn dollars_are_read_in_millionths(rt: HostRuntime) -> Result<(), Fail> {
-    let alloc = rt.alloc();
-    let zeros_behind = long(alloc, b"1.", 10_000)?;
-    let many_digits = long(alloc, b"1", 9_999)?;
-    let cases = [
-        (b"0".as_slice(), Ok(0)),
-        (b"2.50".as_slice(), Ok(2_500_000)),
-        (b"1.00".as_slice(), Ok(1_000_000)),
-        (b"0.000001".as_slice(), Ok(1)),
-        (b"0.0000010".as_slice(), Ok(1)),
-        (b"0.0000001".as_slice(), Err(PriceFault::TooFine)),
-        (b"1.2345678".as_slice(), Err(PriceFault::TooFine)),
-        (b"999999.999999".as_slice(), Ok(999_999_999_999)),
-        (b"999999.9999999".as_slice(), Err(PriceFault::TooFine)),
-        (b"1000000".as_slice(), Ok(1_000_000_000_000)),
-        (b"1000000.0".as_slice(), Ok(1_000_000_000_000)),
-        (b"1000000.000001".as_slice(), Err(PriceFault::TooLarge)),
-        (b"1000000.0000001".as_slice(), Err(PriceFault::TooLarge)),
-        (
-            b"18446744073709551616".as_slice(),
-            Err(PriceFault::TooLarge),
-        ),
-        (zeros_behind.as_bytes(), Ok(1_000_000)),
-        (many_digits.as_bytes(), Err(PriceFault::TooLarge)),
-    ];
-    for (number, want) in cases {
-        assert!(rt; is_decimal(number), "at {number:?}");
-        assert_eq!(rt;
-            exact_micros(number).map(|m| m.get()),
-            want,
-            "at {number:?}"
-        );
-    }
-    Ok(())
 }
 
 #[test]
@@ -126,6 +59,7 @@ fn texts_and_lists_hold_what_was_put_in(rt: HostRuntime) -> Result<(), Fail> {
     }
     let mut word = Txt::new(alloc);
     assert!(rt; word.is_empty());
+    word.reserve(4)?;
     word.extend(b"bid")?;
     word.push(b's')?;
     let copy = word.copy()?;
@@ -138,6 +72,7 @@ fn texts_and_lists_hold_what_was_put_in(rt: HostRuntime) -> Result<(), Fail> {
     assert_eq!(rt; copy.into_vec().as_slice(), b"bids".as_slice());
     let mut list = List::new(alloc);
     assert!(rt; list.is_empty());
+    list.reserve(2)?;
     list.push(3u64)?;
     list.push(5)?;
     assert_eq!(rt; (list.len(), list.get(1), list.get(2)), (2, Some(&5), None));
@@ -180,5 +115,40 @@ fn sinks_keep_what_is_written_and_fail_where_told(rt: HostRuntime) -> Result<(),
     assert_eq!(rt; std_sink.write(b"bid"), Ok(3));
     assert_eq!(rt; std_sink.write(b""), Ok(0));
     assert_eq!(rt; kept.as_slice(), b"bid".as_slice());
+    Ok(())
+}
+
+#[test]
+fn fields_are_big_endian(rt: HostRuntime) -> Result<(), Fail> {
+    let mut out = text(rt.alloc(), b"$")?;
+    put_u32(0x0102_0304, &mut out)?;
+    put_u64(0x05_0000_0000_0006, &mut out)?;
+    out.push(b'$')?;
+    assert_eq!(rt;
+        out.as_bytes(),
+        b"$\x01\x02\x03\x04\x00\x05\x00\x00\x00\x00\x00\x06$".as_slice()
+    );
+    let bytes = out.as_bytes();
+    let fours = [
+        (0, Some(0x2401_0203)),
+        (1, Some(0x0102_0304)),
+        (10, Some(0x0000_0624)),
+        (11, None),
+        (14, None),
+        (15, None),
+        (usize::MAX, None),
+    ];
+    for (place, want) in fours {
+        assert_eq!(rt; get_u32(bytes, place), want, "at {place}");
+    }
+    let eights = [
+        (5, Some(0x05_0000_0000_0006)),
+        (6, Some(0x0500_0000_0000_0624)),
+        (7, None),
+        (usize::MAX, None),
+    ];
+    for (place, want) in eights {
+        assert_eq!(rt; get_u64(bytes, place), want, "at {place}");
+    }
     Ok(())
 }

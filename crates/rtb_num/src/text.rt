@@ -115,6 +115,14 @@ impl Txt {
         self.bytes.truncate(n);
     }
 
+    /// Makes room for so many bytes more.
+    pub fn reserve(&mut self, more: usize) -> Result<(), AllocError>
+        ensures { self.new ≡ self.old }
+    {
+        self.bytes.reserve(more)?;
+        Ok(())
+    }
+
     /// A text of the same bytes.
     pub fn copy(&self) -> Result<Txt, AllocError>
         ensures { IfOk result (λ t. t ≡ self.now) }

@@ -1,0 +1,93 @@
+ghost use Rattle.std.specs.Prelude.{◌≡◌, ◌<◌, ◌≤◌, ◌∷◌, false, length, option_map, IfOk};
+ghost use Rattle.exact_json.specs.Gives.{Leaves};
+ghost use Rattle.exact_json.specs.Reading.{char_at, one_at, ones_at, tails_of};
+ghost use Rattle.exact_json.specs.Strings.{followers, in_range, is_plain};
+
+use crate::stop::Stop;
+
+fn in_range(low: u8, high: u8, byte: u8) -> bool
+    ensures { result ≡ in_range low high byte }
+{
+    low <= byte && byte <= high
+}
+
+fn is_plain(byte: u8) -> bool
+    ensures { result ≡ is_plain byte }
+{
+    in_range(0x20, 0x7F, byte) && byte != b'"' && byte != b'\\'
+}
+
+// The range of the second byte of a character and how many tails follow it, by its first byte.
+fn followers_of(first: u8) -> Option<(u8, u8, usize)>
+    requires { is_plain first ≡ false }
+    ensures { option_map (λ f. in_range f.0 f.1 ∷ tails_of f.2) result ≡ followers first }
+{
+    if in_range(0xC2, 0xDF, first) {
+        return Some((0x80, 0xBF, 0));
+    }
+    if first == 0xE0 {
+        return Some((0xA0, 0xBF, 1));
+    }
+    if first == 0xED {
+        return Some((0x80, 0x9F, 1));
+    }
+    if in_range(0xE1, 0xEF, first) {
+        return Some((0x80, 0xBF, 1));
+    }
+    if first == 0xF0 {
+        return Some((0x90, 0xBF, 2));
+    }
+    if first == 0xF4 {
+        return Some((0x80, 0x8F, 2));
+    }
+    if in_range(0xF1, 0xF3, first) {
+        return Some((0x80, 0xBF, 2));
+    }
+    None
+}
+
+// What stands behind a byte of the range.
+fn after_one(bytes: &[u8], low: u8, high: u8) -> Result<&[u8], Stop>
+    ensures gives { Leaves tt result (one_at (in_range low high) bytes.now) }
+    ensures shorter { IfOk result (λ rest. length rest.now ≤ length bytes.now) }
+{
+    let Some((first, rest)) = bytes.split_first() else {
+        return Err(Stop::Short);
+    };
+    if !in_range(low, high, *first) {
+        return Err(Stop::At(bytes.len()));
+    }
+    Ok(rest)
+}
+
+// What stands behind so many tails.
+fn after_tails(bytes: &[u8], tails: usize) -> Result<&[u8], Stop>
+    ensures gives { Leaves tt result (ones_at (tails_of tails) bytes.now) }
+    ensures shorter { IfOk result (λ rest. length rest.now ≤ length bytes.now) }
+{
+    let mut left = bytes;
+    let mut due = tails;
+    while due > 0 {
+        left = after_one(left, 0x80, 0xBF)?;
+        due -= 1;
+    }
+    Ok(left)
+}
+
+// What stands behind an unescaped character.
+pub(crate) fn character_end(bytes: &[u8]) -> Result<&[u8], Stop>
+    ensures gives { Leaves tt result (char_at bytes.now) }
+    ensures shorter { IfOk result (λ rest. length rest.now < length bytes.now) }
+{
+    let Some((first, rest)) = bytes.split_first() else {
+        return Err(Stop::Short);
+    };
+    if is_plain(*first) {
+        return Ok(rest);
+    }
+    let Some((low, high, tails)) = followers_of(*first) else {
+        return Err(Stop::At(bytes.len()));
+    };
+    let rest = after_one(rest, low, high)?;
+    after_tails(rest, tails)
+}

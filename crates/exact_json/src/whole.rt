@@ -1,0 +1,83 @@
+ghost use Rattle.std.specs.Prelude.{◌≡◌, ◌≢◌, Some, true, false, IfOk, IfErr, MatchResult};
+ghost use Rattle.exact_json.specs.Docs.{doc_tree};
+ghost use Rattle.exact_json.specs.Faults.{Explains};
+ghost use Rattle.exact_json.specs.Grammar.{Faulty, IsText, LiveWithin, one_deeper};
+ghost use Rattle.exact_json.specs.Places.{opens};
+ghost use Rattle.exact_json.specs.Tree.{Tree};
+ghost use Rattle.exact_json.specs.declared.fault.JsonFault.{JsonFault};
+ghost use Rattle.exact_json.specs.declared.fault.JsonFault.TheVariants as fault;
+
+use crate::doc::Doc;
+use crate::fault::JsonFault;
+use crate::place::{breaks_utf8, place_behind};
+use crate::reader::text_of;
+use crate::stop::Stop;
+use std::alloc::Global;
+
+// How deep arrays and objects may nest.
+const MAX_DEPTH: usize = 64;
+
+// Some rest makes the front a text that nests at most one level deeper. `None` is no memory.
+fn is_alive(alloc: Global, front: &[u8]) -> Option<bool>
+    ensures alive { result ≡ Some true → LiveWithin one_deeper front.now }
+    ensures dead { result ≡ Some false → LiveWithin one_deeper front.now → ⊥ }
+{
+    match text_of(alloc, front, MAX_DEPTH + 1) {
+        Ok(_value) => return Some(true),
+        Err(Stop::Memory) => return None,
+        Err(Stop::Short) => return Some(true),
+        Err(Stop::At(_)) => return Some(false),
+    }
+}
+
+fn opens(byte: u8) -> bool
+    ensures { result ≡ opens byte }
+{
+    byte == b'[' || byte == b'{'
+}
+
+// The fault of bytes that are live up to this place and not with its byte.
+fn fault_at(alloc: Global, bytes: &[u8], at: usize) -> JsonFault
+    requires { Faulty bytes.now at }
+    ensures { Explains bytes.now result }
+{
+    let byte = bytes[at];
+    if breaks_utf8(place_behind(&bytes[..at]), byte) {
+        return JsonFault::Utf8 { at };
+    }
+    if !opens(byte) {
+        return JsonFault::Syntax { at };
+    }
+    match is_alive(alloc, &bytes[..at + 1]) {
+        None => JsonFault::Memory,
+        Some(true) => JsonFault::Deep { at },
+        Some(false) => JsonFault::Syntax { at },
+    }
+}
+
+/// The value that the bytes spell, all of them, where they are a text that nests at most 64 deep;
+/// else the fault with its place: the least offset whose byte no text has there, or the length
+/// where the bytes are the front of a text.
+pub fn read(alloc: Global, bytes: &[u8]) -> Result<Doc, JsonFault>
+    ensures found { IfOk result (λ doc. IsText (doc_tree doc) bytes.now) }
+    ensures only { (t : Tree) → IsText t bytes.now → MatchResult result (λ doc. doc_tree doc ≡ t) (λ e. e ≡ fault.Memory) }
+    ensures fault { IfErr result (Explains bytes.now) }
+{
+    match text_of(alloc, bytes, MAX_DEPTH) {
+        Ok(root) => Ok(Doc::from_root(root)),
+        Err(Stop::Memory) => Err(JsonFault::Memory),
+        Err(Stop::Short) => Err(JsonFault::Ended { at: bytes.len() }),
+        Err(Stop::At(left)) => Err(fault_at(alloc, bytes, bytes.len() - left)),
+    }
+}
+
+/// A text has one tree.
+pub fn text_has_one_tree(bytes: &[u8])
+    ensures { (t u : Tree) → IsText t bytes.now → IsText u bytes.now → t ≡ u }
+{}
+
+/// Bytes have one fault, want of memory aside, and a text has none.
+pub fn bytes_have_one_fault(bytes: &[u8])
+    ensures one { (e f : JsonFault) → e ≢ fault.Memory → f ≢ fault.Memory → Explains bytes.now e → Explains bytes.now f → e ≡ f }
+    ensures none { (e : JsonFault) (t : Tree) → e ≢ fault.Memory → Explains bytes.now e → IsText t bytes.now → ⊥ }
+{}

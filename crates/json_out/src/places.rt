@@ -1,0 +1,156 @@
+ghost use Rattle.std.specs.Prelude.{◌≡◌, ◌∷◌, [], drop, IsTrue, OnOk, OnErr};
+ghost use Rattle.std.specs.List.{slice_get};
+ghost use Rattle.json_out.specs.Writer.{beginning, ending, filled as filled_in, is_open, named as named_in, separator, wants_name, wants_value};
+
+use std::alloc::{AllocError, Global};
+use std::marker::Model;
+
+/// An array or an object that is open, and what stands in it.
+#[derive(Clone, Copy, Debug)]
+pub enum Place {
+    /// `filled`: it has an element.
+    Array { filled: bool },
+    /// `filled`: it has a member. `named`: the next member has its name, and no value yet.
+    Object { filled: bool, named: bool },
+}
+
+impl Place {
+    pub(crate) fn beginning(self) -> &'static [u8]
+        ensures { result.now ≡ beginning self }
+    {
+        match self {
+            Place::Array { .. } => b"[",
+            Place::Object { .. } => b"{",
+        }
+    }
+}
+
+// The arrays and objects that are open, the innermost last; contracts see it first.
+#[derive(Drop)]
+pub(crate) struct Places {
+    items: Vec<Place>,
+}
+
+impl Model for Places {
+    ghost use Rattle.std.specs.Prelude.{List, reverse};
+    ghost use Rattle.json_out.specs.declared.places.Place.{Place};
+
+    ghost Value = { List Place };
+
+    ghost view = { λ a. reverse a.items.items };
+}
+
+impl Places {
+    pub(crate) fn new(alloc: Global) -> Places
+        ensures { result ≡ [] }
+    {
+        Places {
+            items: Vec::new(alloc),
+        }
+    }
+
+    fn innermost(&self) -> Option<Place>
+        ensures { result ≡ slice_get self.now 0 }
+    {
+        self.items.as_slice().last().copied()
+    }
+
+    pub(crate) fn push(&mut self, place: Place) -> Result<(), AllocError>
+        ensures ok { OnOk result (self.new ≡ place ∷ self.old) }
+        ensures err { OnErr result (self.new ≡ self.old) }
+    {
+        self.items.push(place)?;
+        Ok(())
+    }
+
+    pub(crate) fn pop(&mut self)
+        ensures { self.new ≡ drop 1 self.old }
+    {
+        self.items.pop();
+    }
+
+    fn replace(&mut self, place: Place)
+        requires { IsTrue (is_open self.old) }
+        ensures { self.new ≡ place ∷ drop 1 self.old }
+    {
+        let last = self.items.len() - 1;
+        self.items[last] = place;
+    }
+
+    pub(crate) fn is_open(&self) -> bool
+        ensures { result ≡ is_open self.now }
+    {
+        self.innermost().is_some()
+    }
+
+    pub(crate) fn wants_name(&self) -> bool
+        ensures { result ≡ wants_name self.now }
+    {
+        match self.innermost() {
+            Some(Place::Object { named, .. }) => !named,
+            _ => false,
+        }
+    }
+
+    pub(crate) fn wants_value(&self) -> bool
+        ensures { result ≡ wants_value self.now }
+    {
+        match self.innermost() {
+            Some(Place::Object { named, .. }) => named,
+            _ => false,
+        }
+    }
+
+    // What stands before the next element or member.
+    pub(crate) fn separator(&self) -> &'static [u8]
+        ensures { result.now ≡ separator self.now }
+    {
+        match self.innermost() {
+            Some(Place::Array { filled: true }) => b",",
+            Some(
+                Place::Object {
+                    filled: true,
+                    named: false,
+                },
+            ) => b",",
+            _ => b"",
+        }
+    }
+
+    // What ends the innermost.
+    pub(crate) fn ending(&self) -> &'static [u8]
+        ensures { result.now ≡ ending self.now }
+    {
+        match self.innermost() {
+            Some(Place::Array { .. }) => b"]",
+            Some(Place::Object { .. }) => b"}",
+            None => b"",
+        }
+    }
+
+    // A value stands in the innermost.
+    pub(crate) fn fill(&mut self)
+        ensures { self.new ≡ filled_in self.old }
+    {
+        match self.innermost() {
+            Some(Place::Array { .. }) => self.replace(Place::Array { filled: true }),
+            Some(Place::Object { .. }) => self.replace(Place::Object {
+                filled: true,
+                named: false,
+            }),
+            None => {}
+        }
+    }
+
+    // The next member of the innermost has its name.
+    pub(crate) fn name(&mut self)
+        ensures { self.new ≡ named_in self.old }
+    {
+        if let Some(Place::Object { filled, .. }) = self.innermost() {
+            self.replace(Place::Object {
+                filled,
+                named: true,
+            });
+        }
+    }
+}

@@ -1,0 +1,93 @@
+ghost use Rattle.std.specs.Prelude.{◌≡◌, ◌<◌, ◌≤◌, ◌/◌, ◌%◌, ◌++◌, ◌∷◌, [], ℕ, List, length, take, OnOk, OnErr};
+ghost use Rattle.std.specs.List.{flat_map};
+ghost use Rattle.json_out.specs.Strings.{IsString, escaped, hexadecimal, quoted};
+
+use rtb_num::Txt;
+use std::alloc::AllocError;
+
+// A hexadecimal digit, in lower case.
+fn hexadecimal(n: u8) -> u8
+    requires { n < 16 }
+    ensures { result ≡ hexadecimal n }
+{
+    if n < 10 { b'0' + n } else { b'a' + (n - 10) }
+}
+
+// How many bytes at the front stand in a string as they are.
+fn plain_len(text: &[u8]) -> usize
+    ensures bound { result ≤ length text.now }
+    ensures plain { flat_map escaped (take result text.now) ≡ take result text.now }
+{
+    for (i, byte) in text.iter().enumerate() {
+        if *byte < b' ' || *byte == b'"' || *byte == b'\\' {
+            return i;
+        }
+    }
+    text.len()
+}
+
+// Appends one byte of a string.
+fn push_byte(out: &mut Txt, byte: u8) -> Result<(), AllocError>
+    ensures ok { OnOk result (out.new ≡ out.old ++ escaped byte) }
+    ensures err { OnErr result (out.new ≡ out.old) }
+{
+    match byte {
+        b'"' | b'\\' => out.extend(&[b'\\', byte]),
+        0..=0x1f => push_control(out, byte),
+        _ => out.push(byte),
+    }
+}
+
+// Appends a control character by its number.
+fn push_control(out: &mut Txt, byte: u8) -> Result<(), AllocError>
+    requires { byte < 32 }
+    ensures ok { OnOk result (out.new ≡ out.old ++ 92 ∷ 117 ∷ 48 ∷ 48 ∷ hexadecimal (byte / 16) ∷ hexadecimal (byte % 16) ∷ []) }
+    ensures err { OnErr result (out.new ≡ out.old) }
+{
+    let high = hexadecimal(byte / 16);
+    let low = hexadecimal(byte % 16);
+    out.extend(&[b'\\', b'u', b'0', b'0', high, low])
+}
+
+// Appends the inside of a string; where memory is refused, its front may stay.
+fn push_escaped(out: &mut Txt, text: &[u8]) -> Result<(), AllocError>
+    ensures ok { OnOk result (out.new ≡ out.old ++ flat_map escaped text.now) }
+    ensures front { (more : List ℕ) × (out.new ≡ out.old ++ more) }
+{
+    let mut rest = text;
+    loop {
+        let plain = plain_len(rest);
+        out.extend(&rest[..plain])?;
+        let Some((byte, behind)) = rest[plain..].split_first() else {
+            return Ok(());
+        };
+        push_byte(out, *byte)?;
+        rest = behind;
+    }
+}
+
+/// Appends the string of these bytes; where memory is refused, its front may stay.
+pub(crate) fn push_string(out: &mut Txt, text: &[u8]) -> Result<(), AllocError>
+    ensures ok { OnOk result (out.new ≡ out.old ++ quoted text.now) }
+    ensures front { (more : List ℕ) × (out.new ≡ out.old ++ more) }
+{
+    out.push(b'"')?;
+    push_escaped(out, text)?;
+    out.push(b'"')
+}
+
+/// Appends a name and the colon behind it; where memory is refused, its front may stay.
+pub(crate) fn push_name(out: &mut Txt, name: &[u8]) -> Result<(), AllocError>
+    ensures ok { OnOk result (out.new ≡ out.old ++ quoted name.now ++ 58 ∷ []) }
+    ensures front { (more : List ℕ) × (out.new ≡ out.old ++ more) }
+{
+    push_string(out, name)?;
+    out.push(b':')
+}
+
+/// The law of the written strings, with nothing to run: each is a string of RFC 8259, section 7, that
+/// says the bytes that it was given, and a string says one thing.
+pub fn strings_read_back()
+    ensures back { (s : List ℕ) → IsString s (quoted s) }
+    ensures one { (s t bytes : List ℕ) → IsString s bytes → IsString t bytes → s ≡ t }
+{}
