@@ -1,0 +1,8 @@
+pub mod Logs
+pub mod Moves
+pub mod Turns
+pub mod Openings
+pub mod Seats
+pub mod Open
+pub mod Times
+pub mod Hiring

@@ -1,0 +1,6 @@
+pub mod Entries
+pub mod Rule
+pub mod Steps
+pub mod Places
+pub mod Views
+pub mod Counters
