@@ -1,0 +1,184 @@
+ghost use Rattle.std.specs.Prelude.{◌≡◌, ◌≤◌, ◌<◌, ◌+◌, ◌-◌, ◌*◌, ℕ, length, false, true, None, slice_get, if◌then◌else◌};
+ghost use Rattle.conj_match.specs.Place.{IsFirstFrom, shown};
+ghost use Rattle.conj_match.specs.Merge.{Passed, shown_id, shows_negated, shows_plain};
+ghost use Rattle.postings.specs.Order.{IsRising};
+
+use postings::{Entry, Postings};
+use rtb_base::Steps;
+use std::marker::Model;
+use std::sync::ledger::Ledger;
+
+/// A place in a posting list. Contracts see the list, the place, counted from 0, and whether the
+/// entry there was read.
+///
+/// It keeps the entry that it stands on, so that looking at it costs nothing.
+#[derive(Drop)]
+pub struct Cursor<'a> {
+    list: &'a Postings,
+    place: usize,
+    loaded: bool,
+    entry: Option<Entry>,
+}
+
+impl<'a> Model for Cursor<'a> {
+    ghost use Rattle.conj_match.specs.Place.{Place, shown};
+    ghost use Rattle.std.specs.Prelude.{◌≡◌, ◌≤◌, length};
+
+    ghost Value = { Place };
+
+    ghost view = { λ c. record { entries = c.list.now; place = c.place; loaded = c.loaded } };
+
+    ghost invariant = { λ c. (c.place ≤ length c.list.now) × (c.entry ≡ shown (record { entries = c.list.now; place = c.place; loaded = c.loaded })) };
+}
+
+impl<'a> Cursor<'a> {
+    /// The cursor before the first entry is read.
+    pub fn start(list: &'a Postings) -> Cursor<'a>
+        ensures { result ≡ record { entries = list.now; place = 0; loaded = false } }
+    {
+        Cursor {
+            list,
+            place: 0,
+            loaded: false,
+            entry: None,
+        }
+    }
+
+    /// Reads the entry at the place.
+    pub fn load<L: Ledger>(&mut self, steps: &mut Steps<L>)
+        ensures value { self.new ≡ record self.old { loaded = true } }
+        ensures read { self.old.place < length self.old.entries → steps.new ≡ steps.old + 1 }
+        ensures past { length self.old.entries ≤ self.old.place → steps.new ≡ steps.old }
+        ensures within { self.new.place ≤ length self.new.entries }
+        ensures rising { IsRising self.new.entries }
+    {
+        self.entry = self.list.at(self.place, steps);
+        self.loaded = true;
+    }
+
+    /// The entry at the place, or none before it is read and past the end.
+    pub fn current(&self) -> Option<Entry>
+        ensures value { result ≡ shown self.now }
+        ensures within { self.now.place ≤ length self.now.entries }
+    {
+        self.entry
+    }
+
+    /// Goes to the next entry and reads it. Past the end it stays.
+    pub fn advance<L: Ledger>(&mut self, steps: &mut Steps<L>)
+        requires { self.old.loaded ≡ true }
+        ensures moved { self.old.place < length self.old.entries → self.new ≡ record self.old { place = self.old.place + 1 } }
+        ensures stays { length self.old.entries ≤ self.old.place → self.new ≡ self.old }
+        ensures loaded { self.new.loaded ≡ true }
+        ensures read { self.old.place + 1 < length self.old.entries → steps.new ≡ steps.old + 1 }
+        ensures past { length self.old.entries ≤ self.old.place + 1 → steps.new ≡ steps.old }
+    {
+        if self.place < self.list.len() {
+            self.place += 1;
+            self.entry = self.list.at(self.place, steps);
+        }
+    }
+
+    /// Goes to the first entry, from the present one on, whose number is at least `id`, or past the
+    /// end where there is none.
+    pub fn skip_to<L: Ledger>(&mut self, id: u32, steps: &mut Steps<L>)
+        requires { self.old.loaded ≡ true }
+        ensures entries { self.new.entries ≡ self.old.entries }
+        ensures loaded { self.new.loaded ≡ true }
+        ensures first { IsFirstFrom self.old.entries self.old.place id self.new.place }
+        ensures cost { steps.new ≤ steps.old + 2 * (self.new.place - self.old.place) }
+    {
+        while let Some(entry) = self.current()
+            && entry.id < id
+        {
+            self.advance(steps);
+        }
+    }
+    /// Goes past each entry whose number is at most `id`, from the present one on.
+    pub(crate) fn pass<L: Ledger>(&mut self, id: u32, steps: &mut Steps<L>)
+        requires { self.old.loaded ≡ true }
+        ensures passed { Passed id self.old self.new }
+        ensures cost { steps.new ≤ steps.old + 2 * (self.new.place - self.old.place) }
+    {
+        while let Some(passed) = self.current()
+            && passed.id <= id
+        {
+            self.advance(steps);
+        }
+    }
+
+    /// The number of the entry at the place.
+    pub(crate) fn current_id(&self) -> Option<u32>
+        ensures { result ≡ shown_id self.now }
+    {
+        self.entry.map(|entry| entry.id)
+    }
+
+    /// Whether the entry at the place is a negated one of the conjunction.
+    pub(crate) fn shows_negated(&self, id: u32) -> bool
+        ensures { result ≡ shows_negated id self.now }
+    {
+        self.entry
+            .is_some_and(|entry| entry.id == id && entry.negated)
+    }
+
+    /// Whether the entry at the place is another one of the conjunction.
+    pub(crate) fn shows_plain(&self, id: u32) -> bool
+        ensures { result ≡ shows_plain id self.now }
+    {
+        self.entry
+            .is_some_and(|entry| entry.id == id && !entry.negated)
+    }
+}
+
+#[cfg(test)]
+mod tests {
+    use super::*;
+    use std::marker::Brand;
+    use std::process::Abort;
+    use std::sync::ledger::Blank;
+    use std::test::Fail;
+
+    fn assert_walks<L: Ledger>(rt: &impl Abort, list: &Postings, blank: Blank)
+        requires name { blank.name ≡ L.name }
+        requires parts { blank.parts ≡ L.parts }
+        requires some { 0 < blank.parts }
+    {
+        let mut steps = Steps::<L>::new(blank);
+        let mut cursor = Cursor::start(list);
+        assert_eq!(rt; cursor.current().map(|entry| entry.id), None);
+        cursor.load(&mut steps);
+        assert_eq!(rt; cursor.current().map(|entry| entry.id), Some(1));
+        cursor.advance(&mut steps);
+        assert_eq!(rt; cursor.current().map(|entry| entry.id), Some(4));
+        for (id, want) in [
+            (0, Some(4)),
+            (4, Some(4)),
+            (5, Some(6)),
+            (7, Some(9)),
+            (10, None),
+            (1, None),
+        ] {
+            cursor.skip_to(id, &mut steps);
+            assert_eq!(rt; cursor.current().map(|entry| entry.id), want, "{id}");
+        }
+    }
+
+    fn assert_is_walked(rt: &impl Abort, list: &Postings) {
+        assert_walks::<Brand>(rt, list, Blank::new(1));
+    }
+
+    #[test]
+    fn walks_a_list_and_skips(rt: HostRuntime) -> Result<(), Fail> {
+        let mut entries = Vec::new(rt.alloc());
+        for id in [1, 4, 6, 9] {
+            entries.push(Entry { id, negated: false })?;
+        }
+        let list = Postings::build(entries);
+        assert!(rt; list.is_ok());
+        if let Ok(list) = list {
+            assert_is_walked(&rt, &list);
+        }
+        Ok(())
+    }
+}

@@ -1,0 +1,8 @@
+//! Matching of conjunctions over posting lists (Whang et al. 2009, section 4).
+#![tactic(auto)]
+
+mod cursor;
+mod matching;
+
+pub use cursor::Cursor;
+pub use matching::match_lists;

@@ -1,0 +1,10 @@
+/// Why a list of entries is no posting list.
+///
+/// The place is that of the first entry that is not above the one before it, counted from 0.
+#[derive(Clone, Copy, Debug, PartialEq, Eq)]
+pub enum BuildFault {
+    /// The entry is below the one before it.
+    NotSorted { at: usize },
+    /// The entry equals the one before it.
+    Repeated { at: usize },
+}
