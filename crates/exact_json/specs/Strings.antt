@@ -56,7 +56,7 @@ hex_onto n (c ∷ s) = hex_onto (n * 16 + hex_digit c) s
 abbrev pub four_hex : List (ℕ → Bool)
 four_hex = is_hex ∷ is_hex ∷ is_hex ∷ is_hex ∷ []
 
--- an unescaped character, by its bytes; an escape of two bytes, by the second; or a \uXXXX, by its number
+-- an unescaped character, by its bytes; an escape of two bytes, by the second; or of six, by the number of its four digits
 pub data Piece : Type 0 where
   character : List ℕ → Piece
   escape : ℕ → Piece
