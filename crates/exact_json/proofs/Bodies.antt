@@ -1,14 +1,14 @@
 -- Reading a string's body run by run and escape by escape, as the code does.
-use Rattle.std.proofs.Common.{◌≡◌, ◌≢◌, ℕ, zero, suc, ◌<◌, ◌==◌, List, [], ◌∷◌, ◌++◌, length, true, false, cond, Option, None, refl, sym, ap, ◌∙◌, append_assoc, append-nil, arith, length-append, subst}
+use Rattle.std.proofs.Common.{◌≡◌, ◌≢◌, ℕ, zero, suc, ◌<◌, ◌==◌, List, [], ◌∷◌, ◌++◌, length, true, false, cond, Option, None, Some, refl, sym, ap, ◌∙◌, append_assoc, append-nil, arith, length-append, subst}
 use Rattle.std.proofs.lemmas.Bool.Decides.{nat_tests}
-use Rattle.exact_json.specs.Strings.{followers, IsCharacter, Piece, character, alone, text_behind}
-use Rattle.exact_json.specs.Reading.{Outcome, done, stops, short, ◌>>=◌, mapped, follow_at, escape_at, piece_at, pieces_at, body_at, quoted_at, past, char_at, is_special, EndsRun, after_run, before}
+use Rattle.exact_json.specs.Strings.{followers, is_plain, IsCharacter, Piece, character, escape, is_escape, escaped, alone, text_behind}
+use Rattle.exact_json.specs.Reading.{Outcome, done, stops, short, ◌>>=◌, mapped, follow_at, escape_at, piece_at, pieces_at, body_at, quoted_at, past, char_at, skip_plain, is_special, EndsRun, after_run, before}
 use Rattle.exact_json.specs.Gives.{Fails}
 use Rattle.exact_json.specs.declared.stop.Stop.{Stop}
 use Rattle.exact_json.specs.declared.stop.Stop.TheVariants as stop
-use Rattle.exact_json.proofs.Fronts.{is_other}
-use Rattle.exact_json.proofs.Right.{Any, Right, unchanged}
-use Rattle.exact_json.proofs.NumberForm.{off}
+use Rattle.exact_json.proofs.Fronts.{by_test, is_other}
+use Rattle.exact_json.proofs.Right.{Any, Right}
+use Rattle.exact_json.proofs.NumberForm.{on, off}
 use Rattle.exact_json.proofs.Pieces.{piece_right, piece_begins, follow_right}
 use Rattle.exact_json.proofs.Scanning.{before_is, fused, alike}
 use Rattle.exact_json.specs.Strings.{SpellsPiece}
@@ -164,6 +164,21 @@ ran_more bytes left c s rest (w, e, same) el ns h =
     let (x, es, ep) = char_read c s rest plain.1 (ap char_at (sym el) ∙ h) in
     (w ++ c ∷ x, e ∙ ap (λ k. w ++ k) (el ∙ es) ∙ sym (append_assoc w (c ∷ x) rest), λ high. same high ∙ ap (after_run high w) el ∙ run_on high w c s x rest plain.0 ep)
 
+-- plain characters
+plain_last : (c : ℕ) → is_plain c ≡ true → is_special c ≡ false
+plain_last c e = grind (arith, nat_tests)
+
+char_plain : (c : ℕ) (s : List ℕ) → is_plain c ≡ true → char_at (c ∷ s) ≡ done tt s
+char_plain c s e = ap (λ o. past (follow_at o c s)) (on (is_plain c) (Some []) _ e)
+
+pub ran_plain : (bytes left : List ℕ) → Ran bytes left → Ran bytes (skip_plain left)
+unfolding skip_plain
+ran_plain bytes [] r = r
+ran_plain bytes (c ∷ s) r =
+    by_test (Ran bytes) (is_plain c) (skip_plain s) (c ∷ s)
+    (λ e. ran_plain bytes s (ran_more bytes (c ∷ s) c s s r refl (plain_last c e) (char_plain c s e)))
+    (λ e. r)
+
 run_fails : (high : Option ℕ) (w s : List ℕ) (e : Stop) → ((h : Option ℕ) → Fails e (body_at h s)) → Fails e (after_run high w s)
 run_fails high [] s e f = f high
 run_fails high (c ∷ w) s e f = mapped_fails (λ t. alone high ++ (c ∷ w ++ t)) e (body_at None s) (f None)
@@ -178,18 +193,16 @@ ran_fails bytes left c s e (w, eb, same) el ns f high =
 pub ran_ends : (bytes left run : List ℕ) → Ran bytes left → run ≡ before left bytes → (high : Option ℕ) → body_at high bytes ≡ after_run high run left
 ran_ends bytes left run (w, e, same) er high = same high ∙ ap (λ k. after_run high k left) (sym (before_is w left bytes e) ∙ sym er)
 
--- a string without escapes, and one with
-pub run_short : (high : Option ℕ) (w s : List ℕ) → s ≡ [] → after_run high w s ≡ short
-run_short high [] s e = body_short high s e
-run_short high (c ∷ w) s e = ap (mapped (λ t. alone high ++ (c ∷ w ++ t))) (body_short None s e)
-
+-- a string without escapes
 pub run_quote : (w s : List ℕ) (c : ℕ) (rest : List ℕ) → s ≡ c ∷ rest → c ≡ 34 → after_run None w s ≡ done w rest
 run_quote [] s c rest e ec = body_quote None s c rest e ec
 run_quote (d ∷ w) s c rest e ec = ap (mapped (λ t. d ∷ w ++ t)) (body_quote None s c rest e ec) ∙ ap (λ k. done (d ∷ k) rest) (append-nil w)
 
-pub run_onto : (w s : List ℕ) → after_run None w s ≡ mapped (λ t. w ++ t) (quoted_at s)
-run_onto [] s = sym (unchanged (body_at None s))
-run_onto (c ∷ w) s = refl
+-- a string of plain characters alone
+pub plain_string : (bytes text rest : List ℕ) (c : ℕ) (after : List ℕ) → rest ≡ skip_plain bytes → rest ≡ c ∷ after → c ≡ 34 → text ≡ before rest bytes → quoted_at bytes ≡ done text after
+plain_string bytes text rest c after er es ec et =
+    let ran : Ran bytes rest = subst (Ran bytes) (sym er) (ran_plain bytes bytes (ran_none bytes)) in
+    ran_ends bytes rest text ran et None ∙ run_quote text rest c after es ec
 
 -- one turn of the loop over runs and escapes: the run is behind
 pub kept : (total : Outcome (List ℕ)) (old new : List ℕ) (high h : Option ℕ) (left run rest : List ℕ) → total ≡ mapped (λ t. old ++ t) (body_at high left) → body_at high left ≡ after_run high run rest
@@ -228,3 +241,26 @@ kept_more total new later h g rest c after again p same er ends ne ee pushed =
     ∙ fused (λ t. new ++ t) (λ ps. text_behind h (p ∷ ps)) (pieces_at (suc (length again)) again)
     ∙ alike (λ ps. new ++ text_behind h (p ∷ ps)) (λ ps. later ++ text_behind g ps) (λ ps. sym (pushed ps)) (pieces_at (suc (length again)) again)
     ∙ sym (fused (λ t. later ++ t) (text_behind g) (pieces_at (suc (length again)) again))
+
+escape_two : (c : ℕ) (s : List ℕ) → is_escape c ≡ true → escape_at (c ∷ s) ≡ done (escape c) s
+escape_two c s e = off (c == 117) _ _ (no_unit c e) ∙ on (is_escape c) _ _ e
+  where
+    no_unit : (c : ℕ) → is_escape c ≡ true → (c == 117) ≡ false
+    no_unit c e = grind (arith, nat_tests)
+
+-- an escape of two bytes
+pub two_more : (new old later left bytes : List ℕ) (d : ℕ) (after : List ℕ) (c : ℕ) (rest : List ℕ) → mapped (λ t. new ++ t) (body_at None left) ≡ mapped (λ t. old ++ t) (body_at None bytes) → left ≡ d ∷ after → d ≡ 92 → after ≡ c ∷ rest → is_escape c ≡ true → later ≡ new ++ escaped c ∷ []
+    → mapped (λ t. later ++ t) (body_at None rest) ≡ mapped (λ t. old ++ t) (body_at None bytes)
+unfolding body_at
+two_more new old later left bytes d after c rest same ed e92 ea ee et =
+    let el : left ≡ 92 ∷ c ∷ rest = ed ∙ ap (λ k. k ∷ after) e92 ∙ ap (λ k. 92 ∷ k) ea in
+    ap (λ k. mapped (λ t. k ++ t) (body_at None rest)) et
+    ∙ fused (λ t. (new ++ escaped c ∷ []) ++ t) (text_behind None) (pieces_at (suc (length rest)) rest)
+    ∙ alike (λ ps. (new ++ escaped c ∷ []) ++ text_behind None ps) (λ ps. new ++ text_behind None (escape c ∷ ps)) (λ ps. append_assoc new (escaped c ∷ []) (text_behind None ps)) (pieces_at (suc (length rest)) rest)
+    ∙ sym (fused (λ t. new ++ t) (λ ps. text_behind None (escape c ∷ ps)) (pieces_at (suc (length rest)) rest))
+    ∙ ap (mapped (λ t. new ++ t)) (sym (body_step None 92 (c ∷ rest) (escape c) rest no_quote (escape_piece 92 (c ∷ rest) refl ∙ escape_two c rest ee)))
+    ∙ ap (λ k. mapped (λ t. new ++ t) (body_at None k)) (sym el)
+    ∙ same
+  where
+    no_quote : ◌≢◌ {A = ℕ} 92 34
+    no_quote e = omega (arith, e)

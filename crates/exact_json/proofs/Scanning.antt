@@ -1,8 +1,10 @@
 -- Reading a number byte by byte, as a loop does.
-use Rattle.std.proofs.Common.{◌≡◌, ℕ, ◌≤◌, ◌-◌, cond, List, [], ◌∷◌, ◌++◌, length, take, true, false, Option, Some, None, refl, sym, ap, ◌∙◌, append_assoc, append-nil, arith, length-append}
+use Rattle.std.proofs.Common.{◌≡◌, ℕ, ◌≤◌, ◌-◌, cond, List, [], ◌∷◌, ◌++◌, length, take, true, false, Option, Some, None, refl, sym, ap, ◌∙◌, ◌==◌, subst, append_assoc, append-nil, arith, length-append}
 use Rattle.std.proofs.Math.Seq.{take-append_seam}
-use Rattle.exact_json.specs.Numbers.{Phase, start, next_phase, ends_number}
-use Rattle.exact_json.specs.Reading.{Outcome, done, stops, short, mapped, scan, number_at, before}
+use Rattle.exact_json.specs.Numbers.{Phase, start, minus, leading_zero, whole, next_phase, ends_number, is_digit, digit_to, to_int, to_point}
+use Rattle.exact_json.specs.Reading.{Outcome, done, stops, short, mapped, scan, number_at, skip_digits, before}
+use Rattle.std.proofs.lemmas.Bool.Decides.{nat_tests}
+use Rattle.exact_json.proofs.Fronts.{by_test}
 use Rattle.exact_json.proofs.NumberForm.{on, off}
 use Rattle.exact_json.proofs.Right.{unchanged}
 
@@ -79,3 +81,42 @@ stops_before bytes q c left rest (w, e, same) el en et = (
 pub short_last : (bytes : List ℕ) (q : Phase) (left : List ℕ) → Scanned bytes q left → left ≡ [] → ends_number q ≡ false → number_at bytes ≡ short
 short_last bytes q left (w, e, same) el et =
     same ∙ ap (λ k. mapped (λ x. w ++ x) (scan next_phase ends_number q k)) el ∙ ap (mapped (λ x. w ++ x)) (nil_scan q ∙ off (ends_number q) (done [] []) short et)
+
+-- digits of the whole part
+pub scanned_digits : (bytes left : List ℕ) → Scanned bytes whole left → Scanned bytes whole (skip_digits left)
+unfolding skip_digits
+scanned_digits bytes [] sc = sc
+scanned_digits bytes (c ∷ s) sc =
+    by_test (Scanned bytes whole) (is_digit c) (skip_digits s) (c ∷ s)
+    (λ e. scanned_digits bytes s (scanned_more bytes whole whole c (c ∷ s) s sc refl (sym (on (is_digit c) (Some whole) (to_point c) e))))
+    (λ e. sc)
+
+skipped_next : (s rest : List ℕ) (c : ℕ) → skip_digits s ≡ c ∷ rest → is_digit c ≡ false
+unfolding skip_digits
+skipped_next [] rest c e = absurd (no c rest e)
+  where
+    no : (c : ℕ) (rest : List ℕ) → ◌≡◌ {A = List ℕ} [] (c ∷ rest) → ⊥
+    no c rest e = cc
+skipped_next (d ∷ s) rest c e = by_test (λ k. k ≡ c ∷ rest → is_digit c ≡ false) (is_digit d) (skip_digits s) (d ∷ s) (λ t k. skipped_next s rest c k) (λ f k. subst (λ b. is_digit b ≡ false) (first d c s rest k) f) e
+  where
+    first : (d c : ℕ) (s rest : List ℕ) → d ∷ s ≡ c ∷ rest → d ≡ c
+    first d c s rest e = cc
+
+-- a number of digits alone, with bytes behind it, and at the end
+scanned_whole : (bytes : List ℕ) (d : ℕ) (rest left : List ℕ) → bytes ≡ d ∷ rest → (d == 48) ≡ false → is_digit d ≡ true → left ≡ skip_digits rest → Scanned bytes whole left
+scanned_whole bytes d rest left eb nz dd es =
+    let begins : next_phase start d ≡ Some whole = off (d == 45) (Some minus) (to_int d) (no_minus d dd) ∙ off (d == 48) (Some leading_zero) (digit_to whole d) nz ∙ on (is_digit d) (Some whole) None dd in
+    let one : Scanned bytes whole rest = scanned_more bytes start whole d bytes rest (begun bytes) eb (sym begins) in
+    subst (Scanned bytes whole) (sym es) (scanned_digits bytes rest one)
+  where
+    no_minus : (d : ℕ) → is_digit d ≡ true → (d == 45) ≡ false
+    no_minus d e = grind (arith, nat_tests)
+
+pub digits_before : (bytes : List ℕ) (d : ℕ) (rest left : List ℕ) (c : ℕ) (after : List ℕ) → bytes ≡ d ∷ rest → (d == 48) ≡ false → is_digit d ≡ true → left ≡ skip_digits rest → left ≡ c ∷ after → to_point c ≡ None
+    → (number_at bytes ≡ done (before left bytes) left) × (length left ≤ length bytes)
+digits_before bytes d rest left c after eb nz dd es el np =
+    let ends : next_phase whole c ≡ None = off (is_digit c) (Some whole) (to_point c) (skipped_next rest after c (sym es ∙ el)) ∙ np in
+    ends_before bytes whole c left after (scanned_whole bytes d rest left eb nz dd es) el (sym ends) refl
+
+pub digits_last : (bytes : List ℕ) (d : ℕ) (rest left : List ℕ) → bytes ≡ d ∷ rest → (d == 48) ≡ false → is_digit d ≡ true → left ≡ skip_digits rest → left ≡ [] → (number_at bytes ≡ done (before left bytes) left) × (length left ≤ length bytes)
+digits_last bytes d rest left eb nz dd es el = ends_last bytes whole left (scanned_whole bytes d rest left eb nz dd es) el refl

@@ -1,7 +1,7 @@
 -- Reading as functions on lists, which the crate's private clauses cite.
 use Rattle.std.specs.Prelude.{◌≡◌, ℕ, zero, suc, ◌+◌, ◌-◌, ◌*◌, List, [], ◌∷◌, ◌++◌, length, take, Bool, true, false, cond, ◌==◌, ◌||◌, Option, None, Some, codes}
 use Rattle.exact_json.specs.Numbers.{is_digit, start, next_phase, ends_number}
-use Rattle.exact_json.specs.Strings.{Piece, character, escape, code_unit, followers, is_escape, four_hex, hex_onto, is_hex, hex_digit, is_tail, text_behind, alone}
+use Rattle.exact_json.specs.Strings.{Piece, character, escape, code_unit, followers, is_plain, is_escape, four_hex, hex_onto, is_hex, hex_digit, is_tail, text_behind, alone}
 use Rattle.exact_json.specs.Tree.{Tree, null, boolean, number, string, array, object}
 use Rattle.exact_json.specs.View.{trees_from, pairs_from}
 
@@ -157,6 +157,16 @@ tails_of (suc n) = is_tail ∷ tails_of n
 abbrev pub char_at : Reader (Unit {0})
 char_at [] = short
 char_at (c ∷ s) = past (follow_at (followers c) c s)
+
+-- what stands behind digits
+unfoldable pub skip_digits : List ℕ → List ℕ
+skip_digits [] = []
+skip_digits (c ∷ s) = cond (is_digit c) (skip_digits s) (c ∷ s)
+
+-- what stands behind plain characters
+unfoldable pub skip_plain : List ℕ → List ℕ
+skip_plain [] = []
+skip_plain (c ∷ s) = cond (is_plain c) (skip_plain s) (c ∷ s)
 
 -- a hexadecimal digit, as its value, and four of them
 abbrev pub hex_at : Reader ℕ

@@ -1,6 +1,6 @@
 ghost use Rattle.std.specs.Prelude.{◌≡◌, ◌<◌, ◌≤◌, ◌∷◌, false, length, option_map, IfOk};
 ghost use Rattle.exact_json.specs.Gives.{Leaves};
-ghost use Rattle.exact_json.specs.Reading.{char_at, one_at, ones_at, tails_of};
+ghost use Rattle.exact_json.specs.Reading.{char_at, one_at, ones_at, skip_plain, tails_of};
 ghost use Rattle.exact_json.specs.Strings.{followers, in_range, is_plain};
 
 use crate::stop::Stop;
@@ -15,6 +15,23 @@ fn is_plain(byte: u8) -> bool
     ensures { result ≡ is_plain byte }
 {
     in_range(0x20, 0x7F, byte) && byte != b'"' && byte != b'\\'
+}
+
+// What stands behind plain characters.
+#[inline(always)]
+#[tactic(auto, unfolding(crate::specs::Reading::skip_plain))]
+pub(crate) fn skip_plain(bytes: &[u8]) -> &[u8]
+    ensures value { result.now ≡ skip_plain bytes.now }
+    ensures shorter { length result.now ≤ length bytes.now }
+{
+    let mut left = bytes;
+    while let Some((first, rest)) = left.split_first() {
+        if !is_plain(*first) {
+            return left;
+        }
+        left = rest;
+    }
+    left
 }
 
 // The range of the second byte of a character and how many tails follow it, by its first byte.

@@ -1,8 +1,8 @@
-ghost use Rattle.std.specs.Prelude.{◌≡◌, option_map, if◌then◌else◌};
+ghost use Rattle.std.specs.Prelude.{◌≡◌, ◌≤◌, Ok, IfSome, length, option_map, if◌then◌else◌};
 ghost use Rattle.exact_json.specs.Gives.{Cuts};
 ghost use Rattle.exact_json.specs.Numbers.{digit_to, ends_number, is_digit, next_phase, to_exponent, to_int, to_point};
 ghost use Rattle.exact_json.specs.Phases.{phase_of};
-ghost use Rattle.exact_json.specs.Reading.{number_at};
+ghost use Rattle.exact_json.specs.Reading.{number_at, skip_digits};
 
 use crate::stop::Stop;
 
@@ -92,8 +92,43 @@ fn may_end(phase: Phase) -> bool
     )
 }
 
-// What stands behind a number.
-pub(crate) fn number_end(bytes: &[u8]) -> Result<&[u8], Stop>
+// What stands behind digits.
+#[inline(always)]
+#[tactic(auto, unfolding(crate::specs::Reading::skip_digits))]
+fn skip_digits(bytes: &[u8]) -> &[u8]
+    ensures value { result.now ≡ skip_digits bytes.now }
+    ensures shorter { length result.now ≤ length bytes.now }
+{
+    let mut left = bytes;
+    while let Some((first, rest)) = left.split_first() {
+        if !is_digit(*first) {
+            return left;
+        }
+        left = rest;
+    }
+    left
+}
+
+// What stands behind a number that is digits alone, the first of them no 0.
+fn digits_end(bytes: &[u8]) -> Option<&[u8]>
+    ensures { IfSome result (λ rest. Cuts bytes.now (Ok rest) (number_at bytes.now)) }
+{
+    let (first, rest) = bytes.split_first()?;
+    if *first == b'0' || !is_digit(*first) {
+        return None;
+    }
+    let left = skip_digits(rest);
+    let Some((next, _)) = left.split_first() else {
+        return Some(left);
+    };
+    match to_point(*next) {
+        None => Some(left),
+        Some(_) => None,
+    }
+}
+
+// What stands behind a number of any form.
+fn any_number_end(bytes: &[u8]) -> Result<&[u8], Stop>
     ensures { Cuts bytes.now result (number_at bytes.now) }
 {
     let mut phase = Phase::Start;
@@ -113,5 +148,15 @@ pub(crate) fn number_end(bytes: &[u8]) -> Result<&[u8], Stop>
         Ok(left)
     } else {
         Err(Stop::Short)
+    }
+}
+
+// What stands behind a number.
+pub(crate) fn number_end(bytes: &[u8]) -> Result<&[u8], Stop>
+    ensures { Cuts bytes.now result (number_at bytes.now) }
+{
+    match digits_end(bytes) {
+        Some(rest) => Ok(rest),
+        None => any_number_end(bytes),
     }
 }

@@ -11,9 +11,18 @@ use crate::value::{Items, Members, Value};
 use rtb_num::Txt;
 use std::alloc::{AllocError, Global};
 
+// How many members an object has room for before it grows, and how many values an array: most objects
+// of a bid request have two to six members, and most arrays one or two values.
+const FIRST_MEMBERS: usize = 6;
+
+const FIRST_ITEMS: usize = 2;
+
 fn is_space(byte: u8) -> bool
     ensures { result ≡ is_space byte }
 {
+    if byte > b' ' {
+        return false;
+    }
     matches!(byte, b' ' | b'\t' | b'\n' | b'\r')
 }
 
@@ -55,8 +64,7 @@ fn text_before(alloc: Global, bytes: &[u8], rest: &[u8]) -> Result<Txt, AllocErr
     requires { length rest.now ≤ length bytes.now }
     ensures { IfOk result (λ text. text ≡ reading.before rest.now bytes.now) }
 {
-    let front = bytes[..bytes.len() - rest.len()].to_vec(alloc)?;
-    Ok(Txt::from_vec(front))
+    Txt::from_front(alloc, bytes, bytes.len() - rest.len())
 }
 
 fn number_of(alloc: Global, bytes: &[u8]) -> Result<(Txt, &[u8]), Stop>
@@ -68,6 +76,7 @@ fn number_of(alloc: Global, bytes: &[u8]) -> Result<(Txt, &[u8]), Stop>
 }
 
 // A value that is neither an array nor an object.
+#[inline(always)]
 #[tactic(auto, unfolding(crate::specs::Reading::scalar_at))]
 fn scalar_of(alloc: Global, bytes: &[u8]) -> Result<(Value, &[u8]), Stop>
     ensures { Gives tree_of result (flat_at bytes.now) }
@@ -121,19 +130,20 @@ fn value_of(alloc: Global, bytes: &[u8], depth: usize) -> Result<(Value, &[u8]),
 }
 
 // The items of an array and its closing bracket.
+#[inline(never)]
 #[cycle(reading)]
 #[tactic(auto, unfolding(crate::specs::Reading::entries_at))]
 fn items_of(alloc: Global, bytes: &[u8], depth: usize) -> Result<(Items, &[u8]), Stop>
     ensures { Gives (λ items. map tree_of items.values.items) result (entries_at (value_at depth) 93 bytes.now) }
 {
-    let mut values = Vec::new(alloc);
     let Some((first, rest)) = bytes.split_first() else {
         return Err(Stop::Short);
     };
     if *first == b']' {
-        return Ok((Items::from_vec(values), rest));
+        return Ok((Items::from_vec(Vec::new(alloc)), rest));
     }
     let (value, rest) = value_of(alloc, bytes, depth)?;
+    let mut values = Vec::with_capacity(alloc, FIRST_ITEMS)?;
     values.push(value)?;
     more_items_of(alloc, values, skip_spaces(rest), depth)
 }
@@ -166,6 +176,7 @@ fn more_items_of(
 }
 
 // The name of a member.
+#[inline(always)]
 fn name_of(alloc: Global, bytes: &[u8]) -> Result<(Txt, &[u8]), Stop>
     ensures { Gives (λ text. text) result (byte_then 34 quoted_at bytes.now) }
 {
@@ -179,6 +190,7 @@ fn name_of(alloc: Global, bytes: &[u8]) -> Result<(Txt, &[u8]), Stop>
 }
 
 // A colon and the value of a member.
+#[inline(always)]
 #[cycle(reading)]
 fn valued_of(alloc: Global, bytes: &[u8], depth: usize) -> Result<(Value, &[u8]), Stop>
     ensures { Gives tree_of result (byte_then 58 (λ after. value_at depth (skip after)) bytes.now) }
@@ -192,6 +204,7 @@ fn valued_of(alloc: Global, bytes: &[u8], depth: usize) -> Result<(Value, &[u8])
     value_of(alloc, skip_spaces(rest), depth)
 }
 
+#[inline(always)]
 #[cycle(reading)]
 #[tactic(auto, unfolding(crate::specs::Reading::member_at))]
 fn member_of(alloc: Global, bytes: &[u8], depth: usize) -> Result<((Txt, Value), &[u8]), Stop>
@@ -203,18 +216,19 @@ fn member_of(alloc: Global, bytes: &[u8], depth: usize) -> Result<((Txt, Value),
 }
 
 // The members of an object and its closing brace.
+#[inline(never)]
 #[cycle(reading)]
 #[tactic(auto, unfolding(crate::specs::Reading::entries_at))]
 fn members_of(alloc: Global, bytes: &[u8], depth: usize) -> Result<(Members, &[u8]), Stop>
     ensures { Gives (λ members. map (λ p. (p.0, tree_of p.1)) members.pairs.items) result (entries_at (member_at (value_at depth)) 125 bytes.now) }
 {
-    let mut pairs = Vec::new(alloc);
     let Some((first, rest)) = bytes.split_first() else {
         return Err(Stop::Short);
     };
     if *first == b'}' {
-        return Ok((Members::from_vec(pairs), rest));
+        return Ok((Members::from_vec(Vec::new(alloc)), rest));
     }
+    let mut pairs = Vec::with_capacity(alloc, FIRST_MEMBERS)?;
     let (pair, rest) = member_of(alloc, bytes, depth)?;
     pairs.push(pair)?;
     more_members_of(alloc, pairs, skip_spaces(rest), depth)

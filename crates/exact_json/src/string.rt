@@ -4,7 +4,7 @@ ghost use Rattle.exact_json.specs.Escapes.{piece_view};
 ghost use Rattle.exact_json.specs.Reading.{EndsRun, after_run, body_at, escape_at, hex_at, is_special, mapped, quoted_at, unit_at};
 ghost use Rattle.exact_json.specs.Strings.{Piece, alone, escaped, hex_digit, is_escape, is_hex, is_high, is_low, paired, text_behind, unit_text, utf8};
 
-use crate::character::character_end;
+use crate::character::{character_end, skip_plain};
 use crate::stop::Stop;
 use rtb_num::Txt;
 use std::alloc::{AllocError, Global};
@@ -22,12 +22,13 @@ fn run_of(bytes: &[u8]) -> Result<(&[u8], &[u8]), Stop>
     ensures ends { IfOk result (λ p. EndsRun p.1.now) }
     ensures shorter { IfOk result (λ p. length p.1.now ≤ length bytes.now) }
 {
-    let mut left = bytes;
+    let mut left = skip_plain(bytes);
     while let Some((first, _)) = left.split_first() {
         if is_special(*first) {
             return Ok((&bytes[..bytes.len() - left.len()], left));
         }
-        left = character_end(left)?;
+        let after = character_end(left)?;
+        left = skip_plain(after);
     }
     Ok((&bytes[..bytes.len() - left.len()], left))
 }
@@ -233,7 +234,38 @@ fn push_escape(text: &mut Txt, high: Option<u16>, escape: Escape) -> Result<Opti
     }
 }
 
+// Appends the escapes of two bytes that stand at the front, where no high surrogate is before them. It
+// gives what stands behind.
+fn push_escapes<'a>(
+    text: &mut Txt,
+    high: Option<u16>,
+    bytes: &'a [u8],
+) -> Result<&'a [u8], AllocError>
+    ensures value { IfOk result (λ rest. mapped (λ t. text.new ++ t) (body_at high rest.now) ≡ mapped (λ t. text.old ++ t) (body_at high bytes.now)) }
+    ensures shorter { IfOk result (λ rest. length rest.now ≤ length bytes.now) }
+{
+    let mut left = bytes;
+    if high.is_some() {
+        return Ok(left);
+    }
+    while let Some((first, after)) = left.split_first() {
+        if *first != b'\\' {
+            return Ok(left);
+        }
+        let Some((byte, rest)) = after.split_first() else {
+            return Ok(left);
+        };
+        if !is_escape(*byte) {
+            return Ok(left);
+        }
+        text.push(escaped(*byte))?;
+        left = rest;
+    }
+    Ok(left)
+}
+
 // The text so far and that of the pieces up to the quotation mark.
+#[inline(never)]
 fn escaped_of(mut text: Txt, bytes: &[u8]) -> Result<(Txt, &[u8]), Stop>
     ensures gives { Gives (λ t. t) result (mapped (λ t. text ++ t) (quoted_at bytes.now)) }
     ensures shorter { IfOk result (λ p. length p.1.now ≤ length bytes.now) }
@@ -252,29 +284,24 @@ fn escaped_of(mut text: Txt, bytes: &[u8]) -> Result<(Txt, &[u8]), Stop>
         }
         let (escape, after) = escape_of(after)?;
         high = push_escape(&mut text, high, escape)?;
-        left = after;
+        left = push_escapes(&mut text, high, after)?;
     }
 }
 
-fn copied(alloc: Global, bytes: &[u8]) -> Result<Txt, AllocError>
-    ensures { IfOk result (λ text. text ≡ bytes.now) }
-{
-    let copy = bytes.to_vec(alloc)?;
-    Ok(Txt::from_vec(copy))
-}
-
-// The text of a string, behind its opening quotation mark. Without escapes it is one copy.
+// The text of a string, behind its opening quotation mark. Where it has plain characters alone, it is
+// gone over once and copied once.
+#[inline(always)]
 pub(crate) fn string_of(alloc: Global, bytes: &[u8]) -> Result<(Txt, &[u8]), Stop>
     ensures gives { Gives (λ t. t) result (quoted_at bytes.now) }
     ensures shorter { IfOk result (λ p. length p.1.now ≤ length bytes.now) }
 {
-    let (run, rest) = run_of(bytes)?;
-    let text = copied(alloc, run)?;
+    let rest = skip_plain(bytes);
     let Some((first, after)) = rest.split_first() else {
-        return Err(Stop::Short);
+        return escaped_of(Txt::new(alloc), bytes);
     };
-    if *first == b'"' {
-        return Ok((text, after));
+    if *first != b'"' {
+        return escaped_of(Txt::new(alloc), bytes);
     }
-    escaped_of(text, rest)
+    let text = Txt::from_front(alloc, bytes, bytes.len() - rest.len())?;
+    Ok((text, after))
 }

@@ -16,6 +16,7 @@ mod number_parts;
 mod number_tests;
 mod read_amounts;
 mod real;
+mod short;
 mod streams;
 #[cfg(test)]
 mod tests;

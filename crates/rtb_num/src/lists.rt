@@ -30,6 +30,15 @@ impl<T> List<T> {
         }
     }
 
+    /// The empty list, which will take its memory from where this one does. It takes none.
+    pub fn new_like(&self) -> List<T>
+        ensures { result ≡ [] }
+    {
+        List {
+            items: Vec::new(*self.items.allocator()),
+        }
+    }
+
     /// The list of these items, in the memory that they are in.
     pub fn from_vec(items: Vec<T>) -> List<T>
         ensures { result ≡ items.items }

@@ -69,7 +69,7 @@ fn texts_and_lists_hold_what_was_put_in(rt: HostRuntime) -> Result<(), Fail> {
         (word.len(), word.get(2), word.get(3)),
         (3, Some(&b'd'), None)
     );
-    assert_eq!(rt; copy.into_vec().as_slice(), b"bids".as_slice());
+    assert_eq!(rt; copy.as_bytes(), b"bids".as_slice());
     let mut list = List::new(alloc);
     assert!(rt; list.is_empty());
     list.reserve(2)?;
@@ -78,6 +78,7 @@ fn texts_and_lists_hold_what_was_put_in(rt: HostRuntime) -> Result<(), Fail> {
     assert_eq!(rt; (list.len(), list.get(1), list.get(2)), (2, Some(&5), None));
     list.truncate(1);
     assert_eq!(rt; list.as_slice(), [3].as_slice());
+    assert!(rt; list.new_like().is_empty());
     assert_eq!(rt; list.into_vec().as_slice(), [3].as_slice());
     Ok(())
 }

@@ -8,17 +8,27 @@ ghost use Rattle.std.specs.Hash as fed;
 ghost use Rattle.std.specs.Cmp.Rules.{hashing};
 ghost use Rattle.std.proofs.Common.{rules, refl};
 
+use crate::short::{ROOM, Short};
 use std::alloc::{AllocError, Global};
 use std::cmp::Ordering;
+use std::fmt;
 use std::hash::{Hash, Hasher};
 use std::marker::Model;
 
+// Where a text's bytes lie: in the value itself, or in memory of their own.
+#[derive(Drop)]
+enum Kept {
+    Short(Short),
+    Long(Vec<u8>),
+}
+
 /// A text of bytes, which need not be UTF-8. Contracts see it as the list of its bytes.
 ///
-/// Two texts compare byte for byte. A growth that is refused memory leaves the text as it was.
-#[derive(Debug, Drop)]
+/// Two texts compare byte for byte. A growth that is refused memory leaves the text as it was. Up to
+/// 24 bytes lie in the value itself and take no memory, unless the text is made from a `Vec`.
+#[derive(Drop)]
 pub struct Txt {
-    bytes: Vec<u8>,
+    kept: Kept,
 }
 
 impl Model for Txt {
@@ -26,10 +36,13 @@ impl Model for Txt {
 
     ghost Value = { List ℕ };
 
-    ghost view = { λ a. a.bytes.items };
+    ghost use Rattle.rtb_num.specs.Kept.{bytes_of};
+
+    ghost view = { λ t. bytes_of t.kept };
 }
 
 // Says of a slice of bytes what its type says.
+#[inline]
 fn as_known(bytes: &[u8]) -> &[u8]
     ensures same { result.now ≡ bytes.now }
     ensures bytes { IsBytes result.now }
@@ -39,72 +52,118 @@ fn as_known(bytes: &[u8]) -> &[u8]
 
 impl Txt {
     /// The empty text. It takes no memory.
+    #[inline]
     pub fn new(alloc: Global) -> Txt
         ensures { result ≡ [] }
     {
         Txt {
-            bytes: Vec::new(alloc),
+            kept: Kept::Short(Short::new(alloc)),
         }
     }
 
     /// The text of these bytes, in the memory that they are in.
+    #[inline]
     pub fn from_vec(bytes: Vec<u8>) -> Txt
         ensures { result ≡ bytes.items }
     {
-        Txt { bytes }
+        Txt {
+            kept: Kept::Long(bytes),
+        }
     }
 
-    /// The bytes, in the memory that they are in.
-    pub fn into_vec(self) -> Vec<u8>
-        ensures { result.items ≡ self }
+    /// A text of these bytes.
+    pub fn from_slice(alloc: Global, bytes: &[u8]) -> Result<Txt, AllocError>
+        ensures { IfOk result (λ t. t ≡ bytes.now) }
     {
-        self.bytes
+        if bytes.len() <= ROOM {
+            return Ok(Txt {
+                kept: Kept::Short(Short::of(alloc, bytes)),
+            });
+        }
+        let copy = bytes.to_vec(alloc)?;
+        Ok(Txt::from_vec(copy))
+    }
+
+    /// A text of the first `n` bytes, or of all where there are fewer.
+    #[inline(always)]
+    pub fn from_front(alloc: Global, bytes: &[u8], n: usize) -> Result<Txt, AllocError>
+        ensures { IfOk result (λ t. t ≡ take n bytes.now) }
+    {
+        if n <= ROOM && ROOM <= bytes.len() {
+            return Ok(Txt {
+                kept: Kept::Short(Short::front_of(alloc, bytes, n)),
+            });
+        }
+        Txt::from_slice(alloc, &bytes[..n.min(bytes.len())])
     }
 
     /// How many bytes it has.
+    #[inline]
     pub fn len(&self) -> usize
         ensures { result ≡ length self.now }
     {
-        self.bytes.len()
+        self.as_bytes().len()
     }
 
     /// Whether it has no byte.
+    #[inline]
     pub fn is_empty(&self) -> bool
         ensures { IsTrue result ↔ (self.now ≡ []) }
     {
-        self.bytes.is_empty()
+        self.as_bytes().is_empty()
     }
 
     /// The bytes, each below 256.
+    #[inline]
     pub fn as_bytes(&self) -> &[u8]
         ensures value { result.now ≡ self.now }
         ensures bytes { IsBytes self.now }
     {
-        as_known(self.bytes.as_slice())
+        match &self.kept {
+            Kept::Short(short) => as_known(short.as_slice()),
+            Kept::Long(bytes) => as_known(bytes.as_slice()),
+        }
     }
 
     /// The byte at the place, counted from 0, or none at and past the end.
+    #[inline]
     pub fn get(&self, i: usize) -> Option<&u8>
         ensures { option_copied result ≡ slice_get self.now i }
     {
-        self.bytes.get(i)
+        self.as_bytes().get(i)
     }
 
     /// Appends one byte.
+    #[inline(always)]
     pub fn push(&mut self, byte: u8) -> Result<(), AllocError>
         ensures ok { OnOk result (self.new ≡ self.old ++ byte ∷ []) }
         ensures err { OnErr result (self.new ≡ self.old) }
     {
-        self.bytes.push(byte)?;
+        match &mut self.kept {
+            Kept::Short(short) if short.has_room(1) => short.push(byte),
+            Kept::Short(short) => {
+                let longer = short.spilled(&[byte])?;
+                self.kept = Kept::Long(longer);
+            }
+            Kept::Long(bytes) => bytes.push(byte)?,
+        }
         Ok(())
     }
 
     /// Appends these bytes, all or none.
+    #[inline]
     pub fn extend(&mut self, bytes: &[u8]) -> Result<(), AllocError>
         ensures ok { OnOk result (self.new ≡ self.old ++ bytes.now) }
         ensures err { OnErr result (self.new ≡ self.old) }
     {
-        self.bytes.extend_from_slice(bytes)?;
+        match &mut self.kept {
+            Kept::Short(short) if short.has_room(bytes.len()) => short.append(bytes),
+            Kept::Short(short) => {
+                let longer = short.spilled(bytes)?;
+                self.kept = Kept::Long(longer);
+            }
+            Kept::Long(kept) => kept.extend_from_slice(bytes)?,
+        }
         Ok(())
     }
 
@@ -112,14 +171,25 @@ impl Txt {
     pub fn truncate(&mut self, n: usize)
         ensures { self.new ≡ take n self.old }
     {
-        self.bytes.truncate(n);
+        match &mut self.kept {
+            Kept::Short(short) => short.truncate(n),
+            Kept::Long(bytes) => bytes.truncate(n),
+        }
     }
 
     /// Makes room for so many bytes more.
     pub fn reserve(&mut self, more: usize) -> Result<(), AllocError>
         ensures { self.new ≡ self.old }
     {
-        self.bytes.reserve(more)?;
+        match &mut self.kept {
+            Kept::Short(short) if short.has_room(more) => {}
+            Kept::Short(short) => {
+                let mut longer = short.spilled(&[])?;
+                longer.reserve(more)?;
+                self.kept = Kept::Long(longer);
+            }
+            Kept::Long(bytes) => bytes.reserve(more)?,
+        }
         Ok(())
     }
 
@@ -127,8 +197,19 @@ impl Txt {
     pub fn copy(&self) -> Result<Txt, AllocError>
         ensures { IfOk result (λ t. t ≡ self.now) }
     {
-        let bytes = self.bytes.clone()?;
-        Ok(Txt { bytes })
+        match &self.kept {
+            Kept::Short(short) => Ok(Txt {
+                kept: Kept::Short(short.duplicate()),
+            }),
+            Kept::Long(bytes) => Txt::from_slice(*bytes.allocator(), bytes.as_slice()),
+        }
+    }
+}
+
+impl fmt::Debug for Txt {
+    fn fmt<W: fmt::Write>(&self, f: &mut fmt::Formatter<W>) -> fmt::Result {
+        let bytes = self.as_bytes();
+        write!(f, "{bytes:?}")
     }
 }
 
@@ -138,7 +219,7 @@ impl PartialEq for Txt {
     ghost laws = { Cmp.partial_equiv_from_equiv nat_list_eq_equiv };
 
     fn eq(&self, other: &Txt) -> bool {
-        self.bytes == other.bytes
+        self.as_bytes() == other.as_bytes()
     }
 }
 
@@ -166,7 +247,7 @@ impl Ord for Txt {
     ghost matches_eq = { λ x y. texts_ties x y };
 
     fn cmp(&self, other: &Txt) -> Ordering {
-        self.bytes.cmp(&other.bytes)
+        self.as_bytes().cmp(other.as_bytes())
     }
 }
 
@@ -176,6 +257,6 @@ impl Hash for Txt {
     ghost respects_eq = { Prim.search (hashing, rules) };
 
     fn hash<H: Hasher>(&self, state: &mut H) {
-        self.bytes.hash(state);
+        self.as_bytes().hash(state);
     }
 }

@@ -1,4 +1,4 @@
-use Rattle.std.proofs.Common.{arith}
+use Rattle.std.proofs.Common.{◌∙◌, sym, arith}
 use Rattle.std.proofs.lemmas.List.{nil_from_length}
 use Rattle.std.proofs.lemmas.Result.{err_from_is_err_and}
 use Rattle.exact_json.proofs.Bodies.{kept, kept_short, kept_quote, kept_fails, kept_more}
@@ -24,7 +24,7 @@ pub loop-text-preserved : goal.loop-text-preserved
 loop-text-preserved c =
     let now = kept _ _ _ _ _ _ _ _ c.loop-text.invariant.same (c.in_ok-run.ensures.gives c.loop-text.high) (c.in_ok-high.ensures.value c.in_ok-run.rest.now) in
     record {
-      same = kept_more _ _ _ _ _ _ _ _ _ _ now c.in-Some.ensures.cases.0 c.in_ok-run.ensures.ends c.if-first-eq34.false c.in_ok-escape.ensures.gives c.in_ok-high-2.ensures.value;
+      same = kept_more _ _ _ _ _ _ _ _ _ _ now c.in-Some.ensures.cases.0 c.in_ok-run.ensures.ends c.if-first-eq34.false c.in_ok-escape.ensures.gives c.in_ok-high-2.ensures.value ∙ sym c.in_ok-left.ensures.value;
       high = c.in_ok-high-2.ensures.high;
-      within = omega (arith, c.loop-text.invariant.within, c.in_ok-run.ensures.shorter, c.in-Some.ensures.cases.1, c.in_ok-escape.ensures.shorter);
+      within = omega (arith, c.loop-text.invariant.within, c.in_ok-run.ensures.shorter, c.in-Some.ensures.cases.1, c.in_ok-escape.ensures.shorter, c.in_ok-left.ensures.shorter);
     }
