@@ -1,0 +1,84 @@
+-- No attribute stands twice among the present rows, since the rows rise by attribute.
+use Rattle.std.proofs.Common.{◌≡◌, ℕ, ◌≤◌, ◌==◌, ◌&&◌, ◌||◌, not, nat_lt, List, [], ◌∷◌, ◌++◌, Bool, true, false, Some, None, option_and_then, refl, ◌∙◌, ap, arith, append-nil}
+use Rattle.std.specs.List.{flat_map, list_any}
+use Rattle.std.proofs.lemmas.Bool.{false≢true}
+use Rattle.std.proofs.lemmas.Bool.Decides.{nat_tests}
+use Rattle.std.proofs.lemmas.Grind.{flat_map-append}
+use Rattle.rtb_types.specs.declared.request.BidRequest.{BidRequest}
+use Rattle.rtb_types.specs.declared.request.Device.{Device}
+use Rattle.rtb_types.specs.declared.request.Imp.{Imp}
+use Rattle.target_expr.specs.declared.attr.Attr.{Attr}
+use Rattle.target_expr.specs.declared.attr.Attr.TheVariants.{Publisher}
+use Rattle.target_expr.specs.Attributes.{number_of}
+use Rattle.target_expr.specs.Truth.{are_single, same_attr}
+use Rattle.assign.specs.Rows.{Row, app_rows, device_rows, geo_rows, imp_rows, pairs_of, present, publisher_of, rows, site_rows, user_rows}
+
+-- each row's attribute is above n, and above the one before
+rise_from : ℕ → List Row → Bool
+rise_from n [] = true
+rise_from n (row ∷ rest) = nat_lt n (number_of row.0) && rise_from (number_of row.0) rest
+
+left : (a b : Bool) → (a && b) ≡ true → a ≡ true
+left true b h = refl
+left false b h = absurd (false≢true h)
+
+right : (a b : Bool) → (a && b) ≡ true → b ≡ true
+right true b h = h
+right false b h = absurd (false≢true h)
+
+other : (m n k : ℕ) → m ≤ n → nat_lt n k ≡ true → (k == m) ≡ false
+other m n k le h = grind (arith, nat_tests)
+
+higher : (m n k : ℕ) → m ≤ n → nat_lt n k ≡ true → m ≤ k
+higher m n k le h = grind (arith, nat_tests)
+
+itself : (k : ℕ) → k ≤ k
+itself k = omega arith
+
+none_same : (a : Attr) (n : ℕ) (rest : List Row) → number_of a ≤ n → rise_from n rest ≡ true → list_any (λ (q : Attr × List ℕ). same_attr q.0 a) (flat_map present rest) ≡ false
+unfolding rise_from
+none_same a n [] le h = refl
+none_same a n ((b, None) ∷ rest) le h = none_same a (number_of b) rest (higher (number_of a) n (number_of b) le (left (nat_lt n (number_of b)) (rise_from (number_of b) rest) h)) (right (nat_lt n (number_of b)) (rise_from (number_of b) rest) h)
+none_same a n ((b, Some t) ∷ rest) le h =
+    let first = left (nat_lt n (number_of b)) (rise_from (number_of b) rest) h in
+    ap (λ c. c || list_any (λ (q : Attr × List ℕ). same_attr q.0 a) (flat_map present rest)) (other (number_of a) n (number_of b) le first)
+    ∙ none_same a (number_of b) rest (higher (number_of a) n (number_of b) le first) (right (nat_lt n (number_of b)) (rise_from (number_of b) rest) h)
+
+single : (n : ℕ) (rest : List Row) → rise_from n rest ≡ true → are_single (flat_map present rest) ≡ true
+unfolding rise_from
+single n [] h = refl
+single n ((b, None) ∷ rest) h = single (number_of b) rest (right (nat_lt n (number_of b)) (rise_from (number_of b) rest) h)
+single n ((b, Some t) ∷ rest) h =
+    let later = right (nat_lt n (number_of b)) (rise_from (number_of b) rest) h in
+    ap (λ c. not c && are_single (flat_map present rest)) (none_same b (number_of b) rest (itself (number_of b)) later) ∙ single (number_of b) rest later
+
+all_rise : (r : BidRequest) (i : Imp) → rise_from 0 (rows r i) ≡ true
+unfolding rise_from site_rows app_rows geo_rows device_rows user_rows imp_rows
+all_rise r i = refl
+
+pub pairs_single : (r : BidRequest) (i : Imp) → are_single (pairs_of r i) ≡ true
+unfolding pairs_of
+pairs_single r i = single 0 (rows r i) (all_rise r i)
+
+abbrev pub all_present : List Row → List (Attr × List ℕ)
+all_present group = flat_map present group
+
+seven : (s a p g d u i : List Row) → all_present ((((((s ++ a) ++ p) ++ g) ++ d) ++ u) ++ i) ≡ (((((all_present s ++ all_present a) ++ all_present p) ++ all_present g) ++ all_present d) ++ all_present u) ++ all_present i
+seven s a p g d u i =
+    flat_map-append present (((((s ++ a) ++ p) ++ g) ++ d) ++ u) i
+    ∙ ap (λ l. l ++ all_present i) (flat_map-append present ((((s ++ a) ++ p) ++ g) ++ d) u
+    ∙ ap (λ l. l ++ all_present u) (flat_map-append present (((s ++ a) ++ p) ++ g) d
+    ∙ ap (λ l. l ++ all_present d) (flat_map-append present ((s ++ a) ++ p) g
+    ∙ ap (λ l. l ++ all_present g) (flat_map-append present (s ++ a) p
+    ∙ ap (λ l. l ++ all_present p) (flat_map-append present s a)))))
+
+-- the groups of rows one after the other
+pub in_groups : (r : BidRequest) (i : Imp) → pairs_of r i ≡ (((((flat_map present (site_rows r.site) ++ flat_map present (app_rows r.app)) ++ present (Publisher, publisher_of r.site r.app))
+    ++ flat_map present (geo_rows (option_and_then (λ (d : Device). d.geo) r.device))) ++ flat_map present (device_rows r.device)) ++ flat_map present (user_rows r.user)) ++ flat_map present (imp_rows i)
+unfolding pairs_of
+in_groups r i =
+    let g = flat_map present (geo_rows (option_and_then (λ (d : Device). d.geo) r.device)) in
+    let front = flat_map present (site_rows r.site) ++ flat_map present (app_rows r.app) in
+    let row : Row = (Publisher, publisher_of r.site r.app) in
+    seven (site_rows r.site) (app_rows r.app) (row ∷ []) (geo_rows (option_and_then (λ (d : Device). d.geo) r.device)) (device_rows r.device) (user_rows r.user) (imp_rows i)
+    ∙ ap (λ l. ((((front ++ l) ++ g) ++ flat_map present (device_rows r.device)) ++ flat_map present (user_rows r.user)) ++ flat_map present (imp_rows i)) (append-nil (present row))

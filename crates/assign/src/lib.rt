@@ -1,0 +1,11 @@
+//! The values that an impression assigns to the attributes of targeting expressions.
+//!
+//! `specs/Rows.antt` has the table: which field of the bid request each attribute is.
+#![tactic(auto)]
+
+mod rows;
+mod table;
+#[cfg(test)]
+mod tests;
+
+pub use table::{assignment, no_attribute_stands_twice};

@@ -1,0 +1,159 @@
+ghost use Rattle.std.specs.Prelude.{◌≡◌, ◌++◌, ◌∷◌, ℕ, List, OnOk, OnErr};
+ghost use Rattle.rtb_types.specs.Paths.{banner_path, deal_path, imp_path, path, place, pmp_path};
+
+use crate::field::Field;
+use itoa::Buffer;
+use rtb_num::Txt;
+use std::alloc::AllocError;
+
+// Appends these bytes, or nothing.
+fn put(bytes: &[u8], out: &mut Txt) -> Result<(), AllocError>
+    ensures ok { OnOk result (out.new ≡ out.old ++ bytes.now) }
+    ensures grows { (more : List ℕ) × (out.new ≡ out.old ++ more) }
+{
+    out.extend(bytes)
+}
+
+// Appends a place in an array, or a front of it.
+fn put_place(index: usize, out: &mut Txt) -> Result<(), AllocError>
+    ensures ok { OnOk result (out.new ≡ out.old ++ place index) }
+    ensures grows { (more : List ℕ) × (out.new ≡ out.old ++ more) }
+{
+    let mut buffer = Buffer::new();
+    put(b"[", out)?;
+    put(buffer.format(index).as_bytes(), out)?;
+    put(b"]", out)?;
+    Ok(())
+}
+
+fn put_imp(imp: usize, out: &mut Txt) -> Result<(), AllocError>
+    ensures ok { OnOk result (out.new ≡ out.old ++ imp_path imp) }
+    ensures grows { (more : List ℕ) × (out.new ≡ out.old ++ more) }
+{
+    put(b"imp", out)?;
+    put_place(imp, out)?;
+    Ok(())
+}
+
+fn put_banner(imp: usize, out: &mut Txt) -> Result<(), AllocError>
+    ensures ok { OnOk result (out.new ≡ out.old ++ banner_path imp) }
+    ensures grows { (more : List ℕ) × (out.new ≡ out.old ++ more) }
+{
+    put_imp(imp, out)?;
+    put(b".banner", out)?;
+    Ok(())
+}
+
+fn put_pmp(imp: usize, out: &mut Txt) -> Result<(), AllocError>
+    ensures ok { OnOk result (out.new ≡ out.old ++ pmp_path imp) }
+    ensures grows { (more : List ℕ) × (out.new ≡ out.old ++ more) }
+{
+    put_imp(imp, out)?;
+    put(b".pmp", out)?;
+    Ok(())
+}
+
+fn put_deal(imp: usize, deal: usize, out: &mut Txt) -> Result<(), AllocError>
+    ensures ok { OnOk result (out.new ≡ out.old ++ deal_path imp deal) }
+    ensures grows { (more : List ℕ) × (out.new ≡ out.old ++ more) }
+{
+    put_pmp(imp, out)?;
+    put(b".deals", out)?;
+    put_place(deal, out)?;
+    Ok(())
+}
+
+// Appends a name behind a prefix.
+fn put_name(prefix: &[u8], name: &[u8], out: &mut Txt) -> Result<(), AllocError>
+    ensures ok { OnOk result (out.new ≡ out.old ++ (prefix.now ++ name.now)) }
+    ensures grows { (more : List ℕ) × (out.new ≡ out.old ++ more) }
+{
+    put(prefix, out)?;
+    put(name, out)?;
+    Ok(())
+}
+
+// Appends a name and a place in its list.
+fn put_item(name: &[u8], index: usize, out: &mut Txt) -> Result<(), AllocError>
+    ensures ok { OnOk result (out.new ≡ out.old ++ (name.now ++ place index)) }
+    ensures grows { (more : List ℕ) × (out.new ≡ out.old ++ more) }
+{
+    put(name, out)?;
+    put_place(index, out)?;
+    Ok(())
+}
+
+// Appends what stands behind a point.
+fn put_member(name: &[u8], out: &mut Txt) -> Result<(), AllocError>
+    ensures ok { OnOk result (out.new ≡ out.old ++ (46 ∷ name.now)) }
+    ensures grows { (more : List ℕ) × (out.new ≡ out.old ++ more) }
+{
+    put(b".", out)?;
+    put(name, out)?;
+    Ok(())
+}
+
+// Appends the path of the field, or a front of it.
+fn put_path(field: &Field, out: &mut Txt) -> Result<(), AllocError>
+    ensures ok { OnOk result (out.new ≡ out.old ++ path field.now) }
+    ensures grows { (more : List ℕ) × (out.new ≡ out.old ++ more) }
+{
+    match *field {
+        Field::Request(name) => put(name.name(), out)?,
+        Field::RequestItem(name, at) => put_item(name.name(), at, out)?,
+        Field::Site(name) => put_name(b"site.", name.name(), out)?,
+        Field::App(name) => put_name(b"app.", name.name(), out)?,
+        Field::Device(name) => put_name(b"device.", name.name(), out)?,
+        Field::Geo(name) => put_name(b"device.geo.", name.name(), out)?,
+        Field::User(name) => put_name(b"user.", name.name(), out)?,
+        Field::Imp(imp, name) => {
+            put_imp(imp, out)?;
+            put_member(name.name(), out)?;
+        }
+        Field::Banner(imp, name) => {
+            put_banner(imp, out)?;
+            put_member(name.name(), out)?;
+        }
+        Field::BannerItem(imp, name, at) => {
+            put_banner(imp, out)?;
+            put_member(name.name(), out)?;
+            put_place(at, out)?;
+        }
+        Field::Format(imp, at, name) => {
+            put_banner(imp, out)?;
+            put_item(b".format", at, out)?;
+            put_member(name.name(), out)?;
+        }
+        Field::Pmp(imp, name) => {
+            put_pmp(imp, out)?;
+            put_member(name.name(), out)?;
+        }
+        Field::Deal(imp, deal) => put_deal(imp, deal, out)?,
+        Field::OfDeal(imp, deal, name) => {
+            put_deal(imp, deal, out)?;
+            put_member(name.name(), out)?;
+        }
+        Field::DealItem(imp, deal, name, at) => {
+            put_deal(imp, deal, out)?;
+            put_member(name.name(), out)?;
+            put_place(at, out)?;
+        }
+    }
+    Ok(())
+}
+
+impl Field {
+    /// Appends its path, as `imp[0].pmp.deals[1].bidfloor`. Where memory is refused the text stays as
+    /// it was.
+    pub fn write(&self, out: &mut Txt) -> Result<(), AllocError>
+        ensures ok { OnOk result (out.new ≡ out.old ++ path self.now) }
+        ensures err { OnErr result (out.new ≡ out.old) }
+    {
+        let before = out.len();
+        let written = put_path(self, out);
+        if written.is_err() {
+            out.truncate(before);
+        }
+        written
+    }
+}

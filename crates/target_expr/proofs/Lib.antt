@@ -1,0 +1,9 @@
+pub mod ByteOrder
+pub mod Encoding
+pub mod Enumerated
+pub mod Faults
+pub mod Finds
+pub mod Keeping
+pub mod Limits
+pub mod Meaning
+pub mod Singles

@@ -1,0 +1,27 @@
+use Rattle.std.proofs.Common.{◌∙◌, ap, arith}
+use Rattle.std.proofs.lemmas.List.Sums.{sum_by_more_le}
+use Rattle.target_expr.specs.Pairs.{bytes_in}
+use Rattle.target_expr.specs.Kept.{is_kept, is_kept_conjunction}
+use Rattle.target_expr.proofs.Limits.{expr_bytes, expr_conjunctions, passes_at}
+use Rattle.target_expr.proofs.expr.Expr.text_bytes.Goals as goal
+
+pub overflow_add-all : goal.overflow_add-all
+overflow_add-all c =
+    let xs = c.as_slice-conjunction-items.result.now in
+    let kept = ap is_kept c.as_slice-conjunction-items.ensures.value ∙ c.as_slice-conjunction-items.ensures.is_kept in
+    omega (
+      arith,
+      sum_by_more_le bytes_in xs c.loop-conjunction.conjunction-index c.conjunction-item.result c.loop-conjunction-test.true,
+      expr_bytes xs kept,
+      ap bytes_in c.conjunction-item.is,
+      ap bytes_in c.as_slice.ensures,
+      c.loop-conjunction.invariant,
+      c.bytes_in-all.ensures,
+    )
+
+pub bytes_in-all-requires : goal.bytes_in-all-requires
+bytes_in-all-requires c =
+    let xs = c.as_slice-conjunction-items.result.now in
+    let kept = ap is_kept c.as_slice-conjunction-items.ensures.value ∙ c.as_slice-conjunction-items.ensures.is_kept in
+    ap is_kept_conjunction (c.as_slice.ensures ∙ c.conjunction-item.is)
+    ∙ passes_at is_kept_conjunction xs c.loop-conjunction.conjunction-index c.conjunction-item.result c.loop-conjunction-test.true (expr_conjunctions xs kept)
