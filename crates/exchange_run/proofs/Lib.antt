@@ -1,10 +1,6 @@
-pub mod Amounts
 pub mod Campaigns
 pub mod Each
-pub mod Imps
-pub mod Names
 pub mod Places
 pub mod Sales
 pub mod Texts
-pub mod Moved
 pub mod Replies

@@ -1,39 +1,51 @@
 -- Which reply the reading of a text leads to.
-use Rattle.std.proofs.Common.{◌≡◌, ℕ, ◌≤◌, List, length, map, Option, None, Some, Result, Ok, Err, IfOk, OnOk, refl, sym, ap, ◌∙◌, inl, inr, arith}
-use Rattle.std.specs.Option.{option_map_or}
+use Rattle.std.proofs.Common.{◌≡◌, ℕ, ◌≤◌, List, [], ◌∷◌, ◌⊎◌, inl, inr, length, map, Some, Result, Ok, Err, IfOk, OnOk, sym, ap, ◌∙◌, arith}
 use Rattle.exact_json.specs.Tree.{Tree}
 use Rattle.exact_json.specs.declared.fault.JsonFault.{JsonFault}
 use Rattle.exact_json.specs.declared.fault.JsonFault.TheVariants.{Memory}
+use Rattle.exact_json.specs.Faults.{Explains}
 use Rattle.exact_json.specs.Grammar.{IsText}
-use Rattle.exchange_run.specs.Words.{Campaign, campaigns_of}
-use Rattle.exchange_run.specs.Request.{Request, request_of}
-use Rattle.exchange_run.specs.Answer.{IsReply, IsRequest, max_input, not_plain_reply, reply_to}
+use Rattle.rtb_types.specs.declared.request.BidRequest.{BidRequest}
+use Rattle.rtb_read.specs.Request.{request_faults, request_from}
+use Rattle.rtb_read.specs.declared.fault.ReqFault.{ReqFault}
+use Rattle.rtb_read.specs.declared.fault.ReqFault.TheVariants.{Memory as Unread}
+use Rattle.json_fields.specs.Answers.{IsFirst}
+use Rattle.exchange_run.specs.Words.{Campaign, campaign_of, campaigns_of}
+use Rattle.exchange_run.specs.Refusals.{json_fault_text, request_fault_text}
+use Rattle.exchange_run.specs.Answer.{IsReply, faulty, max_input, refusal_of, reply_by, reply_to, said, tree_reply}
 use Rattle.exchange_run.specs.View.{campaign_view}
 use Rattle.exchange_run.specs.declared.words.NamedCampaign.{NamedCampaign}
 use Rattle.exchange_run.specs.declared.try_command.Reply.{Reply}
 use Rattle.exchange_run.proofs.Each.{each_length}
 use Rattle.std.proofs.lemmas.List.{length-map}
-use Rattle.exchange_run.specs.Words.{campaign_of}
 
-two : {A : Type 0} (r : A) → None ≡ Some r → ⊥
-two r e = cc
+-- of a text whose request has no fault
+pub accepted : {E : Type 0} (cs : List Campaign) (t : Tree) (r : BidRequest) (reply : Result Reply E) → request_faults t ≡ [] → r ≡ request_from t
+    → IfOk reply (λ x. x ≡ reply_to cs r) → IfOk reply (λ x. x ≡ tree_reply cs t)
+accepted cs t r (Ok x) none same e = e ∙ ap (reply_to cs) same ∙ ap (λ fs. reply_by cs fs (request_from t)) (sym none)
+accepted cs t r (Err f) none same e = e
 
-by_request : (cs : List Campaign) (bytes : List ℕ) (t : Tree) (x : Reply) (o : Option Request) → length bytes ≤ max_input → IsText t bytes → ((u : Tree) → IsText u bytes → t ≡ u)
-    → request_of t ≡ o → x ≡ option_map_or (reply_to cs) o not_plain_reply → IsReply cs bytes x
-by_request cs bytes t x (Some r) le spelled only means e = inl (r, record { within = le; tree = t; spelled = spelled; means = means }, e)
-by_request cs bytes t x None le spelled only means e = inr (λ r is. two r (sym means ∙ ap request_of (only is.tree is.spelled) ∙ is.means), e)
+first : (cs : List Campaign) (t : Tree) (f : ReqFault) (x : Reply) → (f ≡ Unread → ⊥) → (f ≡ Unread) ⊎ ((rest : List ReqFault) × (request_faults t ≡ f ∷ rest)) → x ≡ refusal_of (request_fault_text f) → x ≡ tree_reply cs t
+first cs t f x other (inl memory) e = absurd (other memory)
+first cs t f x other (inr (rest, faults)) e = e ∙ ap (λ fs. reply_by cs fs (request_from t)) (sym faults)
 
--- of a text that spells one tree
-pub found : {E : Type 0} (cs : List Campaign) (bytes : List ℕ) (t : Tree) (reply : Result Reply E) → length bytes ≤ max_input → IsText t bytes → ((u : Tree) → IsText u bytes → t ≡ u)
-    → IfOk reply (λ x. x ≡ option_map_or (reply_to cs) (request_of t) not_plain_reply) → IfOk reply (IsReply cs bytes)
-found cs bytes t (Ok x) le spelled only e = by_request cs bytes t x (request_of t) le spelled only refl e
-found cs bytes t (Err f) le spelled only e = e
+-- of a text whose request has a fault
+pub rejected : {E : Type 0} (cs : List Campaign) (t : Tree) (f : ReqFault) (reply : Result Reply E) → IsFirst Unread (request_faults t) f
+    → IfOk reply (λ x. x ≡ refusal_of (request_fault_text f)) → OnOk reply (f ≡ Unread → ⊥) → IfOk reply (λ x. x ≡ tree_reply cs t)
+rejected cs t f (Ok x) is e other = first cs t f x other is.first e
+rejected cs t f (Err y) is e other = e
+
+-- of a text
+pub found : {E : Type 0} (cs : List Campaign) (bytes : List ℕ) (t : Tree) (reply : Result Reply E) → length bytes ≤ max_input → IsText t bytes
+    → IfOk reply (λ x. x ≡ tree_reply cs t) → IfOk reply (IsReply cs bytes)
+found cs bytes t (Ok x) le spelled e = said le t spelled e
+found cs bytes t (Err f) le spelled e = e
 
 -- of bytes whose reading failed, and not for want of memory
-pub refused : {E : Type 0} (cs : List Campaign) (bytes : List ℕ) (reply : Result Reply E) (fault : JsonFault) → ((t : Tree) → IsText t bytes → fault ≡ Memory)
-    → IfOk reply (λ x. x ≡ not_plain_reply) → OnOk reply (fault ≡ Memory → ⊥) → IfOk reply (IsReply cs bytes)
-refused cs bytes (Ok x) fault only e other = inr (λ r is. other (only is.tree is.spelled), e)
-refused cs bytes (Err f) fault only e other = e
+pub refused : {E : Type 0} (cs : List Campaign) (bytes : List ℕ) (reply : Result Reply E) (fault : JsonFault) → length bytes ≤ max_input → Explains bytes fault
+    → IfOk reply (λ x. x ≡ refusal_of (json_fault_text fault)) → OnOk reply (fault ≡ Memory → ⊥) → IfOk reply (IsReply cs bytes)
+refused cs bytes (Ok x) fault le explained e other = faulty le fault other explained e
+refused cs bytes (Err f) fault le explained e other = e
 
 -- as many campaigns as words
 pub few : (words : List (List ℕ)) (cs : List NamedCampaign) → Some (map campaign_view cs) ≡ campaigns_of words → length words ≤ 64 → length cs ≤ 64

@@ -1,16 +1,15 @@
 -- What one more campaign, and one more impression, changes.
-use Rattle.std.proofs.Common.{◌≡◌, ℕ, ◌+◌, ◌<◌, nat_le, ◌&&◌, List, [], ◌∷◌, ◌++◌, length, take, get_or, map, Bool, true, false, Option, None, Some, cond, option_to_list, refl, sym, ap, ◌∙◌, arith}
+use Rattle.std.proofs.Common.{◌≡◌, ℕ, ◌+◌, ◌<◌, nat_le, ◌&&◌, List, [], ◌∷◌, ◌++◌, length, take, get_or, map, Bool, true, false, Option, None, Some, is_some, cond, option_to_list, refl, sym, ap, ◌∙◌, arith}
 use Rattle.std.specs.Prelude.{IsTrue}
 use Rattle.std.specs.List.{list_all, cons_option, enumerate_from, filter_map}
 use Rattle.std.proofs.lemmas.List.{length-map, length-take, map_push, take_more}
 use Rattle.std.proofs.lemmas.List.Elements.{filter_map-append}
 use Rattle.clearing.specs.Clearing.{is_fit}
 use Rattle.clearing.specs.declared.Offer.{Offer}
-use Rattle.exchange_run.specs.View.{campaign_view, imp_view}
+use Rattle.exchange_run.specs.View.{campaign_view}
 use Rattle.exchange_run.specs.declared.words.NamedCampaign.{NamedCampaign}
-use Rattle.exchange_run.specs.declared.request.PlainImp.{PlainImp}
 use Rattle.exchange_run.specs.Words.{Campaign}
-use Rattle.exchange_run.specs.Request.{Imp}
+use Rattle.rtb_types.specs.declared.request.Imp.{Imp}
 use Rattle.exchange_run.specs.Auction.{is_offering, is_wanted, offer_of, offers_of, terms_of}
 
 alone : {A B : Type 0} (h : A → Option B) (x : A) → filter_map h (x ∷ []) ≡ option_to_list (h x)
@@ -52,14 +51,13 @@ fit_from : (n : ℕ) (domain : Option (List ℕ)) (imp : Imp) (cs : List Campaig
 fit_from n domain imp [] = refl
 fit_from n domain imp (c ∷ cs) =
     fit_step imp (is_offering domain imp c) (record { campaign = n; bid = c.bid; pool = 0 }) (filter_map (offer_of domain imp) (enumerate_from (n + 1) cs))
-    (λ e. last imp.banner (is_wanted c.domain domain) (nat_le imp.floor c.bid) e) (fit_from (n + 1) domain imp cs)
+    (λ e. last (is_some imp.banner) (is_wanted c.domain domain) (nat_le imp.floor c.bid) e) (fit_from (n + 1) domain imp cs)
 
 pub offers_fit : (domain : Option (List ℕ)) (imp : Imp) (cs : List Campaign) → IsTrue (list_all (is_fit (terms_of imp)) (offers_of domain imp cs))
 offers_fit domain imp cs = fit_from 1 domain imp cs
 
 -- one impression more
-pub sales_step : {A : Type 0} (h : Imp → Option A) (is : List PlainImp) (k : ℕ) (d : PlainImp) → k < length is → d ≡ get_or is k d
-    → filter_map h (map imp_view (take (k + 1) is)) ≡ filter_map h (map imp_view (take k is)) ++ option_to_list (h (imp_view d))
+pub sales_step : {A : Type 0} (h : Imp → Option A) (is : List Imp) (k : ℕ) (d : Imp) → k < length is → d ≡ get_or is k d
+    → filter_map h (take (k + 1) is) ≡ filter_map h (take k is) ++ option_to_list (h d)
 sales_step h is k d lt e =
-    let front : map imp_view (take (k + 1) is) ≡ map imp_view (take k is) ++ imp_view d ∷ [] = ap (map imp_view) (take_more is k d lt ∙ ap (λ i. take k is ++ i ∷ []) (sym e)) ∙ map_push imp_view (take k is) d in
-    ap (filter_map h) front ∙ filter_map-append h (map imp_view (take k is)) (imp_view d ∷ []) ∙ ap (λ l. filter_map h (map imp_view (take k is)) ++ l) (alone h (imp_view d))
+    ap (filter_map h) (take_more is k d lt ∙ ap (λ i. take k is ++ i ∷ []) (sym e)) ∙ filter_map-append h (take k is) (d ∷ []) ∙ ap (λ l. filter_map h (take k is) ++ l) (alone h d)

@@ -15,6 +15,9 @@ use Rattle.exchange_run.proofs.Sales.{numbered_push}
 pub in_three : (o a b c : List ℕ) → ((o ++ a) ++ b) ++ c ≡ o ++ ((a ++ b) ++ c)
 in_three o a b c = ap (λ l. l ++ c) (append_assoc o a b) ∙ append_assoc o (a ++ b) c
 
+pub in_five : (o a b c d e : List ℕ) → ((((o ++ a) ++ b) ++ c) ++ d) ++ e ≡ o ++ ((((a ++ b) ++ c) ++ d) ++ e)
+in_five o a b c d e = ap (λ l. (l ++ d) ++ e) (in_three o a b c) ∙ in_three o ((a ++ b) ++ c) d e
+
 -- one piece more
 pub piece_step : (o : List ℕ) (ps : List (Bor (List ℕ))) (k : ℕ) (d : Bor (List ℕ)) → k < length ps → (o ++ concat (map (λ p. p.now) (take k ps))) ++ (get_or ps k d).now ≡ o ++ concat (map (λ p. p.now) (take (k + 1) ps))
 piece_step o ps k d lt =

@@ -1,7 +1,8 @@
 pub mod Each
 pub mod Words
-pub mod Request
 pub mod Auction
 pub mod Response
+pub mod Refusals
+pub mod Unbuilt
 pub mod Answer
 pub mod View

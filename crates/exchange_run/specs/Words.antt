@@ -1,17 +1,15 @@
 -- The words of the command `try`: each is a campaign.
-use Rattle.std.specs.Prelude.{ℕ, ◌-◌, ◌*◌, ◌^◌, ◌==◌, ◌&&◌, nat_le, List, [], ◌∷◌, length, Bool, cond, Option, None, Some, option_map, option_and_then, codes}
+use Rattle.std.specs.Prelude.{ℕ, ◌==◌, ◌&&◌, nat_le, List, [], ◌∷◌, length, Bool, cond, Option, None, Some, option_map, option_and_then, codes}
 use Rattle.std.specs.List.{list_any, before_first, after_first}
 use Rattle.std.specs.Str.{bytes_eq}
 use Rattle.exchange_run.specs.Each.{each_of}
-use Rattle.rtb_num.specs.Amounts.{is_decimal, number_of, digits_of, places_of}
+use Rattle.std.specs.Result.{result_ok}
+use Rattle.rtb_num.specs.Numbers.{is_number}
+use Rattle.json_fields.specs.Amounts.{exact_of}
 
--- what a decimal text of at most six places is worth in millionths
-abbrev pub millionths : List ℕ → ℕ
-millionths text = number_of (digits_of text) * 10 ^ (6 - places_of text)
-
--- a decimal text of at most six places that is worth at most a million, in millionths
+-- a number of JSON that is an exact amount of micro-dollars, up to a million dollars
 abbrev pub amount_of : List ℕ → Option ℕ
-amount_of text = cond (is_decimal text && (nat_le (places_of text) 6 && nat_le (millionths text) (10 ^ 12))) (Some (millionths text)) None
+amount_of text = cond (is_number text) (result_ok (exact_of text)) None
 
 -- a campaign: what it bids, in micro-dollars per thousand impressions, and the site domain that it
 -- wants, where it wants only one

@@ -1,13 +1,13 @@
 ghost use Rattle.std.specs.Prelude.{◌≡◌, ◌≤◌, ◌++◌, length, map, option_map, option_to_list, IfOk, IsTrue, OnOk};
 ghost use Rattle.std.specs.List.{list_all};
 ghost use Rattle.clearing.specs.Clearing.{is_fit};
-ghost use Rattle.exchange_run.specs.Auction.{is_wanted, is_offering as is_offering_of, offer_of, offers_of, sale_by, sales_of, terms_of};
-ghost use Rattle.exchange_run.specs.View.{campaign_view, imp_view, request_view, sale_view};
+ghost use Rattle.exchange_run.specs.Auction.{is_wanted, is_offering as is_offering_of, offer_of, offers_of, sale_by, sales_of, site_domain_of, terms_of};
+ghost use Rattle.exchange_run.specs.View.{campaign_view, sale_view};
 
-use crate::request::{PlainImp, PlainRequest};
 use crate::words::NamedCampaign;
 use clearing::{Offer, PriceKind, Terms, clear};
 use rtb_num::{Micros, Txt};
+use rtb_types::{BidRequest, Imp};
 use std::alloc::{AllocError, Global};
 
 /// A sale of an impression.
@@ -21,23 +21,32 @@ pub(crate) struct SoldImp<'a> {
     pub price: Micros,
 }
 
+fn site_domain(request: &BidRequest) -> Option<&Txt>
+    ensures { option_map (λ d. d.now) result ≡ site_domain_of request.now }
+{
+    match &request.site {
+        Some(site) => site.domain.as_ref(),
+        None => None,
+    }
+}
+
 // Whether the request is for the domain that the campaign wants, if it wants one.
-fn is_wanted_domain(campaign: &NamedCampaign, request: &PlainRequest) -> bool
-    ensures { result ≡ is_wanted (campaign_view campaign.now).domain (request_view request.now).domain }
+fn is_wanted_domain(campaign: &NamedCampaign, request: &BidRequest) -> bool
+    ensures { result ≡ is_wanted (campaign_view campaign.now).domain (site_domain_of request.now) }
 {
     match campaign.domain {
         None => true,
-        Some(wanted) => match request.domain {
+        Some(wanted) => match site_domain(request) {
             None => false,
             Some(domain) => domain.as_bytes() == wanted,
         },
     }
 }
 
-fn is_offering(campaign: &NamedCampaign, request: &PlainRequest, imp: &PlainImp) -> bool
-    ensures { result ≡ is_offering_of (request_view request.now).domain (imp_view imp.now) (campaign_view campaign.now) }
+fn is_offering(campaign: &NamedCampaign, request: &BidRequest, imp: &Imp) -> bool
+    ensures { result ≡ is_offering_of (site_domain_of request.now) imp.now (campaign_view campaign.now) }
 {
-    if !imp.banner {
+    if imp.banner.is_none() {
         return false;
     }
     if !is_wanted_domain(campaign, request) {
@@ -47,13 +56,8 @@ fn is_offering(campaign: &NamedCampaign, request: &PlainRequest, imp: &PlainImp)
 }
 
 // The offer of the campaign of that number, if it makes one.
-fn offer_by(
-    number: u32,
-    campaign: &NamedCampaign,
-    request: &PlainRequest,
-    imp: &PlainImp,
-) -> Option<Offer>
-    ensures { result ≡ offer_of (request_view request.now).domain (imp_view imp.now) (number, campaign_view campaign.now) }
+fn offer_by(number: u32, campaign: &NamedCampaign, request: &BidRequest, imp: &Imp) -> Option<Offer>
+    ensures { result ≡ offer_of (site_domain_of request.now) imp.now (number, campaign_view campaign.now) }
 {
     if is_offering(campaign, request, imp) {
         Some(Offer {
@@ -79,11 +83,11 @@ fn push_offer(offers: &mut Vec<Offer>, offer: Option<Offer>) -> Result<(), Alloc
 fn collect_offers(
     offers: &mut Vec<Offer>,
     campaigns: &[NamedCampaign],
-    request: &PlainRequest,
-    imp: &PlainImp,
+    request: &BidRequest,
+    imp: &Imp,
 ) -> Result<(), AllocError>
     requires { length campaigns.now ≤ 64 }
-    ensures { OnOk result (offers.new.items ≡ offers_of (request_view request.now).domain (imp_view imp.now) (map campaign_view campaigns.now)) }
+    ensures { OnOk result (offers.new.items ≡ offers_of (site_domain_of request.now) imp.now (map campaign_view campaigns.now)) }
 {
     offers.clear();
     let mut number = 0;
@@ -98,10 +102,10 @@ fn collect_offers(
 fn sell_imp<'a>(
     sold: &mut Vec<SoldImp<'a>>,
     offers: &[Offer],
-    imp: &PlainImp<'a>,
+    imp: &'a Imp,
 ) -> Result<(), AllocError>
-    requires { IsTrue (list_all (is_fit (terms_of (imp_view imp.now))) offers.now) }
-    ensures { OnOk result (map sale_view sold.new.items ≡ map sale_view sold.old.items ++ option_to_list (sale_by (imp_view imp.now) offers.now)) }
+    requires { IsTrue (list_all (is_fit (terms_of imp.now)) offers.now) }
+    ensures { OnOk result (map sale_view sold.new.items ≡ map sale_view sold.old.items ++ option_to_list (sale_by imp.now offers.now)) }
 {
     let terms = [Terms {
         floor: imp.floor,
@@ -109,7 +113,7 @@ fn sell_imp<'a>(
     }];
     if let Some(win) = clear(offers, &terms) {
         let sale = SoldImp {
-            imp: imp.id,
+            imp: &imp.id,
             campaign: win.campaign,
             price: win.price,
         };
@@ -124,14 +128,14 @@ fn sell_imp<'a>(
 pub(crate) fn sell<'a>(
     alloc: Global,
     campaigns: &[NamedCampaign],
-    request: &PlainRequest<'a>,
+    request: &'a BidRequest,
 ) -> Result<Vec<SoldImp<'a>>, AllocError>
     requires { length campaigns.now ≤ 64 }
-    ensures { IfOk result (λ sold. map sale_view sold.items ≡ sales_of (map campaign_view campaigns.now) (request_view request.now)) }
+    ensures { IfOk result (λ sold. map sale_view sold.items ≡ sales_of (map campaign_view campaigns.now) request.now) }
 {
     let mut offers = Vec::with_capacity(alloc, campaigns.len())?;
     let mut sold = Vec::with_capacity(alloc, request.imps.len())?;
-    for imp in &request.imps {
+    for imp in request.imps.as_slice() {
         collect_offers(&mut offers, campaigns, request, imp)?;
         sell_imp(&mut sold, offers.as_slice(), imp)?;
     }

@@ -2,12 +2,12 @@
 #![tactic(auto)]
 
 mod auction;
-mod request;
+mod refusals;
 mod response;
 #[cfg(test)]
 mod tests;
-mod transfer;
 mod try_command;
+mod unbuilt;
 mod words;
 
 pub use try_command::try_run;

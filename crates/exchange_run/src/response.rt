@@ -1,11 +1,11 @@
 ghost use Rattle.std.specs.Prelude.{◌≡◌, ◌==◌, ◌<◌, ◌++◌, [], ◌∷◌, cond, length, map, OnOk, IfOk};
 ghost use Rattle.std.specs.List.{concat, join_with_byte, list_any};
 ghost use Rattle.exchange_run.specs.Response.{bid_head, bid_tail, bid_text, response_head, response_text, seat_bids, seat_tail, seat_text, seats_of};
-ghost use Rattle.exchange_run.specs.View.{request_view, sale_view};
+ghost use Rattle.exchange_run.specs.View.{sale_view};
 
 use crate::auction::SoldImp;
-use crate::request::PlainRequest;
 use itoa::Buffer;
+use json_out::push_string;
 use rtb_num::{Txt, write_micros};
 use std::alloc::{AllocError, Global};
 
@@ -23,16 +23,12 @@ fn put(out: &mut Txt, pieces: &[&[u8]]) -> Result<(), AllocError>
 fn put_bid_head(out: &mut Txt, number: &[u8], imp: &[u8]) -> Result<(), AllocError>
     ensures { OnOk result (out.new ≡ out.old ++ bid_head number.now imp.now) }
 {
-    put(
-        out,
-        &[
-            b"{\"id\":\"",
-            number,
-            b"\",\"impid\":\"",
-            imp,
-            b"\",\"price\":",
-        ],
-    )
+    out.extend(b"{\"id\":\"")?;
+    out.extend(number)?;
+    out.extend(b"\",\"impid\":")?;
+    push_string(out, imp)?;
+    out.extend(b",\"price\":")?;
+    Ok(())
 }
 
 // Appends what stands behind the price in a bid object.
@@ -144,24 +140,26 @@ fn put_seats(out: &mut Txt, sold: &[SoldImp], seats: &[u32]) -> Result<(), Alloc
     Ok(())
 }
 
-fn put_response_head(out: &mut Txt, id: &Txt) -> Result<(), AllocError>
+fn put_response_head(out: &mut Txt, id: &[u8]) -> Result<(), AllocError>
     ensures { OnOk result (out.new ≡ out.old ++ response_head id.now) }
 {
-    let id = id.as_bytes();
-    put(out, &[b"{\"id\":\"", id, b"\",\"seatbid\":["])
+    out.extend(b"{\"id\":")?;
+    push_string(out, id)?;
+    out.extend(b",\"seatbid\":[")?;
+    Ok(())
 }
 
-/// Appends the bid response.
+/// Appends the bid response to the request of that `id`.
 pub(crate) fn put_response(
     alloc: Global,
     out: &mut Txt,
-    request: &PlainRequest,
+    id: &[u8],
     sold: &[SoldImp],
 ) -> Result<(), AllocError>
-    ensures { OnOk result (out.new ≡ out.old ++ response_text (request_view request.now) (map sale_view sold.now)) }
+    ensures { OnOk result (out.new ≡ out.old ++ response_text id.now (map sale_view sold.now)) }
 {
     let seats = seats_in(alloc, sold)?;
-    put_response_head(out, request.id)?;
+    put_response_head(out, id)?;
     put_seats(out, sold, seats.as_slice())?;
     out.extend(b"],\"cur\":\"USD\"}")?;
     Ok(())
@@ -182,7 +180,6 @@ mod tests {
             Txt::from_vec(b"b".to_vec(alloc)?),
             Txt::from_vec(b"c".to_vec(alloc)?),
         ];
-        let id = Txt::from_vec(b"r".to_vec(alloc)?);
         let sales = [(2, 1_010_000), (1, 300_000), (2, 10_000)];
         let mut sold = Vec::new(alloc);
         for (imp, (campaign, micros)) in ids.iter().zip(sales) {
@@ -194,13 +191,8 @@ mod tests {
             };
             assert!(rt; sold.push(sale).is_ok());
         }
-        let request = PlainRequest {
-            id: &id,
-            domain: None,
-            imps: Vec::new(alloc),
-        };
         let mut out = Txt::new(alloc);
-        put_response(alloc, &mut out, &request, sold.as_slice())?;
+        put_response(alloc, &mut out, b"r", sold.as_slice())?;
         assert_eq!(rt;
             out.as_bytes(),
             b"{\"id\":\"r\",\"seatbid\":[{\"bid\":[{\"id\":\"1\",\"impid\":\"a\",\"price\":1.01,\"adm\":\"ad 2\",\"adomain\":[\"ad2.example\"],\"cid\":\"2\",\"crid\":\"cr2\"},{\"id\":\"3\",\"impid\":\"c\",\"price\":0.01,\"adm\":\"ad 2\",\"adomain\":[\"ad2.example\"],\"cid\":\"2\",\"crid\":\"cr2\"}],\"seat\":\"s2\"},{\"bid\":[{\"id\":\"2\",\"impid\":\"b\",\"price\":0.3,\"adm\":\"ad 1\",\"adomain\":[\"ad1.example\"],\"cid\":\"1\",\"crid\":\"cr1\"}],\"seat\":\"s1\"}],\"cur\":\"USD\"}".as_slice()

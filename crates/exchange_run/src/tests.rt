@@ -22,7 +22,7 @@ const NO_BID: &[u8] = b"no-bid\n";
 
 const NO_IMPS: &[u8] = b"{\"error\":\"no-imps\"}\n";
 
-const NOT_PLAIN: &[u8] = b"{\"error\":\"not-plain\"}\n";
+const NOT_BUILT: &[u8] = b"{\"error\":\"not-built\"}\n";
 
 // A sink that takes one byte a call.
 #[derive(Debug, Drop)]
@@ -253,7 +253,7 @@ fn refuses_words_of_no_command(rt: HostRuntime) -> Result<(), Fail> {
         b"try 01",
         b"try 1.",
         b"try .5",
-        b"try 1.0000000",
+        b"try 0.0000001",
         b"try 0",
         b"try 0.000000",
         b"try 1000000.000001",
@@ -261,7 +261,8 @@ fn refuses_words_of_no_command(rt: HostRuntime) -> Result<(), Fail> {
         b"try 1@",
         b"try @a",
         b"try -1",
-        b"try 1e3",
+        b"try 1e7",
+        b"try -0",
         b"try 1 x",
         b"x 1",
         b"try 1 ",
@@ -312,120 +313,190 @@ fn wants_the_domain_behind_the_first_at(rt: HostRuntime) -> Result<(), Fail> {
     Ok(())
 }
 
-#[test]
-fn refuses_what_is_no_request(rt: HostRuntime) -> Result<(), Fail> {
-    let alloc = rt.alloc();
-    let long = repeated(alloc, b"x", 256)?;
-    let long_id = joined(alloc, &[b"{\"id\":\"", long.as_bytes(), b"\",\"imp\":[]}"])?;
-    let long_imp_id = joined(
+// The text of a refusal with a field, and a line feed.
+fn refused_field(alloc: Global, word: &[u8], field: &[u8]) -> Result<Txt, Fail> {
+    joined(
         alloc,
-        &[
-            b"{\"id\":\"b1\",\"imp\":[{\"id\":\"",
-            long.as_bytes(),
-            b"\"}]}",
-        ],
-    )?;
-    let many_imps = imps(alloc, 65)?;
+        &[b"{\"error\":\"", word, b"\",\"field\":\"", field, b"\"}\n"],
+    )
+}
+
+#[test]
+fn refuses_what_is_no_json_text(rt: HostRuntime) -> Result<(), Fail> {
+    let alloc = rt.alloc();
     let cases = [
-        b"".as_slice(),
-        b"{}",
-        b"[]",
-        b"{\"imp\":[]}",
-        b"{\"id\":\"\",\"imp\":[]}",
-        b"{\"id\":1,\"imp\":[]}",
-        b"{\"id\":null,\"imp\":[]}",
-        b"{\"id\":\"b1\"}",
-        b"{\"id\":\"b1\",\"imp\":null}",
-        b"{\"id\":\"b1\",\"imp\":{}}",
-        b"{\"id\":\"b1\",\"imp\":[1]}",
-        b"{\"id\":\"b1\",\"imp\":[[]]}",
-        b"{\"id\":\"b1\",\"imp\":[{}]}",
-        b"{\"id\":\"b1\",\"imp\":[{\"id\":\"\"}]}",
-        b"{\"id\":\"b1\",\"imp\":[{\"id\":\"1\"},{\"id\":\"1\"}]}",
-        b"{\"id\":\"b1\",\"imp\":[{\"id\":\"1\"},{\"id\":\"2\"},{\"id\":\"1\"}]}",
-        b"{\"id\":\"b1\",\"imp\":[]} x",
-        b"{\"id\":\"b1\",\"imp\":[]",
-        b"{\"id\":\"b\\\"\",\"imp\":[]}",
-        b"{\"id\":\"\\u00e9\",\"imp\":[]}",
-        b"{\"id\":\"b1\",\"imp\":[],\"site\":[]}",
-        b"{\"id\":\"b1\",\"imp\":[],\"site\":null}",
-        b"{\"id\":\"b1\",\"imp\":[],\"at\":1}",
-        long_id.as_bytes(),
-        long_imp_id.as_bytes(),
-        many_imps.as_bytes(),
+        (
+            b"".as_slice(),
+            b"{\"error\":\"json-ended\",\"at\":0}\n".as_slice(),
+        ),
+        (b"{\"id\":\"b1\"", b"{\"error\":\"json-ended\",\"at\":10}\n"),
+        (
+            b"{\"id\":\"b1\",\"imp\":[]} x",
+            b"{\"error\":\"json-syntax\",\"at\":21}\n",
+        ),
+        (b"{\"id\":\"\xff\"", b"{\"error\":\"json-utf8\",\"at\":7}\n"),
     ];
-    for request in cases {
-        assert_run(&rt, alloc, b"try 2.50", request, (1, NOT_PLAIN))?;
+    for (request, text) in cases {
+        assert_run(&rt, alloc, b"try 2.50", request, (1, text))?;
+    }
+    Ok(())
+}
+
+// A request with an array of that nesting in a member that is not read.
+fn nested(alloc: Global, levels: usize) -> Result<Txt, Fail> {
+    let mut text = joined(
+        alloc,
+        &[b"{\"id\":\"b1\",\"imp\":[{\"id\":\"1\",\"banner\":{}}],\"ext\":"],
+    )?;
+    text.extend(repeated(alloc, b"[", levels)?.as_bytes())?;
+    text.extend(repeated(alloc, b"]", levels)?.as_bytes())?;
+    text.push(b'}')?;
+    Ok(text)
+}
+
+#[test]
+fn refuses_a_65th_level(rt: HostRuntime) -> Result<(), Fail> {
+    let alloc = rt.alloc();
+    let deep = nested(alloc, 63)?;
+    let deeper = nested(alloc, 64)?;
+    assert_run(
+        &rt,
+        alloc,
+        b"try 2.50",
+        deep.as_bytes(),
+        (0, SOLD_AT_A_CENT),
+    )?;
+    // 48 bytes and 63 brackets stand before the bracket of the 65th level
+    assert_run(
+        &rt,
+        alloc,
+        b"try 2.50",
+        deeper.as_bytes(),
+        (1, b"{\"error\":\"json-deep\",\"at\":111}\n"),
+    )
+}
+
+#[test]
+fn refuses_a_request_by_its_first_fault(rt: HostRuntime) -> Result<(), Fail> {
+    let alloc = rt.alloc();
+    // request, error, field
+    let cases = [
+        (b"{}".as_slice(), b"missing".as_slice(), b"id".as_slice()),
+        (b"{\"imp\":[]}", b"missing", b"id"),
+        (b"{\"id\":null,\"imp\":[]}", b"missing", b"id"),
+        (b"{\"id\":\"\",\"imp\":[]}", b"range", b"id"),
+        (b"{\"id\":1,\"imp\":[]}", b"wrong-type", b"id"),
+        (b"{\"id\":\"b1\"}", b"missing", b"imp"),
+        (b"{\"id\":\"b1\",\"imp\":null}", b"missing", b"imp"),
+        (b"{\"id\":\"b1\",\"imp\":{}}", b"wrong-type", b"imp"),
+        (b"{\"id\":\"b1\",\"imp\":[1]}", b"wrong-type", b"imp[0]"),
+        (b"{\"id\":\"b1\",\"imp\":[{}]}", b"missing", b"imp[0].id"),
+        (
+            b"{\"id\":\"b1\",\"imp\":[{\"id\":\"1\"},{\"id\":\"\"}]}",
+            b"range",
+            b"imp[1].id",
+        ),
+        (
+            b"{\"id\":\"b1\",\"imp\":[],\"site\":[]}",
+            b"wrong-type",
+            b"site",
+        ),
+        (
+            b"{\"id\":\"b1\",\"imp\":[],\"at\":3}",
+            b"auction-type",
+            b"at",
+        ),
+    ];
+    for (request, word, field) in cases {
+        let text = refused_field(alloc, word, field)?;
+        assert_run(&rt, alloc, b"try 2.50", request, (1, text.as_bytes()))?;
     }
     Ok(())
 }
 
 #[test]
-fn refuses_members_that_it_does_not_serve(rt: HostRuntime) -> Result<(), Fail> {
+fn refuses_other_faults_with_their_members(rt: HostRuntime) -> Result<(), Fail> {
+    let alloc = rt.alloc();
+    let many_imps = imps(alloc, 65)?;
+    let cases = [
+        (b"[]".as_slice(), b"{\"error\":\"not-object\"}\n".as_slice()),
+        (
+            b"{\"id\":\"b1\",\"imp\":[{\"id\":\"1\"},{\"id\":\"1\"}]}",
+            b"{\"error\":\"duplicate-imp\",\"first\":0,\"second\":1}\n",
+        ),
+        (
+            many_imps.as_bytes(),
+            b"{\"error\":\"too-many-imps\",\"count\":65}\n",
+        ),
+        (
+            b"{\"id\":\"b1\",\"imp\":[{\"id\":\"1\",\"bidfloor\":-1}]}",
+            b"{\"error\":\"price\",\"field\":\"imp[0].bidfloor\",\"fault\":\"negative\"}\n",
+        ),
+        (
+            b"{\"id\":\"b1\",\"imp\":[{\"id\":\"1\",\"bidfloor\":1e9}]}",
+            b"{\"error\":\"price\",\"field\":\"imp[0].bidfloor\",\"fault\":\"too-large\"}\n",
+        ),
+    ];
+    for (request, text) in cases {
+        assert_run(&rt, alloc, b"try 2.50", request, (1, text))?;
+    }
+    Ok(())
+}
+
+#[test]
+fn answers_not_built_where_rules_are_to_come(rt: HostRuntime) -> Result<(), Fail> {
     let alloc = rt.alloc();
     // further members of the request, of its impression and of its site
-    let cases: [[&[u8]; 3]; 34] = [
+    let cases: [[&[u8]; 3]; 9] = [
         [b",\"at\":1", b"", b""],
-        [b",\"test\":0", b"", b""],
-        [b",\"wseat\":[]", b"", b""],
-        [b",\"bseat\":[]", b"", b""],
+        [b",\"test\":1", b"", b""],
+        [b",\"wseat\":[\"s1\"]", b"", b""],
+        [b",\"bseat\":[\"s1\"]", b"", b""],
         [b",\"cur\":[\"USD\"]", b"", b""],
-        [b",\"bcat\":[]", b"", b""],
-        [b",\"badv\":[]", b"", b""],
-        [b",\"app\":{}", b"", b""],
-        [b",\"device\":{}", b"", b""],
-        [b",\"user\":{}", b"", b""],
-        [b",\"user\":null", b"", b""],
-        [b",\"id\":null", b"", b""],
-        [b",\"imp\":null", b"", b""],
-        [b",\"site\":null", b"", b""],
-        [b"", b",\"tagid\":\"t\"", b""],
-        [b"", b",\"secure\":0", b""],
-        [b"", b",\"bidfloorcur\":\"USD\"", b""],
-        [b"", b",\"pmp\":{}", b""],
-        [b"", b",\"id\":null", b""],
-        [b"", b",\"id\":1", b""],
-        [b"", b",\"bidfloor\":null", b""],
-        [b"", b",\"bidfloor\":\"1\"", b""],
-        [b"", b",\"bidfloor\":3e-1", b""],
-        [b"", b",\"bidfloor\":-1", b""],
-        [b"", b",\"bidfloor\":1000001", b""],
-        [b"", b",\"banner\":null", b""],
-        [b"", b",\"banner\":{\"w\":1}", b""],
-        [b"", b",\"banner\":[]", b""],
-        [b"", b",\"banner\":1", b""],
-        [b"", b"", b",\"id\":\"1\""],
-        [b"", b"", b",\"publisher\":{}"],
-        [b"", b"", b",\"domain\":1"],
-        [b"", b"", b",\"domain\":null"],
-        [b"", b"", b",\"id\":null"],
+        [b",\"badv\":[\"ad1.example\"]", b"", b""],
+        [b"", b",\"pmp\":{\"deals\":[{\"id\":\"d1\"}]}", b""],
+        [b"", b",\"pmp\":{\"private_auction\":1}", b""],
+        [b"", b",\"bidfloorcur\":\"EUR\"", b""],
     ];
     for members in cases {
         let request = with_members(alloc, &members)?;
-        assert_run(&rt, alloc, b"try 2.50", request.as_bytes(), (1, NOT_PLAIN))?;
+        assert_run(&rt, alloc, b"try 2.50", request.as_bytes(), (1, NOT_BUILT))?;
     }
     Ok(())
 }
 
 #[test]
-fn takes_members_that_no_rule_names(rt: HostRuntime) -> Result<(), Fail> {
+fn takes_members_that_change_nothing(rt: HostRuntime) -> Result<(), Fail> {
     let alloc = rt.alloc();
-    let cases: [[&[u8]; 3]; 11] = [
+    let cases: [[&[u8]; 3]; 20] = [
         [b"", b"", b""],
-        [b",\"tmax\":100", b"", b""],
+        [b",\"at\":2,\"test\":0", b"", b""],
+        [
+            b",\"wseat\":[],\"bseat\":[],\"cur\":[],\"badv\":[]",
+            b"",
+            b"",
+        ],
+        [b",\"bcat\":[\"IAB25\"]", b"", b""],
+        [b",\"app\":{},\"device\":{},\"user\":null", b"", b""],
+        [b",\"tmax\":\"100\"", b"", b""],
         [b",\"ext\":null", b"", b""],
         [b",\"AT\":1", b"", b""],
         [b",\"\":{\"at\":[1,true,null]}", b"", b""],
         [b",\"id\":\"b0\",\"id\":\"b1\"", b"", b""],
-        [b",\"imp\":[]", b"", b""],
         [b"", b",\"instl\":null,\"at\":1", b""],
+        [b"", b",\"tagid\":\"t\",\"secure\":1", b""],
+        [b"", b",\"bidfloorcur\":\"USD\",\"pmp\":{}", b""],
         [b"", b",\"bidfloor\":9,\"bidfloor\":0", b""],
+        [b"", b",\"bidfloor\":null", b""],
+        [b"", b",\"banner\":{\"w\":300,\"h\":250}", b""],
+        [b"", b"", b",\"id\":\"1\",\"publisher\":{\"id\":\"2\"}"],
         [b"", b"", b",\"name\":null,\"page\":\"p\""],
         [
             b"",
             b"",
             b",\"domain\":\"other.example\",\"domain\":\"news.example\"",
         ],
+        [b"", b",\"pmp\":{\"private_auction\":0,\"deals\":[]}", b""],
     ];
     for members in cases {
         let request = with_members(alloc, &members)?;
@@ -435,6 +506,75 @@ fn takes_members_that_no_rule_names(rt: HostRuntime) -> Result<(), Fail> {
             b"try 2.50@news.example",
             request.as_bytes(),
             (0, SOLD_AT_A_CENT),
+        )?;
+    }
+    Ok(())
+}
+
+#[test]
+fn rounds_floors_up_and_reads_bids_exactly(rt: HostRuntime) -> Result<(), Fail> {
+    let alloc = rt.alloc();
+    let above =
+        b"{\"id\":\"b1\",\"imp\":[{\"id\":\"1\",\"bidfloor\":0.30000000000000004,\"banner\":{}}]}".as_slice();
+    let least =
+        b"{\"id\":\"b1\",\"imp\":[{\"id\":\"1\",\"bidfloor\":1e-400,\"banner\":{}}]}".as_slice();
+    assert_run(&rt, alloc, b"try 0.3", above, (0, NO_BID))?;
+    let cases = [
+        (b"try 0.000001".as_slice(), least, b"0.000001".as_slice()),
+        (b"try 3.00001e-1", above, b"0.300001"),
+        (b"try 1.0000000", NEWS, b"0.01"),
+        (b"try 1e3", NEWS, b"0.01"),
+    ];
+    for (line, request, price) in cases {
+        let text = joined(
+            alloc,
+            &[
+                b"{\"id\":\"b1\",\"seatbid\":[{\"bid\":[{\"id\":\"1\",\"impid\":\"1\",\"price\":",
+                price,
+                b",\"adm\":\"ad 1\",\"adomain\":[\"ad1.example\"],\"cid\":\"1\",\"crid\":\"cr1\"}],\"seat\":\"s1\"}],\"cur\":\"USD\"}\n",
+            ],
+        )?;
+        assert_run(&rt, alloc, line, request, (0, text.as_bytes()))?;
+    }
+    Ok(())
+}
+
+#[test]
+fn gives_ids_back_as_the_bytes_that_they_say(rt: HostRuntime) -> Result<(), Fail> {
+    let alloc = rt.alloc();
+    // an id in a request, and in the response
+    let cases = [
+        (b"\\ud83d\\ude00".as_slice(), b"\xf0\x9f\x98\x80".as_slice()),
+        (b"\\ud83d", b"\xef\xbf\xbd"),
+        (b"a\\\"\\\\\\n", b"a\\\"\\\\\\u000a"),
+    ];
+    for (id, written) in cases {
+        let request = joined(
+            alloc,
+            &[
+                b"{\"id\":\"",
+                id,
+                b"\",\"imp\":[{\"id\":\"",
+                id,
+                b"\",\"banner\":{}}]}",
+            ],
+        )?;
+        let text = joined(
+            alloc,
+            &[
+                b"{\"id\":\"",
+                written,
+                b"\",\"seatbid\":[{\"bid\":[{\"id\":\"1\",\"impid\":\"",
+                written,
+                b"\",\"price\":0.01,\"adm\":\"ad 1\",\"adomain\":[\"ad1.example\"],\"cid\":\"1\",\"crid\":\"cr1\"}],\"seat\":\"s1\"}],\"cur\":\"USD\"}\n",
+            ],
+        )?;
+        assert_run(
+            &rt,
+            alloc,
+            b"try 1",
+            request.as_bytes(),
+            (0, text.as_bytes()),
         )?;
     }
     Ok(())
@@ -511,7 +651,13 @@ fn takes_inputs_of_up_to_262144_bytes(rt: HostRuntime) -> Result<(), Fail> {
         longest.as_bytes(),
         (0, SOLD_AT_A_CENT),
     )?;
-    assert_run(&rt, alloc, b"try 2.50", longer.as_bytes(), (1, NOT_PLAIN))
+    assert_run(
+        &rt,
+        alloc,
+        b"try 2.50",
+        longer.as_bytes(),
+        (1, b"{\"error\":\"body-too-large\"}\n"),
+    )
 }
 
 #[test]

@@ -1,20 +1,22 @@
 ghost use Rattle.std.specs.Prelude.{◌≡◌, ◌≢◌, ◌⊎◌, ◌↔◌, ◌≤◌, None, Some, map, length, IfOk, IsSome, OnOk};
 ghost use Rattle.std.specs.Io.KnownBytes.{Appends};
 ghost use Rattle.rtb_base.specs.Faults.{Rose};
-ghost use Rattle.exchange_run.specs.Answer.{Answered, CutShort, HalfAnswered, IsReply, Replies, Sent, not_plain_reply, refusal_of, reply_to};
-ghost use Rattle.exchange_run.specs.Request.{request_of};
-ghost use Rattle.exact_json.specs.View.{tree_of};
-ghost use Rattle.std.specs.Option.{option_map_or};
+ghost use Rattle.exchange_run.specs.Answer.{Answered, CutShort, HalfAnswered, IsReply, Replies, Sent, refusal_of, reply_to, tree_reply};
+ghost use Rattle.exchange_run.specs.Refusals.{error_text, json_fault_text, request_fault_text};
+ghost use Rattle.exact_json.specs.Docs.{doc_tree};
 ghost use Rattle.exchange_run.specs.Words.{campaigns_of, command_of};
-ghost use Rattle.exchange_run.specs.View.{campaign_view, request_view};
+ghost use Rattle.exchange_run.specs.View.{campaign_view};
 
 use crate::auction::sell;
-use crate::request::{PlainRequest, request_in};
+use crate::refusals::{put_error, put_json_fault, put_request_fault};
 use crate::response::put_response;
-use crate::transfer::{ReadFault, read_all, write_all};
+use crate::unbuilt::is_unbuilt;
 use crate::words::{NamedCampaign, campaigns_in, command_in};
-use exact_json::{JsonFault, Value, read};
+use exact_json::{Doc, JsonFault, read};
+use rtb_io::{ReadFault, read_all, write_all};
 use rtb_num::{Sink, Source, Txt};
+use rtb_read::{ReqFault, read_request};
+use rtb_types::BidRequest;
 use std::alloc::{AllocError, Global};
 
 /// The longest input that is taken, in bytes.
@@ -40,70 +42,80 @@ struct Reply {
     line: Txt,
 }
 
-fn refusal(alloc: Global, body: &[u8]) -> Result<Reply, AllocError>
-    ensures { IfOk result (λ r. r ≡ refusal_of body.now) }
+// A refusal that names only what is wrong.
+fn refusal(alloc: Global, word: &[u8]) -> Result<Reply, AllocError>
+    ensures { IfOk result (λ r. r ≡ refusal_of (error_text word.now)) }
 {
     let mut line = Txt::new(alloc);
-    line.extend(body)?;
+    put_error(word, &mut line)?;
     Ok(Reply {
         status: REFUSED,
         line,
     })
 }
 
-fn not_plain(alloc: Global) -> Result<Reply, AllocError>
-    ensures { IfOk result (λ r. r ≡ not_plain_reply) }
-{
-    refusal(alloc, b"{\"error\":\"not-plain\"}")
-}
-
-// What is sold of the request, or the refusal of one without impressions.
+// What is sold of the request, or that this stage has no rules for it.
 fn request_reply(
     alloc: Global,
     campaigns: &[NamedCampaign],
-    request: &PlainRequest,
+    request: &BidRequest,
 ) -> Result<Reply, AllocError>
     requires { length campaigns.now ≤ 64 }
-    ensures { IfOk result (λ r. r ≡ reply_to (map campaign_view campaigns.now) (request_view request.now)) }
+    ensures { IfOk result (λ r. r ≡ reply_to (map campaign_view campaigns.now) request.now) }
 {
-    if request.imps.is_empty() {
-        return refusal(alloc, b"{\"error\":\"no-imps\"}");
+    if is_unbuilt(request) {
+        return refusal(alloc, b"not-built");
     }
     let sold = sell(alloc, campaigns, request)?;
     let mut line = Txt::new(alloc);
     if sold.is_empty() {
         line.extend(b"no-bid")?;
     } else {
-        put_response(alloc, &mut line, request, sold.as_slice())?;
+        put_response(alloc, &mut line, request.id.as_bytes(), sold.as_slice())?;
     }
     Ok(Reply { status: SOLD, line })
 }
 
-// What is sold of the request that the value makes, or the refusal of a value that makes none.
-fn value_reply(
-    alloc: Global,
-    campaigns: &[NamedCampaign],
-    value: &Value,
-) -> Result<Reply, AllocError>
-    requires { length campaigns.now ≤ 64 }
-    ensures { IfOk result (λ r. r ≡ option_map_or (reply_to (map campaign_view campaigns.now)) (request_of (tree_of value.now)) not_plain_reply) }
+fn request_refusal(alloc: Global, fault: &ReqFault) -> Result<Reply, AllocError>
+    ensures refused { IfOk result (λ r. r ≡ refusal_of (request_fault_text fault.now)) }
+    ensures fault { OnOk result (fault.now ≢ ReqFault.Memory) }
 {
-    match request_in(alloc, value) {
-        Ok(Some(request)) => request_reply(alloc, campaigns, &request),
-        Ok(None) => not_plain(alloc),
-        Err(fault) => Err(fault),
+    if matches!(fault, ReqFault::Memory) {
+        return Err(AllocError);
+    }
+    let mut line = Txt::new(alloc);
+    put_request_fault(fault, &mut line)?;
+    Ok(Reply {
+        status: REFUSED,
+        line,
+    })
+}
+
+// What is sold of the request that the text makes, or its first fault.
+fn doc_reply(alloc: Global, campaigns: &[NamedCampaign], doc: &Doc) -> Result<Reply, AllocError>
+    requires { length campaigns.now ≤ 64 }
+    ensures { IfOk result (λ r. r ≡ tree_reply (map campaign_view campaigns.now) (doc_tree doc.now)) }
+{
+    match read_request(alloc, doc) {
+        Ok(request) => request_reply(alloc, campaigns, &request),
+        Err(fault) => request_refusal(alloc, &fault),
     }
 }
 
 // The refusal of bytes that are no JSON text.
-fn fault_reply(alloc: Global, fault: JsonFault) -> Result<Reply, AllocError>
-    ensures refused { IfOk result (λ r. r ≡ not_plain_reply) }
+fn json_refusal(alloc: Global, fault: JsonFault) -> Result<Reply, AllocError>
+    ensures refused { IfOk result (λ r. r ≡ refusal_of (json_fault_text fault)) }
     ensures fault { OnOk result (fault ≢ JsonFault.Memory) }
 {
     if fault == JsonFault::Memory {
         return Err(AllocError);
     }
-    not_plain(alloc)
+    let mut line = Txt::new(alloc);
+    put_json_fault(fault, &mut line)?;
+    Ok(Reply {
+        status: REFUSED,
+        line,
+    })
 }
 
 // The reply to the bytes.
@@ -116,11 +128,11 @@ fn bytes_reply(
     ensures { IfOk result (IsReply (map campaign_view campaigns.now) bytes.now) }
 {
     if bytes.len() > MAX_INPUT {
-        return not_plain(alloc);
+        return refusal(alloc, b"body-too-large");
     }
     match read(alloc, bytes) {
-        Ok(doc) => value_reply(alloc, campaigns, doc.root()),
-        Err(fault) => fault_reply(alloc, fault),
+        Ok(doc) => doc_reply(alloc, campaigns, &doc),
+        Err(fault) => json_refusal(alloc, fault),
     }
 }
 
@@ -160,7 +172,7 @@ fn send<K: Sink>(alloc: Global, words: &[Txt], bytes: &[u8], sink: &mut K) -> u8
     }
 }
 
-/// Runs the command `try`: reads one plain bid request, sells it to the campaigns that the words
+/// Runs the command `try`: reads one bid request (OpenRTB 2.5), sells it to the campaigns that the words
 /// name, and writes the bid response, `no-bid` or the refusal, and a line feed.
 ///
 /// It answers the status that the program ends with: 0 where the request was sold or got no bid, 1

@@ -2,9 +2,9 @@ ghost use Rattle.std.specs.Prelude.{◌≡◌, ◌==◌, ◌<◌, ◌≤◌, pos
 ghost use Rattle.std.specs.List.{after_first, before_first, list_all, list_any};
 ghost use Rattle.exchange_run.specs.Words.{amount_of, campaign_of, campaign_words, campaigns_of, command_of, domain_of, bid_of, is_at};
 ghost use Rattle.exchange_run.specs.View.{campaign_view};
-ghost use Rattle.rtb_num.specs.Amounts.{places_of};
 
-use rtb_num::{Micros, Txt, exact_micros, is_decimal};
+use json_fields::exact_amount;
+use rtb_num::{Micros, Txt, is_number};
 use std::alloc::{AllocError, Global};
 
 /// A campaign that a word names.
@@ -15,8 +15,6 @@ pub(crate) struct NamedCampaign<'a> {
     /// The site domain that it wants, or any.
     pub domain: Option<&'a [u8]>,
 }
-
-const MAX_PLACES: usize = 6;
 
 const MAX_DOMAIN: usize = 255;
 
@@ -29,28 +27,14 @@ fn place_of(text: &[u8], byte: u8) -> Option<usize>
     text.iter().position(|c| *c == byte)
 }
 
-// How many digits stand behind the point.
-#[tactic(auto, using(crate::proofs::Places::behind_some, crate::proofs::Places::behind_none))]
-fn places(text: &[u8]) -> usize
-    ensures { result ≡ places_of text.now }
-{
-    match place_of(text, b'.') {
-        Some(at) => text.len() - at - 1,
-        None => 0,
-    }
-}
-
-/// The millionths that a decimal text of at most six places is worth, up to a million.
-pub(crate) fn amount(text: &[u8]) -> Option<Micros>
+// The amount that a number of JSON is worth exactly, up to a million dollars.
+fn amount(text: &[u8]) -> Option<Micros>
     ensures { result ≡ amount_of text.now }
 {
-    if !is_decimal(text) {
+    if !is_number(text) {
         return None;
     }
-    if places(text) > MAX_PLACES {
-        return None;
-    }
-    exact_micros(text).ok()
+    exact_amount(text).ok()
 }
 
 // What stands before the first `@`.

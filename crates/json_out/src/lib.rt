@@ -11,5 +11,5 @@ mod tests;
 mod writer;
 
 pub use places::Place;
-pub use strings::strings_read_back;
+pub use strings::{push_string, strings_read_back};
 pub use writer::Writer;

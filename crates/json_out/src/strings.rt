@@ -67,7 +67,7 @@ fn push_escaped(out: &mut Txt, text: &[u8]) -> Result<(), AllocError>
 }
 
 /// Appends the string of these bytes; where memory is refused, its front may stay.
-pub(crate) fn push_string(out: &mut Txt, text: &[u8]) -> Result<(), AllocError>
+pub fn push_string(out: &mut Txt, text: &[u8]) -> Result<(), AllocError>
     ensures ok { OnOk result (out.new ≡ out.old ++ quoted text.now) }
     ensures front { (more : List ℕ) × (out.new ≡ out.old ++ more) }
 {

@@ -1,6 +1,7 @@
 -- What a run answers.
 use Rattle.std.specs.Prelude.{◌≡◌, ◌≢◌, ℕ, pos, ◌≤◌, ◌*◌, ◌%◌, ◌^◌, ◌⊎◌, List, [], ◌∷◌, ◌++◌, Option, codes, decimal, IsTrue}
 use Rattle.std.specs.List.{concat}
+use Rattle.rtb_io.specs.Fronts.{AppendsFront}
 use Rattle.std.specs.Io.KnownBytes.{Consumes, Appends, IsAtEnd}
 use Rattle.exact_json.specs.Tree.{Tree}
 use Rattle.exact_json.specs.Grammar.{IsText}
@@ -53,13 +54,6 @@ abbrev pub IsLine : ℕ → List ℕ → List ℕ → Type 0
 IsLine times bytes line = ((t : Tree) × IsText t bytes × (line ≡ counts_line times t))
     ⊎ ((f : JsonFault) × (f ≢ fault.Memory) × Explains bytes f × (line ≡ fault_line f))
 
--- known bytes grow by a front of these
-pub record AppendsFront (old new : Option (List ℕ)) (bytes : List ℕ) : Type 0 where
-  pub front : List ℕ
-  pub rest : List ℕ
-  pub parts : bytes ≡ front ++ rest
-  pub went : Appends old new front
-
 -- All of the input was read, and its line was written.
 pub record Answered (words : List (List ℕ)) (left left' written written' : Option (List ℕ)) : Type 0 where
   pub times : ℕ
@@ -70,3 +64,14 @@ pub record Answered (words : List (List ℕ)) (left left' written written' : Opt
   pub line : List ℕ
   pub is_line : IsLine times bytes line
   pub went : Appends written written' line
+
+-- All of the input was read, and a front of its line was written.
+pub record HalfAnswered (words : List (List ℕ)) (left left' written written' : Option (List ℕ)) : Type 0 where
+  pub times : ℕ
+  pub command : IsCommand words times
+  pub bytes : List ℕ
+  pub came : Consumes left left' bytes
+  pub whole : IsAtEnd left'
+  pub line : List ℕ
+  pub is_line : IsLine times bytes line
+  pub went : AppendsFront written written' line

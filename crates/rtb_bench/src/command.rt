@@ -1,10 +1,11 @@
-ghost use Rattle.std.specs.Prelude.{◌≡◌, ◌≢◌, ◌⊎◌, ℕ, pos, ◌≤◌, ◌≤ℤ◌, None, Some, IfSome, List, length};
-ghost use Rattle.std.specs.Io.KnownBytes.{Appends};
+ghost use Rattle.std.specs.Prelude.{◌≡◌, ◌≢◌, ◌⊎◌, ℕ, pos, ◌<◌, ◌≤◌, ◌≤ℤ◌, None, Some, IfSome, List, length};
+ghost use Rattle.std.specs.Io.KnownBytes.{Appends, Consumes};
 ghost use Rattle.rtb_base.specs.Faults.{Rose};
-ghost use Rattle.rtb_bench.specs.Answer.{Answered, IsCommand, IsLine, IsTimes};
+ghost use Rattle.rtb_io.specs.Fronts.{AppendsFront};
+ghost use Rattle.rtb_bench.specs.Answer.{Answered, HalfAnswered, IsCommand, IsLine, IsTimes};
 
 use crate::json_work::json_line;
-use crate::transfer::{ReadFault, read_all, write_all};
+use rtb_io::{ReadFault, read_all, write_all};
 use rtb_num::{Sink, Source, Txt, is_number, whole};
 use std::alloc::Global;
 
@@ -73,7 +74,8 @@ fn command_in(words: &[Txt]) -> Option<u32>
 ///
 /// It answers the status that the program ends with: 0 where the line was written, 1 where the input
 /// is longer than 1 GiB, 2 where the words name no work, 7 where the sink failed, 9 for want of
-/// memory, 10 where the source failed. But for 0 and 7 nothing is written.
+/// memory, 10 where the source failed. With 7 a front of the line was written, and but for 0 and 7
+/// nothing.
 pub(crate) fn bench_run<S: Source, K: Sink>(
     alloc: Global,
     words: &[Txt],
@@ -81,6 +83,8 @@ pub(crate) fn bench_run<S: Source, K: Sink>(
     sink: &mut K,
 ) -> u8
     ensures answered { result ≡ 0 → Answered words.now (S.left source.old) (S.left source.new) (K.written sink.old) (K.written sink.new) }
+    ensures cut { result ≡ 7 → HalfAnswered words.now (S.left source.old) (S.left source.new) (K.written sink.old) (K.written sink.new) }
+    ensures long { result ≡ 1 → (bytes : List ℕ) × Consumes (S.left source.old) (S.left source.new) bytes × (MAX_INPUT < length bytes) }
     ensures usage { (result ≡ 2) → (n : ℕ) → IsCommand words.now n → ⊥ }
     ensures known { result ≢ 2 → (n : ℕ) × IsCommand words.now n }
     ensures unread { result ≡ 2 → source.new ≡ source.old }
@@ -105,10 +109,12 @@ pub(crate) fn bench_run<S: Source, K: Sink>(
 fn send<K: Sink>(alloc: Global, times: u32, bytes: &[u8], sink: &mut K) -> u8
     requires { 1 ≤ times }
     ensures sent { result ≡ DONE → (line : List ℕ) × IsLine times bytes.now line × Appends (K.written sink.old) (K.written sink.new) line }
+    ensures cut { result ≡ NOT_WRITTEN → (line : List ℕ) × IsLine times bytes.now line × AppendsFront (K.written sink.old) (K.written sink.new) line }
     ensures failed { result ≡ NOT_WRITTEN → Rose (K.faults sink.old) (K.faults sink.new) }
     ensures quiet { result ≢ NOT_WRITTEN → K.faults sink.new ≡ K.faults sink.old }
     ensures unsent { (result ≡ TOO_LONG) ⊎ (result ≡ NO_MEMORY) → sink.new ≡ sink.old }
-    ensures long { result ≢ TOO_LONG → length bytes.now ≤ MAX_INPUT }
+    ensures long { result ≡ TOO_LONG → MAX_INPUT < length bytes.now }
+    ensures taken { result ≢ TOO_LONG → length bytes.now ≤ MAX_INPUT }
     ensures statuses { (result ≡ DONE) ⊎ (result ≡ TOO_LONG) ⊎ (result ≡ NOT_WRITTEN) ⊎ (result ≡ NO_MEMORY) }
 {
     if bytes.len() > MAX_INPUT {

@@ -7,7 +7,6 @@ mod counts;
 mod json_work;
 #[cfg(test)]
 mod tests;
-mod transfer;
 
 use rtb_num::{StdSink, StdSource, Txt};
 use std::process::ExitCode;

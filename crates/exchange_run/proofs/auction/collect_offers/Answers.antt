@@ -1,14 +1,14 @@
 use Rattle.std.proofs.Common.{take, ◌≡◌, ◌+◌, ◌++◌, ◌∙◌, arith, map, option_to_list, sym, ap}
-use Rattle.exchange_run.specs.Auction.{offer_of}
+use Rattle.exchange_run.specs.Auction.{site_domain_of, offer_of}
 use Rattle.std.specs.List.{enumerate_from, filter_map}
-use Rattle.exchange_run.specs.View.{campaign_view, imp_view, request_view}
+use Rattle.exchange_run.specs.View.{campaign_view}
 use Rattle.exchange_run.proofs.Sales.{offers_step}
 use Rattle.exchange_run.proofs.auction.collect_offers.Goals as goal
 
 pub loop-campaign-preserved : goal.loop-campaign-preserved
 loop-campaign-preserved c =
-    let domain = (request_view c.args.request.now).domain in
-    let imp = imp_view c.args.imp.now in
+    let domain = site_domain_of c.args.request.now in
+    let imp = c.args.imp.now in
     let k = c.loop-campaign.campaign-index in
     let d = c.campaign-item.result in
     let number = c.loop-campaign.number + 1 in

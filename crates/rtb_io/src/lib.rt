@@ -1,0 +1,71 @@
+//! All that a source has, and all of a text to a sink.
+#![tactic(auto)]
+
+ghost use Rattle.std.specs.Prelude.{◌≡◌, ◌≢◌, ◌<◌, ◌≤◌, ◌^◌, ◌⊎◌, Err, length, IfOk, OnErr, OnOk};
+ghost use Rattle.rtb_io.specs.Fronts.{AppendsFront};
+ghost use Rattle.std.specs.Io.KnownBytes.{Appends, Consumes, IsAtEnd};
+ghost use Rattle.rtb_base.specs.Faults.{CountsErrors, Rose};
+ghost use Rattle.rtb_io.specs.declared.ReadFault.TheVariants.{Failed as failed, Memory as memory};
+
+use rtb_num::{Failed, Sink, Source, Txt};
+use std::alloc::{AllocError, Global};
+
+/// Why an input was not read.
+#[derive(Clone, Copy, Debug, PartialEq, Eq)]
+pub enum ReadFault {
+    /// The source failed.
+    Failed,
+    /// Memory was refused.
+    Memory,
+}
+
+impl From<Failed> for ReadFault {
+    ghost from_gives = { λ _ e. e ≡ failed };
+
+    fn from(_: Failed) -> ReadFault {
+        ReadFault::Failed
+    }
+}
+
+impl From<AllocError> for ReadFault {
+    ghost from_gives = { λ _ e. e ≡ memory };
+
+    fn from(_: AllocError) -> ReadFault {
+        ReadFault::Memory
+    }
+}
+
+/// Reads to the end, or until more than `limit` bytes have come: a few thousand more at most.
+pub fn read_all<S: Source>(alloc: Global, source: &mut S, limit: usize) -> Result<Txt, ReadFault>
+    requires { limit < 2 ^ 62 }
+    ensures bytes { IfOk result (λ t. Consumes (S.left source.old) (S.left source.new) t) }
+    ensures end { IfOk result (λ t. IsAtEnd (S.left source.new) ⊎ (limit < length t)) }
+    ensures failed { result ≡ Err ReadFault.Failed → Rose (S.faults source.old) (S.faults source.new) }
+    ensures counted { S.faults source.old ≤ S.faults source.new }
+    ensures quiet { result ≢ Err ReadFault.Failed → S.faults source.new ≡ S.faults source.old }
+{
+    let mut all = Txt::new(alloc);
+    let mut piece = [0u8; 4096];
+    while all.len() <= limit {
+        let n = source.read(&mut piece)?;
+        if n == 0 {
+            return Ok(all);
+        }
+        all.extend(&piece[..n])?;
+    }
+    Ok(all)
+}
+
+/// Writes all of the bytes. Where the sink fails, a front of them was written.
+pub fn write_all<K: Sink>(sink: &mut K, bytes: &[u8]) -> Result<(), Failed>
+    ensures ok { OnOk result (Appends (K.written sink.old) (K.written sink.new) bytes.now) }
+    ensures err { OnErr result (AppendsFront (K.written sink.old) (K.written sink.new) bytes.now) }
+    ensures cause { CountsErrors (K.faults sink.old) (K.faults sink.new) result }
+{
+    let mut rest = bytes;
+    while !rest.is_empty() {
+        let n = sink.write(rest)?;
+        rest = &rest[n..];
+    }
+    Ok(())
+}

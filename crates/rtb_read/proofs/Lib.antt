@@ -1,0 +1,4 @@
+pub mod AuctionTypes
+pub mod Duplicates
+pub mod Loops
+pub mod Validity

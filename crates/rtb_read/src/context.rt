@@ -1,0 +1,172 @@
+#![tactic(auto, using(json_fields::proofs::First::in_front, json_fields::proofs::First::behind, json_fields::proofs::First::neither), unfolding(crate::specs::Context::publisher_faults, crate::specs::Context::publisher_from, crate::specs::Context::site_faults, crate::specs::Context::site_from, crate::specs::Context::app_faults, crate::specs::Context::app_from, crate::specs::Context::geo_faults, crate::specs::Context::geo_from, crate::specs::Context::device_faults, crate::specs::Context::device_from, crate::specs::Context::user_faults, crate::specs::Context::user_from, crate::specs::Parts::inside_faults, crate::specs::Parts::inside_from))]
+
+ghost use Rattle.std.specs.Prelude.{codes};
+ghost use Rattle.exact_json.specs.View.{tree_of};
+ghost use Rattle.json_fields.specs.Answers.{Answers};
+ghost use Rattle.json_fields.specs.Fields.{as_object, optional, present};
+ghost use Rattle.rtb_read.specs.Context.{app_faults, app_from, device_faults, device_from, geo_faults, geo_from, publisher_faults, publisher_from, site_faults, site_from, user_faults, user_from};
+ghost use Rattle.rtb_read.specs.Parts.{inside_faults, inside_from};
+
+use crate::fault::ReqFault;
+use crate::parts::{fault, integer_field, text_field};
+use exact_json::Value;
+use json_fields as fields;
+use rtb_num::Txt;
+use rtb_types::{
+    App, AppField, Device, DeviceField, Field, Geo, GeoField, RequestField, Site, SiteField, User,
+    UserField,
+};
+
+// The id of the publisher, by the fields of the publisher and of its id.
+fn publisher_field(parent: &Value, whole: Field, id: Field) -> Result<Option<Txt>, ReqFault>
+    ensures { Answers ReqFault.Memory (publisher_faults whole id (tree_of parent.now)) (publisher_from (tree_of parent.now)) result }
+{
+    match fields::object(parent, b"publisher") {
+        Ok(Some(publisher)) => text_field(publisher, b"id", id),
+        Ok(None) => Ok(None),
+        Err(flaw) => Err(fault(whole, flaw)),
+    }
+}
+
+fn site_in(site: &Value) -> Result<Site, ReqFault>
+    ensures { Answers ReqFault.Memory (site_faults (tree_of site.now)) (site_from (tree_of site.now)) result }
+{
+    let id = text_field(site, b"id", Field::Site(SiteField::Id))?;
+    let domain = text_field(site, b"domain", Field::Site(SiteField::Domain))?;
+    let publisher = publisher_field(
+        site,
+        Field::Site(SiteField::Publisher),
+        Field::Site(SiteField::PublisherId),
+    )?;
+    Ok(Site {
+        id,
+        domain,
+        publisher,
+    })
+}
+
+fn app_in(app: &Value) -> Result<App, ReqFault>
+    ensures { Answers ReqFault.Memory (app_faults (tree_of app.now)) (app_from (tree_of app.now)) result }
+{
+    let id = text_field(app, b"id", Field::App(AppField::Id))?;
+    let bundle = text_field(app, b"bundle", Field::App(AppField::Bundle))?;
+    let publisher = publisher_field(
+        app,
+        Field::App(AppField::Publisher),
+        Field::App(AppField::PublisherId),
+    )?;
+    Ok(App {
+        id,
+        bundle,
+        publisher,
+    })
+}
+
+fn geo_in(geo: &Value) -> Result<Geo, ReqFault>
+    ensures { Answers ReqFault.Memory (geo_faults (tree_of geo.now)) (geo_from (tree_of geo.now)) result }
+{
+    let country = text_field(geo, b"country", Field::Geo(GeoField::Country))?;
+    let region = text_field(geo, b"region", Field::Geo(GeoField::Region))?;
+    let metro = text_field(geo, b"metro", Field::Geo(GeoField::Metro))?;
+    let city = text_field(geo, b"city", Field::Geo(GeoField::City))?;
+    let zip = text_field(geo, b"zip", Field::Geo(GeoField::Zip))?;
+    Ok(Geo {
+        country,
+        region,
+        metro,
+        city,
+        zip,
+    })
+}
+
+fn geo_field(device: &Value) -> Result<Option<Geo>, ReqFault>
+    ensures { Answers ReqFault.Memory (inside_faults (Field.Device DeviceField.Geo) geo_faults (optional as_object (present (codes "geo") (tree_of device.now)))) (inside_from geo_from (optional as_object (present (codes "geo") (tree_of device.now)))) result }
+{
+    match fields::object(device, b"geo") {
+        Ok(Some(geo)) => Ok(Some(geo_in(geo)?)),
+        Ok(None) => Ok(None),
+        Err(flaw) => Err(fault(Field::Device(DeviceField::Geo), flaw)),
+    }
+}
+
+fn device_in(device: &Value) -> Result<Device, ReqFault>
+    ensures { Answers ReqFault.Memory (device_faults (tree_of device.now)) (device_from (tree_of device.now)) result }
+{
+    let geo = geo_field(device)?;
+    let devicetype = integer_field(
+        device,
+        b"devicetype",
+        Field::Device(DeviceField::Devicetype),
+    )?;
+    let device_make = text_field(device, b"make", Field::Device(DeviceField::Make))?;
+    let device_model = text_field(device, b"model", Field::Device(DeviceField::Model))?;
+    let os = text_field(device, b"os", Field::Device(DeviceField::Os))?;
+    let osv = text_field(device, b"osv", Field::Device(DeviceField::Osv))?;
+    let language = text_field(device, b"language", Field::Device(DeviceField::Language))?;
+    let carrier = text_field(device, b"carrier", Field::Device(DeviceField::Carrier))?;
+    let connectiontype = integer_field(
+        device,
+        b"connectiontype",
+        Field::Device(DeviceField::Connectiontype),
+    )?;
+    Ok(Device {
+        geo,
+        devicetype,
+        device_make,
+        device_model,
+        os,
+        osv,
+        language,
+        carrier,
+        connectiontype,
+    })
+}
+
+fn user_in(user: &Value) -> Result<User, ReqFault>
+    ensures { Answers ReqFault.Memory (user_faults (tree_of user.now)) (user_from (tree_of user.now)) result }
+{
+    let id = text_field(user, b"id", Field::User(UserField::Id))?;
+    let yob = integer_field(user, b"yob", Field::User(UserField::Yob))?;
+    let gender = text_field(user, b"gender", Field::User(UserField::Gender))?;
+    Ok(User { id, yob, gender })
+}
+
+pub(crate) fn site_field(request: &Value) -> Result<Option<Site>, ReqFault>
+    ensures { Answers ReqFault.Memory (inside_faults (Field.Request RequestField.Site) site_faults (optional as_object (present (codes "site") (tree_of request.now)))) (inside_from site_from (optional as_object (present (codes "site") (tree_of request.now)))) result }
+{
+    match fields::object(request, b"site") {
+        Ok(Some(site)) => Ok(Some(site_in(site)?)),
+        Ok(None) => Ok(None),
+        Err(flaw) => Err(fault(Field::Request(RequestField::Site), flaw)),
+    }
+}
+
+pub(crate) fn app_field(request: &Value) -> Result<Option<App>, ReqFault>
+    ensures { Answers ReqFault.Memory (inside_faults (Field.Request RequestField.App) app_faults (optional as_object (present (codes "app") (tree_of request.now)))) (inside_from app_from (optional as_object (present (codes "app") (tree_of request.now)))) result }
+{
+    match fields::object(request, b"app") {
+        Ok(Some(app)) => Ok(Some(app_in(app)?)),
+        Ok(None) => Ok(None),
+        Err(flaw) => Err(fault(Field::Request(RequestField::App), flaw)),
+    }
+}
+
+pub(crate) fn device_field(request: &Value) -> Result<Option<Device>, ReqFault>
+    ensures { Answers ReqFault.Memory (inside_faults (Field.Request RequestField.Device) device_faults (optional as_object (present (codes "device") (tree_of request.now)))) (inside_from device_from (optional as_object (present (codes "device") (tree_of request.now)))) result }
+{
+    match fields::object(request, b"device") {
+        Ok(Some(device)) => Ok(Some(device_in(device)?)),
+        Ok(None) => Ok(None),
+        Err(flaw) => Err(fault(Field::Request(RequestField::Device), flaw)),
+    }
+}
+
+pub(crate) fn user_field(request: &Value) -> Result<Option<User>, ReqFault>
+    ensures { Answers ReqFault.Memory (inside_faults (Field.Request RequestField.User) user_faults (optional as_object (present (codes "user") (tree_of request.now)))) (inside_from user_from (optional as_object (present (codes "user") (tree_of request.now)))) result }
+{
+    match fields::object(request, b"user") {
+        Ok(Some(user)) => Ok(Some(user_in(user)?)),
+        Ok(None) => Ok(None),
+        Err(flaw) => Err(fault(Field::Request(RequestField::User), flaw)),
+    }
+}

@@ -1,0 +1,157 @@
+#![tactic(auto, using(json_fields::proofs::First::in_front, json_fields::proofs::First::behind, json_fields::proofs::First::neither, json_fields::proofs::First::mapped, json_fields::proofs::First::mapped_none, crate::proofs::Loops::no_deals), unfolding(crate::specs::Imps::deal_texts_faults, crate::specs::Imps::deal_texts_from, crate::specs::Imps::deal_faults, crate::specs::Imps::deal_from, crate::specs::Imps::deals_faults, crate::specs::Imps::deals_in, crate::specs::Imps::pmp_faults, crate::specs::Imps::pmp_from, crate::specs::Parts::element_faults, crate::specs::Parts::inside_faults, crate::specs::Parts::inside_from, crate::specs::Parts::list_faults))]
+
+ghost use Rattle.std.specs.Prelude.{◌≡◌, [], codes, map};
+ghost use Rattle.exact_json.specs.View.{tree_of};
+ghost use Rattle.json_fields.specs.Answers.{Answers, map_ok, value_or};
+ghost use Rattle.json_fields.specs.Fields.{as_object, as_text, optional, present, required};
+ghost use Rattle.json_fields.specs.Items.{each_at, elements};
+ghost use Rattle.rtb_read.specs.Imps.{deal_at, deal_faults, deal_from, deal_texts_faults, deal_texts_from, deals_faults, deals_from, deals_in, no_pmp, pmp_faults, pmp_from, pmp_or_none};
+ghost use Rattle.rtb_read.specs.Parts.{faults_at, inside_faults, inside_from, list_fault};
+
+use crate::fault::ReqFault;
+use crate::parts::{currency_field, fault, flag_field, floor_field};
+use crate::types::type_field;
+use exact_json::Value;
+use json_fields as fields;
+use json_fields::ListFlaw;
+use rtb_num::{List, Txt};
+use rtb_types::{Deal, DealField, Field, ImpField, Pmp, PmpField};
+use std::alloc::Global;
+
+// First price, second price, and at the agreed price.
+const DEAL_TYPES: u8 = 3;
+
+fn texts_fault(imp: usize, place: usize, part: DealField, flaw: ListFlaw) -> ReqFault
+    ensures { result ≡ list_fault (Field.OfDeal imp place part) (Field.DealItem imp place part) flaw }
+{
+    match flaw {
+        ListFlaw::Whole(flaw) => fault(Field::OfDeal(imp, place, part), flaw),
+        ListFlaw::Item(item, flaw) => fault(Field::DealItem(imp, place, part, item), flaw),
+        ListFlaw::Memory => ReqFault::Memory,
+    }
+}
+
+// A list of texts.
+fn texts_field(
+    alloc: Global,
+    imp: usize,
+    place: usize,
+    deal: &Value,
+    part: DealField,
+) -> Result<List<Txt>, ReqFault>
+    ensures { Answers ReqFault.Memory (deal_texts_faults imp place part (tree_of deal.now)) (deal_texts_from part (tree_of deal.now)) result }
+{
+    match fields::texts(alloc, deal, part.name()) {
+        Ok(texts) => Ok(texts),
+        Err(flaw) => Err(texts_fault(imp, place, part, flaw)),
+    }
+}
+
+#[tactic(auto, unfolding(crate::specs::Parts::faults_at))]
+fn id_field(imp: usize, place: usize, deal: &Value) -> Result<Txt, ReqFault>
+    ensures { Answers ReqFault.Memory (faults_at (Field.OfDeal imp place DealField.Id) (required as_text (present (codes "id") (tree_of deal.now)))) (value_or [] (required as_text (present (codes "id") (tree_of deal.now)))) result }
+{
+    match fields::required_text(deal, b"id") {
+        Ok(id) => Ok(id.copy()?),
+        Err(flaw) => Err(fault(Field::OfDeal(imp, place, DealField::Id), flaw)),
+    }
+}
+
+// A deal, by the request's auction type and by the places of its impression and of its own.
+fn deal_in(alloc: Global, at: u8, imp: usize, place: usize, deal: &Value) -> Result<Deal, ReqFault>
+    ensures { Answers ReqFault.Memory (deal_faults imp place (tree_of deal.now)) (deal_from at (tree_of deal.now)) result }
+{
+    let id = id_field(imp, place, deal)?;
+    let floor = floor_field(deal, Field::OfDeal(imp, place, DealField::Bidfloor))?;
+    let currency = currency_field(
+        alloc,
+        deal,
+        Field::OfDeal(imp, place, DealField::Bidfloorcur),
+    )?;
+    let at = type_field(
+        deal,
+        Field::OfDeal(imp, place, DealField::At),
+        DEAL_TYPES,
+        at,
+    )?;
+    let wseat = texts_field(alloc, imp, place, deal, DealField::Wseat)?;
+    let wadomain = texts_field(alloc, imp, place, deal, DealField::Wadomain)?;
+    Ok(Deal {
+        id,
+        floor,
+        currency,
+        at,
+        wseat,
+        wadomain,
+    })
+}
+
+fn deal_entry(
+    alloc: Global,
+    at: u8,
+    imp: usize,
+    place: usize,
+    value: &Value,
+) -> Result<Deal, ReqFault>
+    ensures { Answers ReqFault.Memory (deal_at imp place (tree_of value.now)) (deal_from at (tree_of value.now)) result }
+{
+    match fields::object_in(value) {
+        Ok(deal) => deal_in(alloc, at, imp, place, deal),
+        Err(flaw) => Err(fault(Field::Deal(imp, place), flaw)),
+    }
+}
+
+fn all_deals(alloc: Global, at: u8, imp: usize, values: &[Value]) -> Result<Vec<Deal>, ReqFault>
+    ensures { Answers ReqFault.Memory (each_at (deal_at imp) (map tree_of values.now)) (deals_from at (map tree_of values.now)) (map_ok (λ v. v.items) result) }
+{
+    let mut deals = Vec::with_capacity(alloc, values.len())?;
+    for (place, value) in values.iter().enumerate() {
+        deals.push(deal_entry(alloc, at, imp, place, value)?)?;
+    }
+    Ok(deals)
+}
+
+fn deals_field(alloc: Global, at: u8, imp: usize, pmp: &Value) -> Result<List<Deal>, ReqFault>
+    ensures { Answers ReqFault.Memory (deals_faults imp (tree_of pmp.now)) (deals_from at (elements (deals_in (tree_of pmp.now)))) result }
+{
+    match fields::array(pmp, b"deals") {
+        Ok(Some(values)) => Ok(List::from_vec(all_deals(alloc, at, imp, values)?)),
+        Ok(None) => Ok(List::new(alloc)),
+        Err(flaw) => Err(fault(Field::Pmp(imp, PmpField::Deals), flaw)),
+    }
+}
+
+fn pmp_in(alloc: Global, at: u8, imp: usize, pmp: &Value) -> Result<Pmp, ReqFault>
+    ensures { Answers ReqFault.Memory (pmp_faults imp (tree_of pmp.now)) (pmp_from at (tree_of pmp.now)) result }
+{
+    let private_auction = flag_field(
+        pmp,
+        b"private_auction",
+        Field::Pmp(imp, PmpField::PrivateAuction),
+    )?;
+    let deals = deals_field(alloc, at, imp, pmp)?;
+    Ok(Pmp {
+        private_auction,
+        deals,
+    })
+}
+
+// No deals, and open to all.
+fn open_to_all(alloc: Global) -> Pmp
+    ensures { result ≡ no_pmp }
+{
+    Pmp {
+        private_auction: false,
+        deals: List::new(alloc),
+    }
+}
+
+pub(crate) fn pmp_field(alloc: Global, at: u8, imp: usize, parent: &Value) -> Result<Pmp, ReqFault>
+    ensures { Answers ReqFault.Memory (inside_faults (Field.Imp imp ImpField.Pmp) (pmp_faults imp) (optional as_object (present (codes "pmp") (tree_of parent.now)))) (pmp_or_none (inside_from (pmp_from at) (optional as_object (present (codes "pmp") (tree_of parent.now))))) result }
+{
+    match fields::object(parent, b"pmp") {
+        Ok(Some(pmp)) => pmp_in(alloc, at, imp, pmp),
+        Ok(None) => Ok(open_to_all(alloc)),
+        Err(flaw) => Err(fault(Field::Imp(imp, ImpField::Pmp), flaw)),
+    }
+}

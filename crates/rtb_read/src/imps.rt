@@ -1,0 +1,103 @@
+#![tactic(auto, using(json_fields::proofs::First::in_front, json_fields::proofs::First::behind, json_fields::proofs::First::neither), unfolding(crate::specs::Imps::imp_faults, crate::specs::Imps::imp_from, crate::specs::Imps::count_faults, crate::specs::Imps::imps_faults, crate::specs::Imps::duplicates, crate::specs::Parts::element_faults))]
+
+ghost use Rattle.std.specs.Prelude.{◌≡◌, [], ◌∷◌, map, position, IfErr, OnOk};
+ghost use Rattle.std.specs.Str.{bytes_eq};
+ghost use Rattle.exact_json.specs.View.{tree_of};
+ghost use Rattle.json_fields.specs.Answers.{Answers, IsFirst, map_ok};
+ghost use Rattle.json_fields.specs.Items.{each_at};
+ghost use Rattle.rtb_read.specs.Imps.{count_faults, duplicates, imp_at, imp_faults, imp_from, imps_faults, imps_from, ids_of};
+
+use crate::banner::banner_field;
+use crate::deals::pmp_field;
+use crate::fault::ReqFault;
+use crate::parts::{currency_field, fault, flag_field, floor_field, id_field, text_field};
+use exact_json::Value;
+use json_fields as fields;
+use rtb_num::List;
+use rtb_types::{Field, Imp, ImpField, MAX_IMPS, RequestField};
+use std::alloc::Global;
+
+// An impression, by the request's auction type and by its place.
+fn imp_in(alloc: Global, at: u8, place: usize, imp: &Value) -> Result<Imp, ReqFault>
+    ensures { Answers ReqFault.Memory (imp_faults place (tree_of imp.now)) (imp_from at (tree_of imp.now)) result }
+{
+    let id = id_field(imp, Field::Imp(place, ImpField::Id))?;
+    let tagid = text_field(imp, b"tagid", Field::Imp(place, ImpField::Tagid))?;
+    let secure = flag_field(imp, b"secure", Field::Imp(place, ImpField::Secure))?;
+    let floor = floor_field(imp, Field::Imp(place, ImpField::Bidfloor))?;
+    let currency = currency_field(alloc, imp, Field::Imp(place, ImpField::Bidfloorcur))?;
+    let banner = banner_field(alloc, place, imp)?;
+    let pmp = pmp_field(alloc, at, place, imp)?;
+    Ok(Imp {
+        id,
+        tagid,
+        secure,
+        floor,
+        currency,
+        banner,
+        pmp,
+    })
+}
+
+fn imp_entry(alloc: Global, at: u8, place: usize, value: &Value) -> Result<Imp, ReqFault>
+    ensures { Answers ReqFault.Memory (imp_at place (tree_of value.now)) (imp_from at (tree_of value.now)) result }
+{
+    match fields::object_in(value) {
+        Ok(imp) => imp_in(alloc, at, place, imp),
+        Err(flaw) => Err(fault(Field::RequestItem(RequestField::Imp, place), flaw)),
+    }
+}
+
+fn all_imps(alloc: Global, at: u8, values: &[Value]) -> Result<Vec<Imp>, ReqFault>
+    ensures { Answers ReqFault.Memory (each_at imp_at (map tree_of values.now)) (imps_from at (map tree_of values.now)) (map_ok (λ v. v.items) result) }
+{
+    let mut imps = Vec::with_capacity(alloc, values.len())?;
+    for (place, value) in values.iter().enumerate() {
+        imps.push(imp_entry(alloc, at, place, value)?)?;
+    }
+    Ok(imps)
+}
+
+// Whether there are 1 to 64.
+fn check_count(count: usize) -> Result<(), ReqFault>
+    ensures ok { OnOk result (count_faults count ≡ []) }
+    ensures err { IfErr result (λ e. count_faults count ≡ e ∷ []) }
+{
+    if count == 0 {
+        return Err(ReqFault::NoImps);
+    }
+    if count > MAX_IMPS {
+        return Err(ReqFault::TooManyImps { count });
+    }
+    Ok(())
+}
+
+// The least place of an impression with this id.
+fn place_of(imps: &[Imp], id: &[u8]) -> Option<usize>
+    ensures { result ≡ position (λ i. bytes_eq i.id id.now) imps.now }
+{
+    imps.iter().position(|imp| imp.id.as_bytes() == id)
+}
+
+// Whether no two have one id. There are at most 64, so each is compared with each.
+fn check_ids(imps: &[Imp]) -> Result<(), ReqFault>
+    ensures ok { OnOk result (duplicates (ids_of imps.now) ≡ []) }
+    ensures err { IfErr result (IsFirst ReqFault.Memory (duplicates (ids_of imps.now))) }
+{
+    for (second, imp) in imps.iter().enumerate() {
+        if let Some(first) = place_of(&imps[..second], imp.id.as_bytes()) {
+            return Err(ReqFault::DuplicateImp { first, second });
+        }
+    }
+    Ok(())
+}
+
+// The impressions in the values of an array.
+pub(crate) fn imps_in(alloc: Global, at: u8, values: &[Value]) -> Result<List<Imp>, ReqFault>
+    ensures { Answers ReqFault.Memory (imps_faults (map tree_of values.now)) (imps_from at (map tree_of values.now)) result }
+{
+    check_count(values.len())?;
+    let imps = all_imps(alloc, at, values)?;
+    check_ids(&imps)?;
+    Ok(List::from_vec(imps))
+}

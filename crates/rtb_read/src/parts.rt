@@ -1,0 +1,123 @@
+#![tactic(auto, using(json_fields::proofs::First::in_front, json_fields::proofs::First::behind, json_fields::proofs::First::neither), unfolding(crate::specs::Parts::faults_at, crate::specs::Parts::text_faults, crate::specs::Parts::text_from, crate::specs::Parts::integer_faults, crate::specs::Parts::integer_from, crate::specs::Parts::list_faults, crate::specs::Parts::type_faults, crate::specs::Parts::type_from))]
+
+ghost use Rattle.std.specs.Prelude.{◌≡◌, [], false, option_map, codes, IfOk};
+ghost use Rattle.exact_json.specs.View.{tree_of};
+ghost use Rattle.json_fields.specs.Answers.{Answers, value_or};
+ghost use Rattle.json_fields.specs.Fields.{as_flag, or_absent, present};
+ghost use Rattle.rtb_read.specs.Imps.{currency_in, floor_in, id_in};
+ghost use Rattle.rtb_read.specs.Parts.{fault_of, faults_at, integer_faults, integer_from, text_faults, text_from};
+
+use crate::fault::ReqFault;
+use exact_json::Value;
+use json_fields as fields;
+use json_fields::{Bounds, Flaw};
+use rtb_num::{Micros, Txt};
+use rtb_types::Field;
+use std::alloc::{AllocError, Global};
+
+// The most bytes that the id of a request or of an impression has.
+const MAX_ID: usize = 255;
+
+// An integer without a range of its own has 32 bits.
+pub(crate) const ANY_I32: Bounds = Bounds {
+    least: i32::MIN,
+    greatest: i32::MAX,
+};
+
+// The flaw of the field.
+pub(crate) fn fault(field: Field, flaw: Flaw) -> ReqFault
+    ensures { result ≡ fault_of field flaw }
+{
+    match flaw {
+        Flaw::Missing => ReqFault::Missing { field },
+        Flaw::WrongType => ReqFault::WrongType { field },
+        Flaw::Range => ReqFault::Range { field },
+        Flaw::Price(fault) => ReqFault::Price { field, fault },
+    }
+}
+
+fn copied(text: Option<&Txt>) -> Result<Option<Txt>, AllocError>
+    ensures { IfOk result (λ t. t ≡ option_map (λ s. s.now) text.entry) }
+{
+    match text {
+        Some(text) => Ok(Some(text.copy()?)),
+        None => Ok(None),
+    }
+}
+
+// A text, which may be absent.
+pub(crate) fn text_field(object: &Value, name: &[u8], field: Field) -> Result<Option<Txt>, ReqFault>
+    ensures { Answers ReqFault.Memory (text_faults field name.now (tree_of object.now)) (text_from name.now (tree_of object.now)) result }
+{
+    match fields::text(object, name) {
+        Ok(found) => Ok(copied(found)?),
+        Err(flaw) => Err(fault(field, flaw)),
+    }
+}
+
+// An integer, which may be absent.
+pub(crate) fn integer_field(
+    object: &Value,
+    name: &[u8],
+    field: Field,
+) -> Result<Option<i32>, ReqFault>
+    ensures { Answers ReqFault.Memory (integer_faults field name.now (tree_of object.now)) (integer_from name.now (tree_of object.now)) result }
+{
+    match fields::whole_number(object, name, &ANY_I32) {
+        Ok(found) => Ok(found),
+        Err(flaw) => Err(fault(field, flaw)),
+    }
+}
+
+// A 0 or a 1, and 0 where it is absent.
+pub(crate) fn flag_field(object: &Value, name: &[u8], field: Field) -> Result<bool, ReqFault>
+    ensures { Answers ReqFault.Memory (faults_at field (or_absent false as_flag (present name.now (tree_of object.now)))) (value_or false (or_absent false as_flag (present name.now (tree_of object.now)))) result }
+{
+    match fields::flag(object, name) {
+        Ok(found) => Ok(found),
+        Err(flaw) => Err(fault(field, flaw)),
+    }
+}
+
+// The id of a request or of an impression: a text of 1 to 255 bytes.
+pub(crate) fn id_field(object: &Value, field: Field) -> Result<Txt, ReqFault>
+    ensures { Answers ReqFault.Memory (faults_at field (id_in (tree_of object.now))) (value_or [] (id_in (tree_of object.now))) result }
+{
+    match fields::required_text_within(object, b"id", MAX_ID) {
+        Ok(id) => Ok(id.copy()?),
+        Err(flaw) => Err(fault(field, flaw)),
+    }
+}
+
+// A floor in US dollars, and 0 where it is absent.
+pub(crate) fn floor_field(object: &Value, field: Field) -> Result<Micros, ReqFault>
+    ensures { Answers ReqFault.Memory (faults_at field (floor_in (tree_of object.now))) (value_or 0 (floor_in (tree_of object.now))) result }
+{
+    match fields::floor_price(object, b"bidfloor") {
+        Ok(floor) => Ok(floor),
+        Err(flaw) => Err(fault(field, flaw)),
+    }
+}
+
+// The text of the currency US dollars (ISO 4217).
+fn us_dollars(alloc: Global) -> Result<Txt, AllocError>
+    ensures { IfOk result (λ t. t ≡ codes "USD") }
+{
+    let mut text = Txt::new(alloc);
+    text.extend(b"USD")?;
+    Ok(text)
+}
+
+// The currency of a floor, and US dollars where it is absent.
+#[tactic(auto, unfolding(crate::specs::Parts::faults_at, json_fields::specs::Fields::or_absent))]
+pub(crate) fn currency_field(alloc: Global, object: &Value, field: Field) -> Result<Txt, ReqFault>
+    ensures { Answers ReqFault.Memory (faults_at field (currency_in (tree_of object.now))) (value_or [] (currency_in (tree_of object.now))) result }
+{
+    match fields::present(object, b"bidfloorcur") {
+        Some(value) => match fields::text_in(value) {
+            Ok(text) => Ok(text.copy()?),
+            Err(flaw) => Err(fault(field, flaw)),
+        },
+        None => Ok(us_dollars(alloc)?),
+    }
+}

@@ -1,0 +1,118 @@
+#![tactic(auto, using(json_fields::proofs::First::in_front, json_fields::proofs::First::behind, json_fields::proofs::First::neither, json_fields::proofs::First::mapped, json_fields::proofs::First::mapped_none), unfolding(crate::specs::Request::texts_faults, crate::specs::Request::texts_from, crate::specs::Request::imp_in, crate::specs::Request::all_imps_faults, crate::specs::Request::request_faults, crate::specs::Parts::list_faults))]
+
+ghost use Rattle.std.specs.Prelude.{◌≡◌, [], IfOk, IsTrue};
+ghost use Rattle.exact_json.specs.Docs.{doc_tree};
+ghost use Rattle.exact_json.specs.View.{tree_of};
+ghost use Rattle.json_fields.specs.Answers.{Answers, value_or};
+ghost use Rattle.rtb_types.specs.Valid.{is_valid};
+ghost use Rattle.rtb_read.specs.Imps.{imps_from};
+ghost use Rattle.rtb_read.specs.Parts.{list_fault};
+ghost use Rattle.rtb_read.specs.Request.{all_imps_faults, fields_faults, imp_in, request_faults, request_from, texts_faults, texts_from};
+
+use crate::context::{app_field, device_field, site_field, user_field};
+use crate::fault::ReqFault;
+use crate::imps::imps_in;
+use crate::parts::{fault, flag_field, id_field};
+use crate::types::type_field;
+use exact_json::{Doc, Value};
+use json_fields as fields;
+use json_fields::ListFlaw;
+use rtb_num::{List, Txt};
+use rtb_types::{BidRequest, Field, Imp, RequestField};
+use std::alloc::Global;
+
+// First price and second price.
+const AUCTION_TYPES: u8 = 2;
+
+// The type of an auction whose request names none: second price.
+const SECOND_PRICE: u8 = 2;
+
+fn texts_fault(field: RequestField, flaw: ListFlaw) -> ReqFault
+    ensures { result ≡ list_fault (Field.Request field) (Field.RequestItem field) flaw }
+{
+    match flaw {
+        ListFlaw::Whole(flaw) => fault(Field::Request(field), flaw),
+        ListFlaw::Item(place, flaw) => fault(Field::RequestItem(field, place), flaw),
+        ListFlaw::Memory => ReqFault::Memory,
+    }
+}
+
+// A list of texts.
+fn texts_field(alloc: Global, request: &Value, field: RequestField) -> Result<List<Txt>, ReqFault>
+    ensures { Answers ReqFault.Memory (texts_faults field (tree_of request.now)) (texts_from field (tree_of request.now)) result }
+{
+    match fields::texts(alloc, request, field.name()) {
+        Ok(texts) => Ok(texts),
+        Err(flaw) => Err(texts_fault(field, flaw)),
+    }
+}
+
+fn imps_field(alloc: Global, at: u8, request: &Value) -> Result<List<Imp>, ReqFault>
+    ensures { Answers ReqFault.Memory (all_imps_faults (imp_in (tree_of request.now))) (imps_from at (value_or [] (imp_in (tree_of request.now)))) result }
+{
+    match fields::required_array(request, b"imp") {
+        Ok(values) => imps_in(alloc, at, values),
+        Err(flaw) => Err(fault(Field::Request(RequestField::Imp), flaw)),
+    }
+}
+
+// The fields of a request, in the order in which they are read.
+#[tactic(auto, using(json_fields::proofs::First::in_front, json_fields::proofs::First::behind, json_fields::proofs::First::neither), unfolding(crate::specs::Request::fields_faults, crate::specs::Request::request_from))]
+fn request_in(alloc: Global, request: &Value) -> Result<BidRequest, ReqFault>
+    ensures { Answers ReqFault.Memory (fields_faults (tree_of request.now)) (request_from (tree_of request.now)) result }
+{
+    let id = id_field(request, Field::Request(RequestField::Id))?;
+    let at = type_field(
+        request,
+        Field::Request(RequestField::At),
+        AUCTION_TYPES,
+        SECOND_PRICE,
+    )?;
+    let test = flag_field(request, b"test", Field::Request(RequestField::Test))?;
+    let wseat = texts_field(alloc, request, RequestField::Wseat)?;
+    let bseat = texts_field(alloc, request, RequestField::Bseat)?;
+    let cur = texts_field(alloc, request, RequestField::Cur)?;
+    let bcat = texts_field(alloc, request, RequestField::Bcat)?;
+    let badv = texts_field(alloc, request, RequestField::Badv)?;
+    let site = site_field(request)?;
+    let app = app_field(request)?;
+    let device = device_field(request)?;
+    let user = user_field(request)?;
+    let imps = imps_field(alloc, at, request)?;
+    Ok(BidRequest {
+        id,
+        at,
+        test,
+        wseat,
+        bseat,
+        cur,
+        bcat,
+        badv,
+        site,
+        app,
+        device,
+        user,
+        imps,
+    })
+}
+
+fn answer(alloc: Global, doc: &Doc) -> Result<BidRequest, ReqFault>
+    ensures { Answers ReqFault.Memory (request_faults (doc_tree doc.now)) (request_from (doc_tree doc.now)) result }
+{
+    match fields::object_in(doc.root()) {
+        Ok(request) => request_in(alloc, request),
+        Err(_) => Err(ReqFault::NotObject),
+    }
+}
+
+/// The bid request (OpenRTB 2.5, section 3.2.1) in a JSON text, or the first of its faults in the
+/// order in which the fields are read.
+///
+/// A null is as an absent field, and members that are not listed never matter. What it gives is
+/// valid: 1 to 64 impressions, and no auction type that is not listed.
+pub fn read_request(alloc: Global, doc: &Doc) -> Result<BidRequest, ReqFault>
+    ensures first_fault { Answers ReqFault.Memory (request_faults (doc_tree doc.now)) (request_from (doc_tree doc.now)) result }
+    ensures valid { IfOk result (λ r. IsTrue (is_valid r)) }
+{
+    answer(alloc, doc)
+}
