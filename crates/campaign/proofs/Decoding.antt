@@ -1,0 +1,164 @@
+-- The bytes of facts are a code, in their groups.
+use Rattle.std.proofs.Common.{◌≡◌, ℕ, ◌+◌, ◌%◌, ◌<◌, ◌≤◌, ◌^◌, List, [], ◌∷◌, ◌++◌, length, Bool, true, false, Option, Some, None, is_some, Result, Ok, Err, refl, sym, ap, subst, ◌∙◌, arith, append_assoc, All, ℤ, pos, negsuc, ◌≤ℤ◌, FitsSigned}
+use Rattle.std.specs.Option.{option_map, option_zip}
+use Rattle.std.specs.Int.{w32, cast_unsigned}
+use Rattle.std.proofs.lemmas.Int.{ints}
+use Rattle.byte_fields.specs.Codes.{BeginsAt, IsReadAt, IsCode, BothValid, both_bytes}
+use Rattle.byte_fields.specs.Encodings.{FitsFour, four_bytes, FitsEight, eight_bytes, IsFlag, flag_bytes, IsShort, text_bytes, IsOptionOf, option_bytes, IsListOf, list_bytes}
+use Rattle.byte_fields.proofs.Codes.{begins_as, both_code, code_as, flag_code, narrow_code, one_reading, option_code, read_as, read_narrow, read_none_as, three_code}
+use Rattle.byte_fields.proofs.Numbers.{four_code, eight_code}
+use Rattle.byte_fields.proofs.Rows.{list_code, text_code}
+use Rattle.campaign.specs.declared.parts.FactParts.{FactParts}
+use Rattle.campaign.specs.declared.parts.FactFault.{FactFault}
+use Rattle.campaign.specs.Encoding.{facts_bytes, int_bytes, sides_bytes}
+use Rattle.campaign.specs.Faults.{checked, fact_faults}
+use Rattle.campaign.specs.Groups.{AreGroups, AreNames, AreSides, Groups, IsCreative, IsLook, IsLoose, IsMicros, IsMoney, IsNanos, IsWhole, creative_bytes, creative_of, groups_bytes, groups_of, look_bytes, look_of, money_bytes, money_of, names_bytes, names_of, parts_from}
+use Rattle.campaign.specs.Kept.{IsInRange, IsKept, size_of}
+use Rattle.campaign.proofs.Rules.{loose}
+
+whole_fits : (z : ℤ) → IsWhole z → cast_unsigned w32 z < 2 ^ 32
+whole_fits z h = let a = h.0 in let b = h.1 in omega (arith, ints)
+
+whole_apart : (y z : ℤ) → IsWhole y → IsWhole z → cast_unsigned w32 y ≡ cast_unsigned w32 z → y ≡ z
+whole_apart (pos m) (pos n) v w e = ap pos e
+whole_apart (pos m) (negsuc n) v w e = let a = w.0 in absurd (omega (arith, ints))
+whole_apart (negsuc m) z v w e = let a = v.0 in absurd (omega (arith, ints))
+
+pub int_code : IsCode IsWhole int_bytes
+int_code = code_as FitsFour four_bytes IsWhole int_bytes four_code (cast_unsigned w32) whole_fits (λ y w. refl) whole_apart
+
+-- more than the greatest number of 32 bits with a sign
+pub int_too_large : (bytes : List ℕ) (place n m : ℕ) → IsReadAt FitsFour four_bytes bytes place (Some (n, m)) → 2147483647 < n → IsReadAt IsWhole int_bytes bytes place None
+int_too_large bytes place n m r large = λ z k w a.
+    let same = one_reading FitsFour four_bytes four_code bytes place n (cast_unsigned w32 z) m k r.0 (whole_fits z w) r.1 a in
+    let e = same.0 in
+    let low = w.0 in
+    let fits = w.1 in
+    omega (arith, ints)
+
+pub sides_code : IsCode AreSides sides_bytes
+sides_code = both_code IsWhole int_bytes IsWhole int_bytes int_code int_code
+
+pub texts_code : IsCode (IsListOf IsShort) (list_bytes text_bytes)
+texts_code = list_code IsShort text_bytes text_code
+
+pub ints_code : IsCode (IsListOf IsWhole) (list_bytes int_bytes)
+ints_code = list_code IsWhole int_bytes int_code
+
+pub size_code : IsCode (IsOptionOf AreSides) (option_bytes sides_bytes)
+size_code = option_code AreSides sides_bytes sides_code
+
+pub micros_fit : (n : ℕ) → IsMicros n → FitsEight n
+micros_fit n h = omega (arith, h)
+
+pub nanos_fit : (n : ℕ) → IsNanos n → FitsEight n
+nanos_fit n h = omega (arith, h)
+
+pub micros_code : IsCode IsMicros eight_bytes
+micros_code = narrow_code FitsEight eight_bytes eight_code IsMicros micros_fit
+
+pub nanos_code : IsCode IsNanos eight_bytes
+nanos_code = narrow_code FitsEight eight_bytes eight_code IsNanos nanos_fit
+
+pub names_code : IsCode AreNames names_bytes
+names_code = three_code IsShort text_bytes IsShort text_bytes (IsListOf IsShort) (list_bytes text_bytes) text_code text_code texts_code
+
+pub look_code : IsCode IsLook look_bytes
+look_code = three_code (IsOptionOf AreSides) (option_bytes sides_bytes) (IsListOf IsWhole) (list_bytes int_bytes) IsFlag flag_bytes size_code ints_code flag_code
+
+pub money_code : IsCode IsMoney money_bytes
+money_code = three_code IsMicros eight_bytes (IsListOf IsShort) (list_bytes text_bytes) IsNanos eight_bytes micros_code texts_code nanos_code
+
+pub creative_code : IsCode IsCreative creative_bytes
+creative_code = three_code IsShort text_bytes IsShort text_bytes (IsOptionOf IsShort) (option_bytes text_bytes) text_code text_code (option_code IsShort text_bytes text_code)
+
+pub groups_code : IsCode AreGroups groups_bytes
+groups_code = both_code (BothValid (BothValid AreNames IsLook) IsMoney) (both_bytes (both_bytes names_bytes look_bytes) money_bytes) IsCreative creative_bytes (three_code AreNames names_bytes IsLook look_bytes IsMoney money_bytes names_code look_code money_code) creative_code
+
+regrouped : (a b c d e f g h i j k l : List ℕ) → a ++ b ++ c ++ d ++ e ++ f ++ g ++ h ++ i ++ j ++ k ++ l ≡ ((a ++ b ++ c) ++ (d ++ e ++ f) ++ (g ++ h ++ i)) ++ (j ++ k ++ l)
+regrouped a b c d e f g h i j k l = simp append_assoc
+
+pub facts_is : (p : FactParts) → facts_bytes p ≡ groups_bytes (groups_of p)
+unfolding facts_bytes
+facts_is p = regrouped (text_bytes p.seat) (text_bytes p.adomain) (list_bytes text_bytes p.cat) (option_bytes sides_bytes (size_of p)) (list_bytes int_bytes p.attr) (flag_bytes p.secure) (eight_bytes p.bid) (list_bytes text_bytes p.deals) (eight_bytes p.budget) (text_bytes p.adm) (text_bytes p.crid) (option_bytes text_bytes p.adid)
+
+zip_back : (s : Option (ℤ × ℤ)) → option_zip (option_map (λ (r : ℤ × ℤ). r.0) s) (option_map (λ (r : ℤ × ℤ). r.1) s) ≡ s
+zip_back None = refl
+zip_back (Some s) = refl
+
+both_there : (s : Option (ℤ × ℤ)) → is_some (option_map (λ (r : ℤ × ℤ). r.0) s) ≡ is_some (option_map (λ (r : ℤ × ℤ). r.1) s)
+both_there None = refl
+both_there (Some s) = refl
+
+first_back : (w h : Option ℤ) → is_some w ≡ is_some h → option_map (λ (r : ℤ × ℤ). r.0) (option_zip w h) ≡ w
+first_back None h e = refl
+first_back (Some w) (Some h) e = refl
+first_back (Some w) None e = cc
+
+second_back : (w h : Option ℤ) → is_some w ≡ is_some h → option_map (λ (r : ℤ × ℤ). r.1) (option_zip w h) ≡ h
+second_back None None e = refl
+second_back None (Some h) e = cc
+second_back (Some w) (Some h) e = refl
+second_back (Some w) None e = cc
+
+groups_back : (g : Groups) → groups_of (parts_from g) ≡ g
+groups_back g =
+    ap (λ (s : Option (ℤ × ℤ)). (((g.0.0.0, ((s, g.0.0.1.0.1), g.0.0.1.1)), g.0.1), g.1)) (zip_back g.0.0.1.0.0)
+
+parts_back : (p : FactParts) → is_some p.w ≡ is_some p.h → parts_from (groups_of p) ≡ p
+parts_back p e =
+    ap (λ w. record p { w = w; h = option_map (λ (r : ℤ × ℤ). r.1) (option_zip p.w p.h) }) (first_back p.w p.h e) ∙ ap (λ h. record p { h = h }) (second_back p.w p.h e)
+
+loose_from : (g : Groups) → AreGroups g → IsLoose (parts_from g)
+loose_from g v = record { groups = subst AreGroups (sym (groups_back g)) v; sides = both_there g.0.0.1.0.0 }
+
+pub loose_code : IsCode IsLoose facts_bytes
+loose_code = code_as AreGroups groups_bytes IsLoose facts_bytes groups_code groups_of (λ p l. l.groups) (λ p l. facts_is p) apart
+  where
+    apart : (p q : FactParts) → IsLoose p → IsLoose q → groups_of p ≡ groups_of q → p ≡ q
+    apart p q l m e = sym (parts_back p l.sides) ∙ ap parts_from e ∙ parts_back q m.sides
+
+pub kept_code : IsCode IsKept facts_bytes
+kept_code = narrow_code IsLoose facts_bytes loose_code IsKept loose
+
+-- ---- from the groups to the facts
+
+pub parts_read : (bytes : List ℕ) (place : ℕ) (g : Groups) (n : ℕ) → IsReadAt AreGroups groups_bytes bytes place (Some (g, n)) → IsReadAt IsLoose facts_bytes bytes place (Some (parts_from g, n))
+parts_read = read_as AreGroups groups_bytes IsLoose facts_bytes parts_from groups_of loose_from (λ p l. l.groups) (λ g v. sym (facts_is (parts_from g) ∙ ap groups_bytes (groups_back g))) (λ p l. facts_is p)
+
+pub parts_none : (bytes : List ℕ) (place : ℕ) → IsReadAt AreGroups groups_bytes bytes place None → IsReadAt IsLoose facts_bytes bytes place None
+parts_none = read_none_as AreGroups groups_bytes IsLoose facts_bytes groups_of (λ p l. l.groups) (λ p l. facts_is p)
+
+pub kept_none : (bytes : List ℕ) (place : ℕ) → IsReadAt IsLoose facts_bytes bytes place None → IsReadAt IsKept facts_bytes bytes place None
+kept_none bytes place none = λ p m k a. none p m (loose p k) a
+
+pub kept_refused : (bytes : List ℕ) (place : ℕ) (p : FactParts) (n : ℕ) → IsReadAt IsLoose facts_bytes bytes place (Some (p, n)) → (IsKept p → ⊥) → IsReadAt IsKept facts_bytes bytes place None
+kept_refused = read_narrow IsLoose facts_bytes loose_code IsKept loose
+
+pub faulty : (p : FactParts) (f : FactFault) → checked (fact_faults p) p ≡ Err f → IsKept p → ⊥
+faulty p f e kept = apart (ap (λ fs. checked {A = FactParts} fs p) (sym kept.faultless) ∙ e)
+  where
+    apart : {A E : Type 0} {x : A} {y : E} → ◌≡◌ {A = Result A E} (Ok x) (Err y) → ⊥
+    apart h = cc
+
+checked_ok : {A E : Type 0} (fs : List E) (x y : A) → checked fs x ≡ Ok y → (fs ≡ []) × (y ≡ x)
+checked_ok [] x y e = (refl, cc)
+checked_ok (f ∷ fs) x y e = cc
+
+pub kept_from : (p q : FactParts) → IsLoose p → p.budget % 1000 ≡ 0 → checked (fact_faults p) p ≡ Ok q → IsKept q
+kept_from p q l whole e =
+    let ok = checked_ok (fact_faults p) p q e in
+    subst IsKept (sym ok.1) record {
+      faultless = ok.0;
+      whole_micros = whole;
+      in_range = record {
+        bid_range = l.groups.0.1.0.0;
+        budget_range = l.groups.0.1.1;
+        attr_range = λ k d lt. (l.groups.0.0.1.0.1.1 k d lt).1;
+      };
+    }
+
+pub kept_read : (bytes : List ℕ) (place : ℕ) (p q : FactParts) (n : ℕ) → IsReadAt IsLoose facts_bytes bytes place (Some (p, n)) → p.budget % 1000 ≡ 0 → checked (fact_faults p) p ≡ Ok q → IsReadAt IsKept facts_bytes bytes place (Some (q, n))
+kept_read bytes place p q n r whole e =
+    let ok = checked_ok (fact_faults p) p q e in
+    (kept_from p q r.0 whole e, begins_as bytes (facts_bytes p) (facts_bytes q) place n n (ap facts_bytes (sym ok.1)) refl r.1)

@@ -1,0 +1,3 @@
+pub mod Decoding
+pub mod Firsts
+pub mod Rules

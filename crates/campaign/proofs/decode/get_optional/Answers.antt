@@ -1,0 +1,12 @@
+use Rattle.byte_fields.proofs.Codes.{option_no_flag, option_is_torn}
+use Rattle.byte_fields.specs.Encodings.{IsShort, text_bytes}
+use Rattle.campaign.proofs.decode.get_optional.Goals as goal
+
+pub returns-in_default : goal.returns-in_default
+returns-in_default c = option_no_flag IsShort text_bytes c.args.bytes.now c.args.place c.in_default.ensures
+
+pub returns-in_default-2 : goal.returns-in_default-2
+returns-in_default-2 c =
+    let flag = rw c.if-not-is_there.false at c.in-Some.ensures in
+    let none = rw c.in_default-2.is at c.in_ok-text.ensures in
+    option_is_torn IsShort text_bytes c.args.bytes.now c.args.place c.in-Some.next flag none

@@ -1,0 +1,32 @@
+use Rattle.std.proofs.Common.{List, ℕ, ◌≡◌, ◌++◌, sym, ap, ◌∙◌, append_assoc}
+use Rattle.campaign.specs.Groups.{creative_bytes, creative_of, look_bytes, look_of, money_bytes, money_of, names_bytes, names_of}
+use Rattle.campaign.proofs.encode.put_parts.Goals as goal
+use Rattle.campaign.proofs.Decoding.{facts_is}
+use Rattle.campaign.proofs.Rules.{loose}
+
+pub put_names-requires : goal.put_names-requires
+put_names-requires c = (loose c.args.parts.now c.requires).groups.0.0.0
+
+pub put_look-requires : goal.put_look-requires
+put_look-requires c = (loose c.args.parts.now c.requires).groups.0.0.1
+
+pub put_money-requires : goal.put_money-requires
+put_money-requires c = (loose c.args.parts.now c.requires).groups.0.1
+
+pub put_creative-requires : goal.put_creative-requires
+put_creative-requires c = (loose c.args.parts.now c.requires).groups.1
+
+onto : (o a b c d : List ℕ) → (((o ++ a) ++ b) ++ c) ++ d ≡ o ++ (((a ++ b) ++ c) ++ d)
+onto o a b c d = simp append_assoc
+
+pub returns-clause-ok : goal.returns-clause-ok
+returns-clause-ok c =
+    let p = c.args.parts.now in
+    let out = c.args.out.now in
+    let names = names_bytes (names_of p) in
+    let look = look_bytes (look_of p) in
+    let money = money_bytes (money_of p) in
+    let creative = creative_bytes (creative_of p) in
+    c.in_ok-put_creative.ensures.ok
+    ∙ ap (λ o. o ++ creative) (c.in_ok-put_money.ensures.ok ∙ ap (λ o. o ++ money) (c.in_ok-put_look.ensures.ok ∙ ap (λ o. o ++ look) c.in_ok-put_names.ensures.ok))
+    ∙ onto out names look money creative ∙ ap (λ l. out ++ l) (sym (facts_is p))

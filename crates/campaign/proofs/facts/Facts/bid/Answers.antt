@@ -1,0 +1,5 @@
+use Rattle.campaign.proofs.facts.Facts.bid.Goals as goal
+use Rattle.campaign.proofs.Rules.{rules_of}
+
+pub returns-clause-some : goal.returns-clause-some
+returns-clause-some c = (rules_of c.self.inside.parts c.self.invariant.faultless).bid_positive

@@ -1,0 +1,5 @@
+pub mod Encoding
+pub mod Faults
+pub mod Groups
+pub mod Kept
+pub mod Paths

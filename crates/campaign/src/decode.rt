@@ -1,0 +1,283 @@
+ghost use Rattle.std.specs.Prelude.{◌≡◌, ◌≤◌, ℕ, List, length, All, IfOk};
+ghost use Rattle.std.specs.List.{flat_map};
+ghost use Rattle.byte_fields.specs.Codes.{IsReadAt};
+ghost use Rattle.byte_fields.specs.Encodings.{IsListOf, IsOptionOf, IsShort, eight_bytes, list_bytes, option_bytes, text_bytes};
+ghost use Rattle.campaign.specs.declared.decode.FactBytes.TheVariants.{Memory};
+ghost use Rattle.campaign.specs.Encoding.{IsDecoded, facts_bytes, int_bytes, sides_bytes};
+ghost use Rattle.campaign.specs.Groups.{AreGroups, AreNames, AreSides, IsCreative, IsLook, IsLoose, IsMicros, IsMoney, IsNanos, IsWhole, creative_bytes, groups_bytes, look_bytes, money_bytes, names_bytes, parts_from};
+ghost use Rattle.campaign.specs.Kept.{IsKept};
+
+use crate::facts::Facts;
+use crate::parts::FactParts;
+use byte_fields::{get_eight, get_flag, get_four, get_text, get_texts};
+use rtb_num::{List, Micros, Nanos, Txt};
+use std::alloc::{AllocError, Global};
+
+// What is read of a part, with the place behind it.
+type Found<T> = Result<Option<(T, usize)>, AllocError>;
+
+// `seat`, `adomain`, `cat`.
+type Names = ((Txt, Txt), List<Txt>);
+
+// Width and height, `attr`, `secure`.
+type Look = ((Option<(i32, i32)>, List<i32>), bool);
+
+// `bid`, `deals`, `budget`.
+type Money = ((Micros, List<Txt>), Nanos);
+
+// `adm`, `crid`, `adid`.
+type Creative = ((Txt, Txt), Option<Txt>);
+
+/// Why no facts are decoded.
+#[derive(Clone, Copy, Debug, PartialEq, Eq)]
+pub enum FactBytes {
+    /// The bytes of no facts begin at this place.
+    Torn { at: usize },
+    /// Memory was refused.
+    Memory,
+}
+
+impl From<AllocError> for FactBytes {
+    ghost from_gives = { λ _ e. e ≡ Memory };
+
+    fn from(_error: AllocError) -> FactBytes {
+        FactBytes::Memory
+    }
+}
+
+impl Facts {
+    /// The facts whose bytes begin at the place, counted from 0 and allowed past the end, and the place
+    /// behind them.
+    pub fn decode(alloc: Global, bytes: &[u8], place: usize) -> Result<(Facts, usize), FactBytes>
+        ensures { IsDecoded bytes.now place result }
+    {
+        match get_facts(alloc, bytes, place)? {
+            Some(found) => Ok(found),
+            None => Err(FactBytes::Torn { at: place }),
+        }
+    }
+}
+
+// The facts at the place.
+fn get_facts(alloc: Global, bytes: &[u8], place: usize) -> Found<Facts>
+    ensures { IfOk result (IsReadAt IsKept facts_bytes bytes.now place) }
+{
+    let Some((parts, next)) = get_parts(alloc, bytes, place)? else {
+        return Ok(None);
+    };
+    if parts.budget.get() % 1000 != 0 {
+        return Ok(None);
+    }
+    match Facts::make(parts) {
+        Ok(facts) => Ok(Some((facts, next))),
+        Err(_) => Ok(None),
+    }
+}
+
+// The parts at the place, within the limits or not.
+fn get_parts(alloc: Global, bytes: &[u8], place: usize) -> Found<FactParts>
+    ensures { IfOk result (IsReadAt IsLoose facts_bytes bytes.now place) }
+{
+    let Some((groups, next)) = get_groups(alloc, bytes, place)? else {
+        return Ok(None);
+    };
+    let (((names, look), money), creative) = groups;
+    Ok(Some((parts_of(names, look, money, creative), next)))
+}
+
+fn parts_of(names: Names, look: Look, money: Money, creative: Creative) -> FactParts
+    ensures { result ≡ parts_from (((names, look), money), creative) }
+{
+    let ((seat, adomain), cat) = names;
+    let ((size, attr), secure) = look;
+    let ((bid, deals), budget) = money;
+    let ((adm, crid), adid) = creative;
+    let (w, h) = match size {
+        Some((w, h)) => (Some(w), Some(h)),
+        None => (None, None),
+    };
+    FactParts {
+        seat,
+        adomain,
+        cat,
+        w,
+        h,
+        attr,
+        secure,
+        bid,
+        deals,
+        budget,
+        adm,
+        crid,
+        adid,
+    }
+}
+
+fn get_groups(
+    alloc: Global,
+    bytes: &[u8],
+    place: usize,
+) -> Found<(((Names, Look), Money), Creative)>
+    ensures { IfOk result (IsReadAt AreGroups groups_bytes bytes.now place) }
+{
+    let Some((names, next)) = get_names(alloc, bytes, place)? else {
+        return Ok(None);
+    };
+    let Some((look, next)) = get_look(alloc, bytes, next)? else {
+        return Ok(None);
+    };
+    let Some((money, next)) = get_money(alloc, bytes, next)? else {
+        return Ok(None);
+    };
+    let Some((creative, next)) = get_creative(alloc, bytes, next)? else {
+        return Ok(None);
+    };
+    Ok(Some(((((names, look), money), creative), next)))
+}
+
+fn get_names(alloc: Global, bytes: &[u8], place: usize) -> Found<Names>
+    ensures { IfOk result (IsReadAt AreNames names_bytes bytes.now place) }
+{
+    let Some((seat, next)) = get_text(alloc, bytes, place)? else {
+        return Ok(None);
+    };
+    let Some((adomain, next)) = get_text(alloc, bytes, next)? else {
+        return Ok(None);
+    };
+    let Some((cat, next)) = get_texts(alloc, bytes, next)? else {
+        return Ok(None);
+    };
+    Ok(Some((((seat, adomain), cat), next)))
+}
+
+fn get_look(alloc: Global, bytes: &[u8], place: usize) -> Found<Look>
+    ensures { IfOk result (IsReadAt IsLook look_bytes bytes.now place) }
+{
+    let Some((size, next)) = get_size(bytes, place) else {
+        return Ok(None);
+    };
+    let Some((attr, next)) = get_ints(alloc, bytes, next)? else {
+        return Ok(None);
+    };
+    let Some((secure, next)) = get_flag(bytes, next) else {
+        return Ok(None);
+    };
+    Ok(Some((((size, attr), secure), next)))
+}
+
+fn get_money(alloc: Global, bytes: &[u8], place: usize) -> Found<Money>
+    ensures { IfOk result (IsReadAt IsMoney money_bytes bytes.now place) }
+{
+    let Some((bid, next)) = get_micros(bytes, place) else {
+        return Ok(None);
+    };
+    let Some((deals, next)) = get_texts(alloc, bytes, next)? else {
+        return Ok(None);
+    };
+    let Some((budget, next)) = get_nanos(bytes, next) else {
+        return Ok(None);
+    };
+    Ok(Some((((bid, deals), budget), next)))
+}
+
+fn get_creative(alloc: Global, bytes: &[u8], place: usize) -> Found<Creative>
+    ensures { IfOk result (IsReadAt IsCreative creative_bytes bytes.now place) }
+{
+    let Some((adm, next)) = get_text(alloc, bytes, place)? else {
+        return Ok(None);
+    };
+    let Some((crid, next)) = get_text(alloc, bytes, next)? else {
+        return Ok(None);
+    };
+    let Some((adid, next)) = get_optional(alloc, bytes, next)? else {
+        return Ok(None);
+    };
+    Ok(Some((((adm, crid), adid), next)))
+}
+
+fn get_optional(alloc: Global, bytes: &[u8], place: usize) -> Found<Option<Txt>>
+    ensures { IfOk result (IsReadAt (IsOptionOf IsShort) (option_bytes text_bytes) bytes.now place) }
+{
+    let Some((is_there, next)) = get_flag(bytes, place) else {
+        return Ok(None);
+    };
+    if !is_there {
+        return Ok(Some((None, next)));
+    }
+    let Some((text, next)) = get_text(alloc, bytes, next)? else {
+        return Ok(None);
+    };
+    Ok(Some((Some(text), next)))
+}
+
+fn get_size(bytes: &[u8], place: usize) -> Option<(Option<(i32, i32)>, usize)>
+    ensures { IsReadAt (IsOptionOf AreSides) (option_bytes sides_bytes) bytes.now place result }
+{
+    let (is_there, next) = get_flag(bytes, place)?;
+    if !is_there {
+        return Some((None, next));
+    }
+    let (sides, next) = get_sides(bytes, next)?;
+    Some((Some(sides), next))
+}
+
+fn get_sides(bytes: &[u8], place: usize) -> Option<((i32, i32), usize)>
+    ensures { IsReadAt AreSides sides_bytes bytes.now place result }
+{
+    let (w, next) = get_int(bytes, place)?;
+    let (h, next) = get_int(bytes, next)?;
+    Some(((w, h), next))
+}
+
+// The list of whole numbers at the place.
+fn get_ints(alloc: Global, bytes: &[u8], place: usize) -> Found<List<i32>>
+    ensures { IfOk result (IsReadAt (IsListOf IsWhole) (list_bytes int_bytes) bytes.now place) }
+{
+    let Some((count, next)) = get_four(bytes, place) else {
+        return Ok(None);
+    };
+    get_row(alloc, bytes, next, count as usize)
+}
+
+// So many whole numbers in a row.
+fn get_row(alloc: Global, bytes: &[u8], place: usize, count: usize) -> Found<List<i32>>
+    requires { place ≤ length bytes.now }
+    ensures { IfOk result (IsReadAt (λ ints. (length ints ≡ count) × All IsWhole ints) (flat_map int_bytes) bytes.now place) }
+{
+    let mut ints = List::new(alloc);
+    ints.reserve(count.min((bytes.len() - place) / 4))?;
+    let mut next = place;
+    for _ in 0..count {
+        let Some((n, behind)) = get_int(bytes, next) else {
+            return Ok(None);
+        };
+        ints.push(n)?;
+        next = behind;
+    }
+    Ok(Some((ints, next)))
+}
+
+// A whole number that is not negative.
+fn get_int(bytes: &[u8], place: usize) -> Option<(i32, usize)>
+    ensures { IsReadAt IsWhole int_bytes bytes.now place result }
+{
+    let (n, next) = get_four(bytes, place)?;
+    if n > i32::MAX as u32 {
+        return None;
+    }
+    Some((n as i32, next))
+}
+
+fn get_micros(bytes: &[u8], place: usize) -> Option<(Micros, usize)>
+    ensures { IsReadAt IsMicros eight_bytes bytes.now place result }
+{
+    let (n, next) = get_eight(bytes, place)?;
+    Some((Micros::new(n)?, next))
+}
+
+fn get_nanos(bytes: &[u8], place: usize) -> Option<(Nanos, usize)>
+    ensures { IsReadAt IsNanos eight_bytes bytes.now place result }
+{
+    let (n, next) = get_eight(bytes, place)?;
+    Some((Nanos::new(n)?, next))
+}

@@ -1,0 +1,138 @@
+ghost use Rattle.std.specs.Prelude.{◌≡◌, ◌++◌, ℕ, List, ℤ, Option, OnOk, OnErr};
+ghost use Rattle.byte_fields.specs.Encodings.{IsListOf, IsOptionOf, IsShort, list_bytes, option_bytes, text_bytes};
+ghost use Rattle.campaign.specs.Encoding.{facts_bytes, int_bytes, sides_bytes};
+ghost use Rattle.campaign.specs.Groups.{AreNames, AreSides, IsCreative, IsLook, IsMoney, IsWhole, creative_bytes, creative_of, look_bytes, look_of, money_bytes, money_of, names_bytes, names_of};
+ghost use Rattle.campaign.specs.Kept.{IsKept};
+
+use crate::facts::Facts;
+use crate::parts::{FactParts, size_of};
+use byte_fields::{put_eight, put_flag, put_four, put_text, put_texts};
+use rtb_num::Txt;
+use std::alloc::AllocError;
+
+impl Facts {
+    /// Appends its bytes. Where memory is refused the text stays as it was.
+    pub fn encode(&self, out: &mut Txt) -> Result<(), AllocError>
+        ensures ok { OnOk result (out.new ≡ out.old ++ facts_bytes self.now) }
+        ensures err { OnErr result (out.new ≡ out.old) }
+        ensures kept { IsKept self.now }
+    {
+        let before = out.len();
+        let done = put_parts(self.parts(), out);
+        if done.is_err() {
+            out.truncate(before);
+        }
+        done
+    }
+}
+
+// Appends the bytes of the parts, or a front of them.
+fn put_parts(parts: &FactParts, out: &mut Txt) -> Result<(), AllocError>
+    requires { IsKept parts.now }
+    ensures ok { OnOk result (out.new ≡ out.old ++ facts_bytes parts.now) }
+    ensures front { (more : List ℕ) × (out.new ≡ out.old ++ more) }
+{
+    put_names(parts, out)?;
+    put_look(parts, out)?;
+    put_money(parts, out)?;
+    put_creative(parts, out)?;
+    Ok(())
+}
+
+fn put_names(parts: &FactParts, out: &mut Txt) -> Result<(), AllocError>
+    requires { AreNames (names_of parts.now) }
+    ensures ok { OnOk result (out.new ≡ out.old ++ names_bytes (names_of parts.now)) }
+    ensures front { (more : List ℕ) × (out.new ≡ out.old ++ more) }
+{
+    put_text(parts.seat.as_bytes(), out)?;
+    put_text(parts.adomain.as_bytes(), out)?;
+    put_texts(parts.cat.as_slice(), out)?;
+    Ok(())
+}
+
+fn put_look(parts: &FactParts, out: &mut Txt) -> Result<(), AllocError>
+    requires { IsLook (look_of parts.now) }
+    ensures ok { OnOk result (out.new ≡ out.old ++ look_bytes (look_of parts.now)) }
+    ensures front { (more : List ℕ) × (out.new ≡ out.old ++ more) }
+{
+    put_size(size_of(parts), out)?;
+    put_ints(parts.attr.as_slice(), out)?;
+    put_flag(parts.secure, out)?;
+    Ok(())
+}
+
+fn put_money(parts: &FactParts, out: &mut Txt) -> Result<(), AllocError>
+    requires { IsMoney (money_of parts.now) }
+    ensures ok { OnOk result (out.new ≡ out.old ++ money_bytes (money_of parts.now)) }
+    ensures front { (more : List ℕ) × (out.new ≡ out.old ++ more) }
+{
+    put_eight(parts.bid.get(), out)?;
+    put_texts(parts.deals.as_slice(), out)?;
+    put_eight(parts.budget.get(), out)?;
+    Ok(())
+}
+
+fn put_creative(parts: &FactParts, out: &mut Txt) -> Result<(), AllocError>
+    requires { IsCreative (creative_of parts.now) }
+    ensures ok { OnOk result (out.new ≡ out.old ++ creative_bytes (creative_of parts.now)) }
+    ensures front { (more : List ℕ) × (out.new ≡ out.old ++ more) }
+{
+    put_text(parts.adm.as_bytes(), out)?;
+    put_text(parts.crid.as_bytes(), out)?;
+    put_optional(&parts.adid, out)?;
+    Ok(())
+}
+
+// Appends one or none, or a front of it.
+fn put_optional(text: &Option<Txt>, out: &mut Txt) -> Result<(), AllocError>
+    requires { IsOptionOf IsShort text.now }
+    ensures ok { OnOk result (out.new ≡ out.old ++ option_bytes text_bytes text.now) }
+    ensures front { (more : List ℕ) × (out.new ≡ out.old ++ more) }
+{
+    match text {
+        None => put_flag(false, out)?,
+        Some(text) => {
+            put_flag(true, out)?;
+            put_text(text.as_bytes(), out)?;
+        }
+    }
+    Ok(())
+}
+
+// Appends the sides or that there are none, or a front of it.
+fn put_size(size: Option<(i32, i32)>, out: &mut Txt) -> Result<(), AllocError>
+    requires { IsOptionOf AreSides size }
+    ensures ok { OnOk result (out.new ≡ out.old ++ option_bytes sides_bytes size) }
+    ensures front { (more : List ℕ) × (out.new ≡ out.old ++ more) }
+{
+    match size {
+        None => put_flag(false, out)?,
+        Some((w, h)) => {
+            put_flag(true, out)?;
+            put_int(w, out)?;
+            put_int(h, out)?;
+        }
+    }
+    Ok(())
+}
+
+// Appends a list of whole numbers, or a front of it.
+fn put_ints(ints: &[i32], out: &mut Txt) -> Result<(), AllocError>
+    requires { IsListOf IsWhole ints.now }
+    ensures ok { OnOk result (out.new ≡ out.old ++ list_bytes int_bytes ints.now) }
+    ensures front { (more : List ℕ) × (out.new ≡ out.old ++ more) }
+{
+    put_four(ints.len() as u32, out)?;
+    for n in ints {
+        put_int(*n, out)?;
+    }
+    Ok(())
+}
+
+fn put_int(n: i32, out: &mut Txt) -> Result<(), AllocError>
+    requires { IsWhole n }
+    ensures ok { OnOk result (out.new ≡ out.old ++ int_bytes n) }
+    ensures err { OnErr result (out.new ≡ out.old) }
+{
+    put_four(n as u32, out)
+}

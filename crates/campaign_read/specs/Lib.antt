@@ -1,0 +1,3 @@
+pub mod Parts
+pub mod Target
+pub mod Campaign

@@ -1,0 +1,70 @@
+#![tactic(auto, using(json_fields::proofs::First::in_front, json_fields::proofs::First::behind, json_fields::proofs::First::neither), unfolding(crate::specs::Campaign::campaign_faults))]
+
+ghost use Rattle.std.specs.Prelude.{◌≡◌, ◌%◌, map};
+ghost use Rattle.exact_json.specs.Docs.{doc_tree};
+ghost use Rattle.exact_json.specs.View.{tree_of};
+ghost use Rattle.json_fields.specs.Answers.{Answers};
+ghost use Rattle.campaign.specs.Faults.{fact_faults};
+ghost use Rattle.target_expr.specs.Kept.{faults, kept};
+ghost use Rattle.campaign_read.specs.Campaign.{body_faults, campaign_faults, campaign_from, fault_of_target};
+ghost use Rattle.campaign_read.specs.declared.fault.CampFault.{CampFault};
+
+use crate::fault::CampFault;
+use crate::parts::parts_in;
+use crate::target::target_field;
+use campaign::{FactParts, Facts};
+use exact_json::{Doc, Value};
+use json_fields as fields;
+use rtb_num::List;
+use std::alloc::Global;
+use target_expr::{Expr, ExprFault, RawPred};
+
+fn facts_of(parts: FactParts) -> Result<Facts, CampFault>
+    requires { parts.budget % 1000 ≡ 0 }
+    ensures { Answers CampFault.Memory (map CampFault.Fact (fact_faults parts)) parts result }
+{
+    match Facts::make(parts) {
+        Ok(facts) => Ok(facts),
+        Err(fault) => Err(CampFault::Fact { fault }),
+    }
+}
+
+fn target_fault(fault: ExprFault) -> CampFault
+    ensures { result ≡ fault_of_target fault }
+{
+    match fault {
+        ExprFault::Memory => CampFault::Memory,
+        fault => CampFault::Target { fault },
+    }
+}
+
+fn expr_of(alloc: Global, raw: &List<List<RawPred>>) -> Result<Expr, CampFault>
+    ensures { Answers CampFault.Memory (map CampFault.Target (faults raw.now)) (kept raw.now) result }
+{
+    match Expr::make(alloc, raw) {
+        Ok(expr) => Ok(expr),
+        Err(fault) => Err(target_fault(fault)),
+    }
+}
+
+#[tactic(auto, using(json_fields::proofs::First::in_front, json_fields::proofs::First::behind, json_fields::proofs::First::neither), unfolding(crate::specs::Campaign::body_faults, crate::specs::Campaign::campaign_from))]
+fn campaign_in(alloc: Global, body: &Value) -> Result<(Facts, Expr), CampFault>
+    ensures { Answers CampFault.Memory (body_faults (tree_of body.now)) (campaign_from (tree_of body.now)) result }
+{
+    let parts = parts_in(alloc, body)?;
+    let target = target_field(alloc, body)?;
+    let facts = facts_of(parts)?;
+    let expr = expr_of(alloc, &target)?;
+    Ok((facts, expr))
+}
+
+/// The campaign in a JSON text, or the first of its faults in the order in which the fields are read;
+/// then come the faults of the facts, and then those of the target.
+pub fn read_campaign(alloc: Global, doc: &Doc) -> Result<(Facts, Expr), CampFault>
+    ensures { Answers CampFault.Memory (campaign_faults (doc_tree doc.now)) (campaign_from (doc_tree doc.now)) result }
+{
+    match fields::object_in(doc.root()) {
+        Ok(body) => campaign_in(alloc, body),
+        Err(_) => Err(CampFault::NotObject),
+    }
+}

@@ -1,0 +1,106 @@
+#![tactic(auto, using(json_fields::proofs::First::in_front, json_fields::proofs::First::behind, json_fields::proofs::First::neither, json_fields::proofs::First::mapped, json_fields::proofs::First::mapped_none), unfolding(crate::specs::Parts::list_faults, crate::specs::Parts::list_from))]
+
+ghost use Rattle.std.specs.Prelude.{◌≡◌};
+ghost use Rattle.exact_json.specs.View.{tree_of};
+ghost use Rattle.json_fields.specs.Answers.{Answers};
+ghost use Rattle.json_fields.specs.Fields.{as_text, as_whole};
+ghost use Rattle.campaign_read.specs.Parts.{attr_bounds, list_fault, list_faults, list_from, list_item, list_name, list_whole};
+
+use crate::fault::CampFault;
+use crate::parts::fault;
+use campaign::CampField;
+use exact_json::Value;
+use json_fields as fields;
+use json_fields::{Bounds, ListFlaw};
+use rtb_num::{List, Txt};
+use std::alloc::Global;
+
+// An attribute of the creative is not negative.
+const ATTR: Bounds = Bounds {
+    least: 0,
+    greatest: i32::MAX,
+};
+
+// A list of a campaign, or of a predicate by the places of its conjunction and of its own.
+#[derive(Clone, Copy)]
+pub(crate) enum ListField {
+    Cat,
+    Attr,
+    Deals,
+    In(usize, usize),
+    Not(usize, usize),
+}
+
+impl ListField {
+    fn name(self) -> &'static [u8]
+        ensures { result.now ≡ list_name self }
+    {
+        match self {
+            ListField::Cat => b"cat",
+            ListField::Attr => b"attr",
+            ListField::Deals => b"deals",
+            ListField::In(_, _) => b"in",
+            ListField::Not(_, _) => b"not",
+        }
+    }
+
+    // The list itself.
+    fn whole(self) -> CampField
+        ensures { result ≡ list_whole self }
+    {
+        match self {
+            ListField::Cat => CampField::Cat,
+            ListField::Attr => CampField::Attr,
+            ListField::Deals => CampField::Deals,
+            ListField::In(i, j) => CampField::In(i, j),
+            ListField::Not(i, j) => CampField::Not(i, j),
+        }
+    }
+
+    // The element at the place.
+    fn item(self, place: usize) -> CampField
+        ensures { result ≡ list_item self place }
+    {
+        match self {
+            ListField::Cat => CampField::CatItem(place),
+            ListField::Attr => CampField::AttrItem(place),
+            ListField::Deals => CampField::DealsItem(place),
+            ListField::In(i, j) => CampField::InItem(i, j, place),
+            ListField::Not(i, j) => CampField::NotItem(i, j, place),
+        }
+    }
+}
+
+fn list_fault(list: ListField, flaw: ListFlaw) -> CampFault
+    ensures { result ≡ list_fault list flaw }
+{
+    match flaw {
+        ListFlaw::Whole(flaw) => fault(list.whole(), flaw),
+        ListFlaw::Item(place, flaw) => fault(list.item(place), flaw),
+        ListFlaw::Memory => CampFault::Memory,
+    }
+}
+
+// A list of texts, which may be absent.
+pub(crate) fn texts_field(
+    alloc: Global,
+    object: &Value,
+    list: ListField,
+) -> Result<List<Txt>, CampFault>
+    ensures { Answers CampFault.Memory (list_faults list as_text (tree_of object.now)) (list_from list as_text (tree_of object.now)) result }
+{
+    match fields::texts(alloc, object, list.name()) {
+        Ok(texts) => Ok(texts),
+        Err(flaw) => Err(list_fault(list, flaw)),
+    }
+}
+
+// The attributes of the creative, which may be absent.
+pub(crate) fn attr_field(alloc: Global, object: &Value) -> Result<List<i32>, CampFault>
+    ensures { Answers CampFault.Memory (list_faults ListField.Attr (as_whole attr_bounds) (tree_of object.now)) (list_from ListField.Attr (as_whole attr_bounds) (tree_of object.now)) result }
+{
+    match fields::whole_numbers(alloc, object, b"attr", &ATTR) {
+        Ok(attr) => Ok(attr),
+        Err(flaw) => Err(list_fault(ListField::Attr, flaw)),
+    }
+}

@@ -1,0 +1,134 @@
+#![tactic(auto, using(json_fields::proofs::First::in_front, json_fields::proofs::First::behind, json_fields::proofs::First::neither), unfolding(crate::specs::Parts::faults_at, crate::specs::Parts::text_faults, crate::specs::Parts::text_from, crate::specs::Parts::amount_faults, crate::specs::Parts::amount_from, crate::specs::Parts::side_faults, crate::specs::Parts::side_from))]
+
+ghost use Rattle.std.specs.Prelude.{◌≡◌, ◌*◌, false, None, codes, option_map, IfOk};
+ghost use Rattle.exact_json.specs.View.{tree_of};
+ghost use Rattle.json_fields.specs.Answers.{Answers, value_or};
+ghost use Rattle.json_fields.specs.Fields.{as_flag, as_text, optional, or_absent, present};
+ghost use Rattle.campaign_read.specs.Campaign.{parts_faults, parts_from};
+ghost use Rattle.campaign_read.specs.Parts.{amount_faults, amount_from, fault_of, faults_at, side_faults, side_from, text_faults, text_from};
+
+use crate::fault::CampFault;
+use crate::lists::{ListField, attr_field, texts_field};
+use campaign::{CampField, FactParts};
+use exact_json::Value;
+use json_fields as fields;
+use json_fields::{Bounds, Flaw};
+use rtb_num::{Micros, Nanos, Txt};
+use std::alloc::{AllocError, Global};
+
+// A side of the creative has 1 to 32767 pixels.
+const SIDE: Bounds = Bounds {
+    least: 1,
+    greatest: 32_767,
+};
+
+// The flaw of the field.
+pub(crate) fn fault(field: CampField, flaw: Flaw) -> CampFault
+    ensures { result ≡ fault_of field flaw }
+{
+    match flaw {
+        Flaw::Missing => CampFault::Missing { field },
+        Flaw::WrongType => CampFault::WrongType { field },
+        Flaw::Range => CampFault::Range { field },
+        Flaw::Price(fault) => CampFault::Price { field, fault },
+    }
+}
+
+// A text.
+pub(crate) fn text_field(object: &Value, name: &[u8], field: CampField) -> Result<Txt, CampFault>
+    ensures { Answers CampFault.Memory (text_faults field name.now (tree_of object.now)) (text_from name.now (tree_of object.now)) result }
+{
+    match fields::required_text(object, name) {
+        Ok(text) => Ok(text.copy()?),
+        Err(flaw) => Err(fault(field, flaw)),
+    }
+}
+
+fn copied(text: Option<&Txt>) -> Result<Option<Txt>, AllocError>
+    ensures { IfOk result (λ t. t ≡ option_map (λ s. s.now) text.entry) }
+{
+    match text {
+        Some(text) => Ok(Some(text.copy()?)),
+        None => Ok(None),
+    }
+}
+
+fn adid_field(body: &Value) -> Result<Option<Txt>, CampFault>
+    ensures { Answers CampFault.Memory (faults_at CampField.Adid (optional as_text (present (codes "adid") (tree_of body.now)))) (value_or None (optional as_text (present (codes "adid") (tree_of body.now)))) result }
+{
+    match fields::text(body, b"adid") {
+        Ok(found) => Ok(copied(found)?),
+        Err(flaw) => Err(fault(CampField::Adid, flaw)),
+    }
+}
+
+// A side of the creative, which may be absent.
+fn side_field(body: &Value, name: &[u8], field: CampField) -> Result<Option<i32>, CampFault>
+    ensures { Answers CampFault.Memory (side_faults field name.now (tree_of body.now)) (side_from name.now (tree_of body.now)) result }
+{
+    match fields::whole_number(body, name, &SIDE) {
+        Ok(found) => Ok(found),
+        Err(flaw) => Err(fault(field, flaw)),
+    }
+}
+
+fn secure_field(body: &Value) -> Result<bool, CampFault>
+    ensures { Answers CampFault.Memory (faults_at CampField.Secure (or_absent false as_flag (present (codes "secure") (tree_of body.now)))) (value_or false (or_absent false as_flag (present (codes "secure") (tree_of body.now)))) result }
+{
+    match fields::flag(body, b"secure") {
+        Ok(found) => Ok(found),
+        Err(flaw) => Err(fault(CampField::Secure, flaw)),
+    }
+}
+
+// An amount in US dollars.
+fn amount_field(body: &Value, name: &[u8], field: CampField) -> Result<Micros, CampFault>
+    ensures { Answers CampFault.Memory (amount_faults field name.now (tree_of body.now)) (amount_from name.now (tree_of body.now)) result }
+{
+    match fields::exact_price(body, name) {
+        Ok(found) => Ok(found),
+        Err(flaw) => Err(fault(field, flaw)),
+    }
+}
+
+// So many micro-dollars in nano-dollars.
+fn nanos(amount: Micros) -> Nanos
+    ensures { result ≡ amount * 1000 }
+{
+    Nanos::new(amount.get() * 1000).unwrap()
+}
+
+// The fields other than the target, in the order in which they are read.
+#[tactic(auto, using(json_fields::proofs::First::in_front, json_fields::proofs::First::behind, json_fields::proofs::First::neither), unfolding(crate::specs::Campaign::parts_faults, crate::specs::Campaign::parts_from))]
+pub(crate) fn parts_in(alloc: Global, body: &Value) -> Result<FactParts, CampFault>
+    ensures { Answers CampFault.Memory (parts_faults (tree_of body.now)) (parts_from (tree_of body.now)) result }
+{
+    let seat = text_field(body, b"seat", CampField::Seat)?;
+    let adomain = text_field(body, b"adomain", CampField::Adomain)?;
+    let cat = texts_field(alloc, body, ListField::Cat)?;
+    let w = side_field(body, b"w", CampField::W)?;
+    let h = side_field(body, b"h", CampField::H)?;
+    let attr = attr_field(alloc, body)?;
+    let secure = secure_field(body)?;
+    let bid = amount_field(body, b"bid", CampField::Bid)?;
+    let deals = texts_field(alloc, body, ListField::Deals)?;
+    let budget = nanos(amount_field(body, b"budget", CampField::Budget)?);
+    let adm = text_field(body, b"adm", CampField::Adm)?;
+    let crid = text_field(body, b"crid", CampField::Crid)?;
+    let adid = adid_field(body)?;
+    Ok(FactParts {
+        seat,
+        adomain,
+        cat,
+        w,
+        h,
+        attr,
+        secure,
+        bid,
+        deals,
+        budget,
+        adm,
+        crid,
+        adid,
+    })
+}
