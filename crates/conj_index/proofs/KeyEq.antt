@@ -1,0 +1,41 @@
+-- What `==` says of keys.
+use Rattle.std.proofs.Common.{◌≡◌, ◌+◌, ◌∙◌, ◌==◌, ◌&&◌, ℕ, Bool, List, [], ◌∷◌, ap, arith, rules, refl, sym, position, not, length, nat_lt, cond, Some, None, true, false}
+use Rattle.std.specs.List.{position_or_len}
+use Rattle.std.specs.Str.{bytes_eq}
+use Rattle.std.proofs.lemmas.Bool.{false≢true}
+use Rattle.std.proofs.lemmas.Bool.Decides.{nat_tests}
+use denote.Enum.Bare.{same_true, sameb, true_same}
+use Rattle.target_expr.specs.contracts.attr.Attr.{the_type}
+use Rattle.target_expr.specs.declared.attr.Attr.{Attr}
+use Rattle.target_expr.specs.Attributes.{number_of}
+use Rattle.target_expr.specs.Truth.{same_attr}
+use Rattle.conj_index.specs.declared.key.Key.{Key}
+use Rattle.conj_index.specs.contracts.key.KeyPartialEq.TheImpl.{eq-value}
+use Rattle.conj_index.specs.Content.{same_key}
+use Rattle.conj_index.proofs.Served.{attr_same}
+
+same_tests : (x y : Bool) → (x ≡ true → y ≡ true) → (y ≡ true → x ≡ true) → x ≡ y
+same_tests true y to back = sym (to refl)
+same_tests false true to back = absurd (false≢true (back refl))
+same_tests false false to back = refl
+
+itself : (n : ℕ) → (n == n) ≡ true
+itself n = grind (arith, nat_tests)
+
+attr_eq : (a b : Attr) → sameb the_type a b ≡ same_attr a b
+attr_eq a b = same_tests (sameb the_type a b) (same_attr a b)
+    (λ h. ap (λ n. number_of a == n) (ap number_of (sym (same_true the_type (search rules) a b h))) ∙ itself (number_of a))
+    (λ h. true_same the_type a b (attr_same a b h))
+
+pub key_eq : (a b : Key) → eq-value.it a b ≡ same_key a b
+key_eq a b = ap (λ c. c && bytes_eq a.value b.value) (attr_eq a.attr b.attr)
+
+same_prefix : {X : Type 0} (p q : X → Bool) → ((x : X) → p x ≡ q x) → (xs : List X) → position_or_len p xs ≡ position_or_len q xs
+same_prefix p q h [] = refl
+same_prefix p q h (x ∷ xs) = ap (λ b. cond (not b) (1 + position_or_len p xs) 0) (h x) ∙ ap (λ n. cond (not (q x)) (1 + n) 0) (same_prefix p q h xs)
+
+pub position_same : (key : Key) (ks : List Key) → position (eq-value.it key) ks ≡ position (same_key key) ks
+position_same key ks = ap (λ n. cond (nat_lt n (length ks)) (Some n) None) (same_prefix (eq-value.it key) (same_key key) (key_eq key) ks)
+
+pub place_same : (key : Key) (ks : List Key) → position_or_len (eq-value.it key) ks ≡ position_or_len (same_key key) ks
+place_same key ks = same_prefix (eq-value.it key) (same_key key) (key_eq key) ks

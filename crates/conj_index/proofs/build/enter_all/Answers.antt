@@ -1,0 +1,59 @@
+use Rattle.std.proofs.Common.{◌≡◌, ◌+◌, ℕ, List, ◌++◌, ◌∙◌, ap, arith, get_or, length, map, subst, sym, take}
+use Rattle.std.proofs.lemmas.List.{take_all}
+use Rattle.target_expr.specs.declared.pred.Pred.{Pred}
+use Rattle.target_expr.specs.declared.pred.Pair.{Pair}
+use Rattle.target_expr.specs.Pairs.{pairs_of}
+use Rattle.conj_index.specs.Campaigns.{Campaigns, conjunctions_in, expression_of}
+use Rattle.conj_index.specs.Growing.{AreGrown, shifted}
+use Rattle.conj_index.proofs.Campaigns.{conjunctions_next, conjunctions_up, pairs_fit, pairs_more, pairs_next, pairs_up}
+use Rattle.conj_index.proofs.build.enter_all.Goals as goal
+
+pub returns-in_err-pairs-clause-cost : goal.returns-in_err-pairs-clause-cost
+returns-in_err-pairs-clause-cost g c =
+    let same : length (pairs_of c.loop-expr-item.result.1) ≡ length (pairs_of (get_or c.args.added.now c.loop-expr.expr-index c.loop-expr-item.result).1) =
+    ap (λ (q : ℕ × List (List Pred)). length (pairs_of q.1)) c.loop-expr-item.is in
+    omega (arith, same, pairs_up c.args.added.now c.loop-expr.expr-index c.loop-expr-item.result c.loop-expr-test.true, c.pairs.ensures.cost, c.loop-expr.invariant.cost)
+
+pub enter_pairs-requires : goal.enter_pairs-requires
+enter_pairs-requires g c =
+    let within = c.requires.within in
+    pairs_fit c.args.added.now c.loop-expr.expr-index c.loop-expr-item.result (length c.loop-expr.parts.items) c.loop-expr.first c.into_vec.result.items
+    c.loop-expr-test.true c.loop-expr-item.is (omega (arith, within, c.loop-expr.invariant.count)) c.requires.few c.loop-expr.invariant.first (c.into_vec.ensures ∙ c.in_ok-pairs.ensures.value)
+
+pub returns-in_err-enter_pairs-clause-cost : goal.returns-in_err-enter_pairs-clause-cost
+returns-in_err-enter_pairs-clause-cost g c =
+    let same : length (pairs_of c.loop-expr-item.result.1) ≡ length (pairs_of (get_or c.args.added.now c.loop-expr.expr-index c.loop-expr-item.result).1) =
+    ap (λ (q : ℕ × List (List Pred)). length (pairs_of q.1)) c.loop-expr-item.is in
+    omega (arith, same, pairs_up c.args.added.now c.loop-expr.expr-index c.loop-expr-item.result c.loop-expr-test.true, c.pairs.ensures.cost, c.loop-expr.invariant.cost)
+
+pub overflow_add-first : goal.overflow_add-first
+overflow_add-first g c =
+    let same : length c.loop-expr-item.result.1 ≡ length (get_or c.args.added.now c.loop-expr.expr-index c.loop-expr-item.result).1 =
+    ap (λ (q : ℕ × List (List Pred)). length q.1) c.loop-expr-item.is in
+    omega (arith, same, conjunctions_up c.args.added.now c.loop-expr.expr-index c.loop-expr-item.result c.loop-expr-test.true, c.conjunctions.ensures.value, c.loop-expr.invariant.first, c.requires.few)
+
+pub loop-expr-preserved : goal.loop-expr-preserved
+loop-expr-preserved g c =
+    let i : ℕ = c.loop-expr.expr-index in
+    let more : length (pairs_of c.loop-expr-item.result.1) ≡ length (pairs_of (get_or c.args.added.now i c.loop-expr-item.result).1) =
+    ap (λ (q : ℕ × List (List Pred)). length (pairs_of q.1)) c.loop-expr-item.is in
+    let many : length c.loop-expr-item.result.1 ≡ length (get_or c.args.added.now i c.loop-expr-item.result).1 =
+    ap (λ (q : ℕ × List (List Pred)). length q.1) c.loop-expr-item.is in
+    let before : List Pair = pairs_of (expression_of (take i c.args.added.now)) in
+    let next : before ++ map (shifted c.loop-expr.first) c.into_vec.result.items ≡ pairs_of (expression_of (take (i + 1) c.args.added.now)) =
+    ap (λ n. before ++ map (shifted n) c.into_vec.result.items) c.loop-expr.invariant.first
+    ∙ ap (λ l. before ++ map (shifted (conjunctions_in (take i c.args.added.now))) l)
+    (c.into_vec.ensures ∙ c.in_ok-pairs.ensures.value ∙ ap (λ (q : ℕ × List (List Pred)). pairs_of q.1) c.loop-expr-item.is)
+    ∙ sym (pairs_more c.args.added.now i c.loop-expr-item.result c.loop-expr-test.true) in
+    let P : List Pair → Type 0 = λ ps. AreGrown ps c.enter_pairs.new.parts.items in
+    record {
+      grown = subst P next (c.in_ok-enter_pairs.ensures.grown before c.loop-expr.invariant.grown);
+      count = c.enter_pairs.ensures.count ∙ c.loop-expr.invariant.count;
+      first = omega (arith, many, conjunctions_next c.args.added.now i c.loop-expr-item.result c.loop-expr-test.true, c.conjunctions.ensures.value, c.loop-expr.invariant.first);
+      cost = omega (arith, more, pairs_next c.args.added.now i c.loop-expr-item.result c.loop-expr-test.true, c.pairs.ensures.cost, c.loop-expr.invariant.cost);
+    }
+
+pub returns-clause-grown : goal.returns-clause-grown
+returns-clause-grown g c =
+    let P : Campaigns → Type 0 = λ l. AreGrown (pairs_of (expression_of l)) c.loop-expr.parts.items in
+    subst P (take_all c.loop-expr.expr-index c.args.added.now c.loop-expr-test.false) c.loop-expr.invariant.grown

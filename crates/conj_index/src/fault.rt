@@ -1,0 +1,19 @@
+ghost use Rattle.std.specs.Prelude.{◌≡◌};
+ghost use Rattle.conj_index.specs.declared.fault.IndexFault.TheVariants.{Memory as memory};
+
+use std::alloc::AllocError;
+
+/// Why an index is not built.
+#[derive(Clone, Copy, Debug, PartialEq, Eq)]
+pub enum IndexFault {
+    /// There is not enough memory.
+    Memory,
+}
+
+impl From<AllocError> for IndexFault {
+    ghost from_gives = { λ _ f. f ≡ memory };
+
+    fn from(_: AllocError) -> IndexFault {
+        IndexFault::Memory
+    }
+}

@@ -1,0 +1,21 @@
+ghost use Rattle.std.specs.Prelude.{ℕ, List};
+ghost use Rattle.postings.specs.Order.{IsRising};
+ghost use Rattle.conj_index.specs.declared.key.Key.{Key};
+ghost use Rattle.conj_index.specs.Campaigns.{AreKept, Campaigns};
+ghost use Rattle.conj_index.specs.Content.{Listed, entries_of, zero_entries};
+ghost use Rattle.conj_index.specs.Standing.{StandOnce, StandWhereNamed};
+
+/// The law of order, with nothing to run: each posting list is sorted and without repeats, and so is the
+/// zero list.
+pub fn posting_lists_rise()
+    ensures lists { (k : ℕ) (cs : List Listed) (key : Key) → IsRising (entries_of k cs key) }
+    ensures zero { (cs : List Listed) → IsRising (zero_entries cs) }
+{}
+
+/// The law of entries, with nothing to run: in the posting list of a pair stands the entry of each
+/// conjunction of that size that names the pair, with its predicate's negation, and just once; and no
+/// other entry.
+pub fn a_conjunction_stands_once_under_each_pair()
+    ensures stands { (added : Campaigns) → AreKept added → StandWhereNamed added }
+    ensures once { (k : ℕ) (cs : List Listed) (key : Key) → StandOnce (entries_of k cs key) }
+{}
