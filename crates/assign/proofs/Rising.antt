@@ -1,7 +1,8 @@
--- No attribute stands twice among the present rows, since the rows rise by attribute.
-use Rattle.std.proofs.Common.{◌≡◌, ℕ, ◌≤◌, ◌==◌, ◌&&◌, ◌||◌, not, nat_lt, List, [], ◌∷◌, ◌++◌, Bool, true, false, Some, None, option_and_then, refl, ◌∙◌, ap, arith, append-nil}
+-- No attribute stands twice among the present rows, since the rows rise by attribute, and each value is
+-- the text of its row.
+use Rattle.std.proofs.Common.{◌≡◌, ℕ, ◌≤◌, ◌==◌, ◌&&◌, ◌||◌, not, nat_lt, List, [], ◌∷◌, ◌++◌, Bool, true, false, cond, find, Some, None, option_map, option_and_then, refl, ◌∙◌, ap, arith, append-nil}
 use Rattle.std.specs.List.{flat_map, list_any}
-use Rattle.std.proofs.lemmas.Bool.{false≢true}
+use Rattle.std.proofs.lemmas.Bool.{false≢true, or_parts}
 use Rattle.std.proofs.lemmas.Bool.Decides.{nat_tests}
 use Rattle.std.proofs.lemmas.Grind.{flat_map-append}
 use Rattle.rtb_types.specs.declared.request.BidRequest.{BidRequest}
@@ -10,8 +11,8 @@ use Rattle.rtb_types.specs.declared.request.Imp.{Imp}
 use Rattle.target_expr.specs.declared.attr.Attr.{Attr}
 use Rattle.target_expr.specs.declared.attr.Attr.TheVariants.{Publisher}
 use Rattle.target_expr.specs.Attributes.{number_of}
-use Rattle.target_expr.specs.Truth.{are_single, same_attr}
-use Rattle.assign.specs.Rows.{Row, app_rows, device_rows, geo_rows, imp_rows, pairs_of, present, publisher_of, rows, site_rows, user_rows}
+use Rattle.target_expr.specs.Truth.{are_single, same_attr, value_at}
+use Rattle.assign.specs.Rows.{Row, app_rows, device_rows, geo_rows, imp_rows, pairs_of, present, publisher_of, rows, site_rows, text_at, user_rows}
 
 -- each row's attribute is above n, and above the one before
 rise_from : ℕ → List Row → Bool
@@ -59,6 +60,37 @@ all_rise r i = refl
 pub pairs_single : (r : BidRequest) (i : Imp) → are_single (pairs_of r i) ≡ true
 unfolding pairs_of
 pairs_single r i = single 0 (rows r i) (all_rise r i)
+
+not_found : (a : Attr) (ps : List (Attr × List ℕ)) → list_any (λ (q : Attr × List ℕ). same_attr q.0 a) ps ≡ false → value_at ps a ≡ None
+not_found a [] e = refl
+not_found a (p ∷ ps) e =
+    let parts = or_parts (same_attr p.0 a) (list_any (λ (q : Attr × List ℕ). same_attr q.0 a) ps) e in
+    ap (λ b. option_map (λ (q : Attr × List ℕ). q.1) (cond b (Some p) (find (λ (q : Attr × List ℕ). same_attr q.0 a) ps))) parts.0 ∙ not_found a ps parts.1
+
+same_number : (k m : ℕ) → (k == m) ≡ true → m ≤ k
+same_number k m e = grind (arith, nat_tests)
+
+value : (n : ℕ) (a : Attr) (rest : List Row) → rise_from n rest ≡ true → value_at (flat_map present rest) a ≡ text_at rest a
+unfolding rise_from
+value n a [] h = refl
+value n a ((b, None) ∷ rest) h =
+    let later = right (nat_lt n (number_of b)) (rise_from (number_of b) rest) h in
+    elim (same_attr b a) as (λ s. same_attr b a ≡ s → value_at (flat_map present rest) a ≡ option_and_then (λ (row : Row). row.1) (cond s (Some (b, None)) (find (λ (row : Row). same_attr row.0 a) rest))) [
+      | true ↦ λ same. not_found a (flat_map present rest) (none_same a (number_of b) rest (same_number (number_of b) (number_of a) same) later)
+      | false ↦ λ same. value (number_of b) a rest later
+    ] refl
+value n a ((b, Some t) ∷ rest) h =
+    let later = right (nat_lt n (number_of b)) (rise_from (number_of b) rest) h in
+    elim (same_attr b a) as (λ s. option_map (λ (q : Attr × List ℕ). q.1) (cond s (Some (b, t)) (find (λ (q : Attr × List ℕ). same_attr q.0 a) (flat_map present rest)))
+    ≡ option_and_then (λ (row : Row). row.1) (cond s (Some (b, Some t)) (find (λ (row : Row). same_attr row.0 a) rest))) [
+      | true ↦ refl
+      | false ↦ value (number_of b) a rest later
+    ]
+
+-- an attribute's value is the text of its row
+pub pairs_value : (r : BidRequest) (i : Imp) (a : Attr) → value_at (pairs_of r i) a ≡ text_at (rows r i) a
+unfolding pairs_of
+pairs_value r i a = value 0 a (rows r i) (all_rise r i)
 
 abbrev pub all_present : List Row → List (Attr × List ℕ)
 all_present group = flat_map present group

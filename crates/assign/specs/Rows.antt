@@ -1,6 +1,6 @@
 -- What an impression assigns to the attributes: the fields of the bid request (OpenRTB 2.5, sections
 -- 3.2.4 to 3.2.20) in the order of the table of attributes.
-use Rattle.std.specs.Prelude.{ℕ, ℤ, List, [], ◌∷◌, ◌++◌, Option, option_map, option_and_then, option_to_list}
+use Rattle.std.specs.Prelude.{ℕ, ℤ, List, [], ◌∷◌, ◌++◌, Option, find, option_map, option_and_then, option_to_list}
 use Rattle.std.specs.Fmt.{signed_decimal}
 use Rattle.std.specs.List.{flat_map}
 use Rattle.std.specs.Option.{option_or}
@@ -14,6 +14,7 @@ use Rattle.rtb_types.specs.declared.request.Site.{Site}
 use Rattle.rtb_types.specs.declared.request.User.{User}
 use Rattle.target_expr.specs.declared.attr.Attr.{Attr}
 use Rattle.target_expr.specs.declared.attr.Attr.TheVariants as attr
+use Rattle.target_expr.specs.Truth.{same_attr}
 
 -- an attribute, and the text of its field where that is present
 abbrev pub Row : Type 0
@@ -65,6 +66,10 @@ rows r imp = site_rows r.site ++ app_rows r.app ++ (attr.Publisher, publisher_of
 -- a row that is present; an empty text is a value
 abbrev pub present : Row → List (Attr × List ℕ)
 present row = option_to_list (option_map (λ text. (row.0, text)) row.1)
+
+-- the text of the attribute's row, where it is present
+abbrev pub text_at : List Row → Attr → Option (List ℕ)
+text_at rs a = option_and_then (λ (row : Row). row.1) (find (λ (row : Row). same_attr row.0 a) rs)
 
 -- the present rows, in the order of the table
 unfoldable pub pairs_of : BidRequest → Imp → List (Attr × List ℕ)

@@ -8,4 +8,4 @@ mod table;
 #[cfg(test)]
 mod tests;
 
-pub use table::{assignment, no_attribute_stands_twice};
+pub use table::{assignment, each_value_is_of_its_row, no_attribute_stands_twice};

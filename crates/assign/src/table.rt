@@ -1,9 +1,10 @@
 ghost use Rattle.std.specs.Prelude.{◌≡◌, ◌<◌, ◌++◌, length, get_or, option_and_then, option_map, IfOk, IsTrue, OnOk};
 ghost use Rattle.std.specs.List.{flat_map};
-ghost use Rattle.target_expr.specs.Truth.{are_single};
+ghost use Rattle.target_expr.specs.Truth.{are_single, value_at};
 ghost use Rattle.rtb_types.specs.declared.request.BidRequest.{BidRequest as Request};
 ghost use Rattle.rtb_types.specs.declared.request.Imp.{Imp as Impression};
-ghost use Rattle.assign.specs.Rows.{pairs_of, rows, present};
+ghost use Rattle.target_expr.specs.declared.attr.Attr.{Attr as Attribute};
+ghost use Rattle.assign.specs.Rows.{pairs_of, rows, present, text_at};
 
 use crate::rows::{
     push_app, push_device, push_geo, push_imp, push_publisher, push_site, push_user,
@@ -56,4 +57,10 @@ pub fn assignment(alloc: Global, request: &BidRequest, imp: usize) -> Result<Ass
 #[tactic(auto, using(crate::proofs::Rising::pairs_single))]
 pub fn no_attribute_stands_twice()
     ensures { (r : Request) (i : Impression) → IsTrue (are_single (pairs_of r i)) }
+{}
+
+/// The law of the values, with nothing to run: what an attribute is assigned is the text of its row.
+#[tactic(auto, using(crate::proofs::Rising::pairs_value))]
+pub fn each_value_is_of_its_row()
+    ensures { (r : Request) (i : Impression) (a : Attribute) → value_at (pairs_of r i) a ≡ text_at (rows r i) a }
 {}
