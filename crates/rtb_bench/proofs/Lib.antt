@@ -1,2 +1,4 @@
 pub mod Sums
+pub mod Totals
+pub mod Singles
 pub mod Whole

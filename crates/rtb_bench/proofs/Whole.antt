@@ -49,3 +49,6 @@ true_of false e = absurd (clash (sym e))
 
 pub same_text : (xs ys : List ℕ) → false ≡ not (bytes_eq xs ys) → xs ≡ ys
 same_text xs ys e = (bytes_eq-Decides xs ys).0 (true_of (bytes_eq xs ys) e)
+
+pub one_times : (word : List ℕ) (n m : ℕ) → IsTimes word n → IsTimes word m → n ≡ m
+one_times word n m a b = one_whole (number_in word) n m a.value.1 b.value.1

@@ -1,2 +1,4 @@
 pub mod Counts
 pub mod Answer
+pub mod Found
+pub mod Work

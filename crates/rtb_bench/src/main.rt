@@ -1,12 +1,20 @@
-//! The program `rtb_bench`: a named piece of work, done a given number of times on standard input.
+//! The program `rtb_bench`: a named piece of work, done a given number of times, on standard input or on
+//! generated campaigns.
 //! It prints a checksum of the answers, the same on every run and every machine, and never a time.
 #![tactic(auto)]
 
 mod command;
 mod counts;
+mod draws;
+mod entries;
+mod generated;
+mod index_work;
 mod json_work;
+mod profile;
 #[cfg(test)]
 mod tests;
+mod work;
+mod work_line;
 
 use rtb_num::{StdSink, StdSource, Txt};
 use std::process::ExitCode;

@@ -92,11 +92,46 @@ fn refuses_other_words_and_tells_of_failures(rt: HostRuntime) -> Result<(), Fail
         b"json 1 1",
         b"xml 1",
         b"json 2147483648",
+        b"find broad 0 1",
+        b"find broad 65537 1",
+        b"find narrow 1 1",
+        b"seek broad 1 1",
+        b"find broad 1",
     ];
     for line in lines {
         assert_run(&rt, alloc, line, b"null", [&[], &[]], (2, b""))?;
     }
     assert_run(&rt, alloc, b"json 1", b"null", [&[1], &[]], (10, b""))?;
     assert_run(&rt, alloc, b"json 1", b"null", [&[], &[1]], (7, b""))?;
+    Ok(())
+}
+
+// What is written for the words of the line, with the status before it.
+fn answer(alloc: Global, line: &[u8]) -> Result<(u8, Txt), AllocError> {
+    let words = words_in(alloc, line)?;
+    let mut source = MemSource::new(Txt::new(alloc), List::new(alloc));
+    let mut sink = MemSink::new(alloc, List::new(alloc));
+    let status = bench_run(alloc, words.as_slice(), &mut source, &mut sink);
+    Ok((status, Txt::from_slice(alloc, sink.written().as_bytes())?))
+}
+
+fn assert_same_answers(
+    rt: &impl Abort,
+    alloc: Global,
+    one: &[u8],
+    other: &[u8],
+) -> Result<(), AllocError> {
+    let (status, found) = answer(alloc, one)?;
+    let (_, asked) = answer(alloc, other)?;
+    assert_eq!(rt; status, 0);
+    assert_eq!(rt; found.as_bytes(), asked.as_bytes(), "{one:?}");
+    Ok(())
+}
+
+#[test]
+fn the_index_finds_what_asking_each_campaign_gives(rt: HostRuntime) -> Result<(), Fail> {
+    let alloc = rt.alloc();
+    assert_same_answers(&rt, alloc, b"find broad 60 12", b"scan broad 60 12")?;
+    assert_same_answers(&rt, alloc, b"find selective 60 12", b"scan selective 60 12")?;
     Ok(())
 }
