@@ -1,2 +1,4 @@
 pub mod Lists
+pub mod Marks
 pub mod Merge
+pub mod Turn

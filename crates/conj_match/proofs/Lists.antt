@@ -1,20 +1,20 @@
 -- What a cursor shows says what its list has of the least number.
-use Rattle.std.proofs.Common.{◌≡◌, ℕ, ◌+◌, ◌*◌, ◌<◌, ◌≤◌, ◌⊎◌, ◌==◌, ◌&&◌, ◌||◌, not, nat_le, inl, inr, List, [], ◌∷◌, Bool, true, false, cond, Option, Some, None, MatchOption, All, count_by, get_or, length, map, slice_get, refl, sym, ◌∙◌, ap, subst, arith, zero, suc}
+use Rattle.std.proofs.Common.{◌≡◌, ℕ, ◌+◌, ◌*◌, ◌<◌, ◌≤◌, ◌⊎◌, ◌==◌, ◌&&◌, ◌||◌, not, nat_le, inl, inr, List, [], ◌∷◌, Bool, true, false, cond, Some, None, All, count_by, get_or, length, map, slice_get, refl, sym, ◌∙◌, ap, subst, arith, zero, suc}
 use Rattle.std.specs.List.{list_any}
-use Rattle.std.specs.Option.{option_map, option_map_or}
+use Rattle.std.specs.Option.{option_map_or}
 use Rattle.std.proofs.lemmas.Bool.{cases_Bool, cases_order, cases_lt, false≢true}
 use Rattle.std.proofs.lemmas.Bool.Decides.{nat_tests}
 use Rattle.std.proofs.lemmas.Option.{slice_get-get_or, slice_get_past}
-use Rattle.std.proofs.lemmas.List.Elements.{All-head, All-tail, All-weaker}
+use Rattle.std.proofs.lemmas.List.Elements.{All-head, All-tail}
 use Rattle.std.proofs.lemmas.List.Folds.{list_any_at}
 use Rattle.std.proofs.lemmas.List.Sums.{sum_by-cons}
 use Rattle.postings.specs.declared.entry.Entry.{Entry}
 use Rattle.postings.specs.Order.{IsRising, entry_at, rank_of}
 use Rattle.conj_match.specs.Place.{Place, shown}
 use Rattle.conj_match.specs.Matching.{has_negated, has_plain, is_match}
-use Rattle.conj_match.specs.Merge.{Stands, entries_of, is_shown, shown_id, shows_negated, shows_plain}
+use Rattle.conj_match.specs.Merge.{Stands, entries_of, is_shown, shows_negated, shows_plain}
 
-rising_pairs : (es : List Entry) → IsRising es → (i j : ℕ) → i < j → j < length es → rank_of (entry_at es i) < rank_of (entry_at es j)
+pub rising_pairs : (es : List Entry) → IsRising es → (i j : ℕ) → i < j → j < length es → rank_of (entry_at es i) < rank_of (entry_at es j)
 rising_pairs es r i zero h k = absurd (omega arith)
 rising_pairs es r i (suc j) h k =
     let e : j + 1 ≡ suc j = omega arith in
@@ -43,7 +43,7 @@ both_parts : (a b : ℕ) (s : Bool) → ((a == b) && s) ≡ true → (a ≡ b) �
 both_parts a b true h = (grind (arith, nat_tests), refl)
 both_parts a b false h = absurd (grind (arith, nat_tests))
 
-both_from : (a b : ℕ) (s : Bool) → a ≡ b → s ≡ true → ((a == b) && s) ≡ true
+pub both_from : (a b : ℕ) (s : Bool) → a ≡ b → s ≡ true → ((a == b) && s) ≡ true
 both_from a b s e h = grind (arith, nat_tests)
 
 not_true : (s : Bool) → not s ≡ true → s ≡ false

@@ -1,14 +1,14 @@
 -- One turn of the merge.
-use Rattle.std.proofs.Common.{◌≡◌, ℕ, ◌+◌, ◌-◌, ◌*◌, ◌<◌, ◌≤◌, ◌⊎◌, ◌↔◌, min, inl, inr, List, [], ◌∷◌, ◌++◌, Bool, true, false, Option, Some, None, MatchOption, All, Contains, IsTrue, get_or, length, map, take, slice_index, refl, sym, ◌∙◌, ap, subst, arith, zero, suc}
+use Rattle.std.proofs.Common.{◌≡◌, ℕ, ◌+◌, ◌-◌, ◌<◌, ◌≤◌, ◌⊎◌, min, inl, inr, List, [], ◌∷◌, ◌++◌, true, false, Option, Some, None, MatchOption, All, Contains, get_or, length, map, take, slice_index, refl, sym, ◌∙◌, ap, subst, arith, zero, suc}
 use Rattle.std.specs.List.{sum_by}
 use Rattle.std.specs.Option.{option_map}
 use Rattle.std.proofs.lemmas.Bool.{cases_lt, cases_order, false≢true}
 use Rattle.std.proofs.lemmas.List.{get_or_append_left, get_or_at, length-append, take_more}
-use Rattle.std.proofs.lemmas.List.Elements.{All-push, All-weaker, Contains-append_left, Contains-push, Contains-push_cases}
+use Rattle.std.proofs.lemmas.List.Elements.{All-push, Contains-append_left, Contains-push, Contains-push_cases}
 use Rattle.std.proofs.lemmas.List.Sums.{sum_by-cons}
 use Rattle.postings.specs.declared.entry.Entry.{Entry}
 use Rattle.postings.specs.Order.{IsRising, entry_at}
-use Rattle.conj_match.specs.Place.{Place, shown}
+use Rattle.conj_match.specs.Place.{Place}
 use Rattle.conj_match.specs.Matching.{IsAnswer, is_match}
 use Rattle.conj_match.specs.Merge.{ArePassed, Decided, IsLeast, Passed, Stands, entries_of, is_shown, left_in, lesser, shown_id}
 use Rattle.conj_match.proofs.Lists.{Above, AtLeast, ids_rise, match_agrees, no_match, shown_here, shown_past}
@@ -176,7 +176,7 @@ at_front ids m i h = get_or_append_left ids (m ∷ []) 0 i h
 at_last : (ids : List ℕ) (m i : ℕ) → length ids ≡ i → slice_index (ids ++ m ∷ []) i ≡ m
 at_last ids m i h = get_or_at ids m [] 0 i h
 
-rising_push : (ids : List ℕ) (m : ℕ) → ((i : ℕ) → i + 1 < length ids → slice_index ids i < slice_index ids (i + 1)) → ((i : ℕ) → i < length ids → slice_index ids i < m)
+pub rising_push : (ids : List ℕ) (m : ℕ) → ((i : ℕ) → i + 1 < length ids → slice_index ids i < slice_index ids (i + 1)) → ((i : ℕ) → i < length ids → slice_index ids i < m)
     → (i : ℕ) → i + 1 < length (ids ++ m ∷ []) → slice_index (ids ++ m ∷ []) i < slice_index (ids ++ m ∷ []) (i + 1)
 rising_push ids m rising below i h =
     let len : length (ids ++ m ∷ []) ≡ length ids + 1 = length-append ids (m ∷ []) in
@@ -188,7 +188,7 @@ rising_push ids m rising below i h =
           omega (arith, at_front ids m i here, at_last ids m (i + 1) last, below i here)
     ]
 
-below_push : (ids : List ℕ) (m : ℕ) → ((i : ℕ) → i < length ids → slice_index ids i < m) → (i : ℕ) → i < length (ids ++ m ∷ []) → slice_index (ids ++ m ∷ []) i < m + 1
+pub below_push : (ids : List ℕ) (m : ℕ) → ((i : ℕ) → i < length ids → slice_index ids i < m) → (i : ℕ) → i < length (ids ++ m ∷ []) → slice_index (ids ++ m ∷ []) i < m + 1
 below_push ids m below i h =
     let len : length (ids ++ m ∷ []) ≡ length ids + 1 = length-append ids (m ∷ []) in
     elim (cases_lt i (length ids)) [

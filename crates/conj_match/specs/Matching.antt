@@ -1,6 +1,6 @@
 -- Which conjunctions match (Whang et al. 2009, section 4): those that no list excludes, and that at
 -- least as many lists ask for as the conjunction has predicates.
-use Rattle.std.specs.Prelude.{ℕ, ◌≡◌, ◌+◌, ◌*◌, ◌<◌, ◌&&◌, ◌==◌, ◌↔◌, nat_le, nat_lt, not, List, [], Bool, cond, count_by, get_or, length, map, slice_index, sum_by, Contains, IsTrue}
+use Rattle.std.specs.Prelude.{ℕ, ◌+◌, ◌*◌, ◌<◌, ◌&&◌, ◌==◌, ◌↔◌, nat_le, nat_lt, not, List, [], Bool, cond, count_by, get_or, length, map, slice_index, sum_by, Contains, IsTrue}
 use Rattle.std.specs.List.{list_any}
 use Rattle.postings.specs.declared.entry.Entry.{Entry}
 

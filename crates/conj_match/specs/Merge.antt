@@ -1,5 +1,5 @@
 -- The cursors of a match, which the crate's private clauses cite.
-use Rattle.std.specs.Prelude.{ℕ, ◌≡◌, ◌+◌, ◌-◌, ◌<◌, ◌≤◌, ◌&&◌, ◌==◌, not, min, List, [], ◌∷◌, Bool, true, false, Option, Some, None, MatchOption, All, Contains, count_by, get_or, nat_le, slice_index, length, map, option_map, sum_by}
+use Rattle.std.specs.Prelude.{ℕ, ◌≡◌, ◌+◌, ◌-◌, ◌<◌, ◌≤◌, ◌&&◌, ◌==◌, not, min, List, Bool, true, false, Option, Some, None, MatchOption, All, Contains, count_by, get_or, nat_le, slice_index, length, map, option_map, sum_by}
 use Rattle.conj_match.specs.Matching.{is_match}
 use Rattle.std.specs.List.{list_any}
 use Rattle.std.specs.Option.{option_map_or}

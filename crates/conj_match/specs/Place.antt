@@ -1,5 +1,5 @@
 -- A place in a posting list.
-use Rattle.std.specs.Prelude.{ℕ, ◌≡◌, ◌<◌, ◌≤◌, List, Bool, Option, None, cond, length, slice_get}
+use Rattle.std.specs.Prelude.{ℕ, ◌<◌, ◌≤◌, List, Bool, Option, None, cond, length, slice_get}
 use Rattle.postings.specs.declared.entry.Entry.{Entry}
 use Rattle.postings.specs.Order.{entry_at}
 

@@ -1,6 +1,7 @@
 ghost use Rattle.std.specs.Prelude.{◌≡◌, ◌≤◌, ◌<◌, ◌+◌, ◌-◌, ◌*◌, ℕ, length, false, true, None, slice_get, if◌then◌else◌};
 ghost use Rattle.conj_match.specs.Place.{IsFirstFrom, shown};
 ghost use Rattle.conj_match.specs.Merge.{Passed, shown_id, shows_negated, shows_plain};
+ghost use Rattle.conj_match.specs.Turn.{reaches};
 ghost use Rattle.postings.specs.Order.{IsRising};
 
 use postings::{Entry, Postings};
@@ -98,13 +99,22 @@ impl<'a> Cursor<'a> {
     pub(crate) fn pass<L: Ledger>(&mut self, id: u32, steps: &mut Steps<L>)
         requires { self.old.loaded ≡ true }
         ensures passed { Passed id self.old self.new }
-        ensures cost { steps.new ≤ steps.old + 2 * (self.new.place - self.old.place) }
+        ensures cost { steps.new ≤ steps.old + (self.new.place - self.old.place) }
     {
         while let Some(passed) = self.current()
             && passed.id <= id
         {
             self.advance(steps);
         }
+    }
+
+    /// Whether the entry at the place has a number that is at most `id`.
+    #[inline(always)]
+    pub(crate) fn reaches(&self, id: u32) -> bool
+        ensures value { result ≡ reaches id self.now }
+        ensures within { self.now.place ≤ length self.now.entries }
+    {
+        self.entry.is_some_and(|entry| entry.id <= id)
     }
 
     /// The number of the entry at the place.

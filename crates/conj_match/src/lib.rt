@@ -3,6 +3,8 @@
 
 mod cursor;
 mod matching;
+mod merging;
+mod tally;
 
 pub use cursor::Cursor;
 pub use matching::match_lists;

@@ -1,9 +1,9 @@
-ghost use Rattle.std.specs.Prelude.{◌≡◌, ◌≤◌, ◌<◌, ◌+◌, ◌*◌, ◌-◌, ℕ, All, IfOk, MatchOption, count_by, length, map, sum, List, nat_le, not, ◌&&◌, slice_index};
-ghost use Rattle.std.specs.List.{list_any};
+ghost use Rattle.std.specs.Prelude.{◌≡◌, ◌≤◌, ◌<◌, ◌+◌, ◌*◌, ◌^◌, ◌/◌, ℕ, All, IfOk, length, nat_le, nat_lt, sum_by, ◌&&◌, slice_index};
 ghost use Rattle.conj_match.specs.Matching.{IsAnswer, cost_of, lists_at};
-ghost use Rattle.conj_match.specs.Merge.{ArePassed, Stands, IsLeast, entries_of, is_shown, left_in, lesser, shows_negated, shows_plain};
+ghost use Rattle.conj_match.specs.Tally.{IsBelow};
 
-use crate::Cursor;
+use crate::merging::merge_lists;
+use crate::tally::{EXCLUDED, tally_lists};
 use postings::Postings;
 use rtb_base::Steps;
 use std::alloc::{AllocError, Global};
@@ -26,97 +26,62 @@ pub fn match_lists<L: Ledger>(
     ensures answer { IfOk result (λ ids. IsAnswer (lists_at lists.now chosen.now) k ids.items) }
     ensures cost { steps.new ≤ steps.old + cost_of (lists_at lists.now chosen.now) k }
 {
-    let mut ids = Vec::new(alloc);
     if chosen.len() < k as usize {
-        return Ok(ids);
+        return Ok(Vec::new(alloc));
     }
-    let mut cursors = load_all(alloc, lists, chosen, steps)?;
-    while let Some(id) = least(cursors.as_slice()) {
-        if is_matched(cursors.as_slice(), k, id) {
-            ids.push(id)?;
-        }
-        pass_all(&mut cursors, id, steps);
+    let extent = extent_of(lists, chosen, steps);
+    if extent.is_dense(k) {
+        tally_lists(alloc, lists, chosen, k, extent.width, steps)
+    } else {
+        merge_lists(alloc, lists, chosen, k, steps)
     }
-    Ok(ids)
 }
 
-// A cursor for each chosen list, on its first entry.
-fn load_all<'a, L: Ledger>(
-    alloc: Global,
-    lists: &'a [Postings],
-    chosen: &[usize],
-    steps: &mut Steps<L>,
-) -> Result<Vec<Cursor<'a>>, AllocError>
+// How far the numbers of the chosen lists go.
+#[derive(Drop)]
+struct Extent {
+    // How many entries the lists have.
+    entries: usize,
+    // One more than their greatest number.
+    width: usize,
+}
+
+impl Extent {
+    // Whether so many of the numbers have entries that a mark for each of them is worth its memory.
+    fn is_dense(&self, k: u32) -> bool
+        ensures { result ≡ (nat_lt k 255 && nat_le (self.now.width / 8) self.now.entries) }
+    {
+        k < u32::from(EXCLUDED) && self.width / 8 <= self.entries
+    }
+}
+
+fn extent_of<L: Ledger>(lists: &[Postings], chosen: &[usize], steps: &mut Steps<L>) -> Extent
     requires { All (λ n. n < length lists.now) chosen.now }
-    ensures lists { IfOk result (λ cursors. map entries_of cursors.items ≡ lists_at lists.now chosen.now) }
-    ensures stand { IfOk result (λ cursors. All (Stands 0) cursors.items) }
-    ensures cost { steps.new ≤ steps.old + length chosen.now }
+    ensures width { All (IsBelow result.width) (lists_at lists.now chosen.now) }
+    ensures short { result.width ≤ 2 ^ 32 }
+    ensures cost { steps.new ≤ steps.old + sum_by length (lists_at lists.now chosen.now) }
 {
-    let mut cursors = Vec::with_capacity(alloc, chosen.len())?;
+    let mut extent = Extent {
+        entries: 0,
+        width: 0,
+    };
     for place in chosen {
-        let mut cursor = Cursor::start(&lists[*place]);
-        cursor.load(steps);
-        if cursors.push(cursor).is_err() {
-            return Err(AllocError);
-        }
+        let list = &lists[*place];
+        extent.entries = extent.entries.saturating_add(list.len());
+        extent.width = extent.width.max(width_of(list, steps));
     }
-    Ok(cursors)
+    extent
 }
 
-// The least number that a cursor stands on, or none where all are past the end.
-fn least(cursors: &[Cursor]) -> Option<u32>
-    ensures { IsLeast cursors.now result }
+// One more than the greatest number of the list, which is that of its last entry.
+fn width_of<L: Ledger>(list: &Postings, steps: &mut Steps<L>) -> usize
+    ensures width { IsBelow result list.now }
+    ensures short { result ≤ 2 ^ 32 }
+    ensures cost { steps.new ≤ steps.old + length list.now }
 {
-    let mut least = None;
-    for cursor in cursors {
-        least = lesser(least, cursor.current_id());
-    }
-    least
-}
-
-// The lesser of two numbers, where there are any.
-fn lesser(a: Option<u32>, b: Option<u32>) -> Option<u32>
-    ensures { result ≡ lesser a b }
-{
-    match (a, b) {
-        (Some(a), Some(b)) => Some(a.min(b)),
-        (None, b) => b,
-        (a, None) => a,
-    }
-}
-
-// Whether the number, below which no cursor stands, is a match.
-fn is_matched(cursors: &[Cursor], k: u32, id: u32) -> bool
-    ensures { result ≡ is_shown cursors.now k id }
-{
-    !is_excluded(cursors, id) && k as usize <= count_plain(cursors, id)
-}
-
-// Whether a cursor stands on a negated entry of the conjunction.
-fn is_excluded(cursors: &[Cursor], id: u32) -> bool
-    ensures { result ≡ list_any (shows_negated id) cursors.now }
-{
-    cursors.iter().any(|cursor| cursor.shows_negated(id))
-}
-
-// How many cursors stand on another entry of the conjunction.
-fn count_plain(cursors: &[Cursor], id: u32) -> usize
-    ensures { result ≡ count_by (shows_plain id) cursors.now }
-{
-    cursors
-        .iter()
-        .filter(|cursor| cursor.shows_plain(id))
-        .count()
-}
-
-// Moves each cursor past the number.
-fn pass_all<L: Ledger>(cursors: &mut Vec<Cursor>, id: u32, steps: &mut Steps<L>)
-    requires { (b : ℕ) × All (Stands b) cursors.old.items }
-    ensures passed { ArePassed id cursors.old.items cursors.new.items }
-    ensures cost { steps.new + 2 * left_in cursors.new.items ≤ steps.old + 2 * left_in cursors.old.items }
-{
-    for at in 0..cursors.len() {
-        cursors[at].pass(id, steps);
+    match list.at(list.len().saturating_sub(1), steps) {
+        Some(last) => last.id as usize + 1,
+        None => 0,
     }
 }
 
@@ -151,19 +116,19 @@ mod tests {
         match_three::<Brand>(alloc, lists, k, Blank::new(1))
     }
 
-    #[test]
-    fn matches_what_enough_lists_ask_for_and_none_excludes(rt: HostRuntime) -> Result<(), Fail> {
+    // Three lists, of which one excludes 4 and one excludes 6; each number is that many times as great.
+    fn three_lists(alloc: Global, apart: u32) -> Result<Vec<Postings>, AllocError> {
         let entries = [
             [(1, false), (4, false), (6, true)].as_slice(),
             [(1, false), (4, false), (6, false)].as_slice(),
             [(4, true)].as_slice(),
         ];
-        let mut lists = Vec::new(rt.alloc());
+        let mut lists = Vec::new(alloc);
         for list in entries {
-            let mut all = Vec::new(rt.alloc());
+            let mut all = Vec::new(alloc);
             for (id, negated) in list {
                 all.push(Entry {
-                    id: *id,
+                    id: apart.saturating_mul(*id),
                     negated: *negated,
                 })?;
             }
@@ -171,14 +136,29 @@ mod tests {
                 lists.push(list)?;
             }
         }
-        assert_eq!(rt; lists.len(), 3);
-        for (k, want) in [
-            (1, [1].as_slice()),
-            (2, [1].as_slice()),
-            (3, [].as_slice()),
-            (4, [].as_slice()),
+        Ok(lists)
+    }
+
+    // Close together the numbers are counted, far apart the lists are merged.
+    #[test]
+    fn matches_what_enough_lists_ask_for_and_none_excludes(rt: HostRuntime) -> Result<(), Fail> {
+        for (apart, k, want) in [
+            (1, 1, [1].as_slice()),
+            (1, 2, [1].as_slice()),
+            (1, 3, [].as_slice()),
+            (1, 4, [].as_slice()),
+            (1_000_000, 1, [1_000_000].as_slice()),
+            (1_000_000, 2, [1_000_000].as_slice()),
+            (1_000_000, 3, [].as_slice()),
+            (1_000_000, 4, [].as_slice()),
         ] {
-            assert_eq!(rt; matches(rt.alloc(), &lists, k)?.as_slice(), want, "{k}");
+            let lists = three_lists(rt.alloc(), apart)?;
+            assert_eq!(rt; lists.len(), 3);
+            assert_eq!(rt;
+                matches(rt.alloc(), &lists, k)?.as_slice(),
+                want,
+                "{apart} {k}"
+            );
         }
         Ok(())
     }

@@ -1,7 +1,7 @@
 use Rattle.std.proofs.Common.{◌≡◌, ◌≤◌, ◌+◌, All, map, take}
 use Rattle.conj_match.specs.Matching.{lists_at}
 use Rattle.conj_match.specs.Merge.{Stands, entries_of}
-use Rattle.conj_match.proofs.matching.load_all.Given as goal
+use Rattle.conj_match.proofs.merging.load_all.Given as goal
 
 abbrev pub invariant-loop-place : goal.invariant-loop-place
 invariant-loop-place g l = record {

@@ -1,7 +1,7 @@
 use Rattle.std.proofs.Common.{◌+◌, take, sym, ◌∙◌, ap, subst}
 use Rattle.conj_match.specs.Merge.{IsLeast, lesser}
 use Rattle.conj_match.proofs.Merge.{least_more}
-use Rattle.conj_match.proofs.matching.least.Goals as goal
+use Rattle.conj_match.proofs.merging.least.Goals as goal
 
 pub loop-cursor-preserved : goal.loop-cursor-preserved
 loop-cursor-preserved c =
