@@ -1,9 +1,9 @@
 -- The bytes of facts are a code, in their groups.
-use Rattle.std.proofs.Common.{◌≡◌, ℕ, ◌+◌, ◌%◌, ◌<◌, ◌≤◌, ◌^◌, List, [], ◌∷◌, ◌++◌, length, Bool, true, false, Option, Some, None, is_some, Result, Ok, Err, refl, sym, ap, subst, ◌∙◌, arith, append_assoc, All, ℤ, pos, negsuc, ◌≤ℤ◌, FitsSigned}
+use Rattle.std.proofs.Common.{◌≡◌, ℕ, ◌%◌, ◌<◌, ◌^◌, List, [], ◌∷◌, ◌++◌, Option, Some, None, is_some, Result, Ok, Err, refl, sym, ap, subst, ◌∙◌, arith, append_assoc, ℤ, pos, negsuc}
 use Rattle.std.specs.Option.{option_map, option_zip}
 use Rattle.std.specs.Int.{w32, cast_unsigned}
 use Rattle.std.proofs.lemmas.Int.{ints}
-use Rattle.byte_fields.specs.Codes.{BeginsAt, IsReadAt, IsCode, BothValid, both_bytes}
+use Rattle.byte_fields.specs.Codes.{IsReadAt, IsCode, BothValid, both_bytes}
 use Rattle.byte_fields.specs.Encodings.{FitsFour, four_bytes, FitsEight, eight_bytes, IsFlag, flag_bytes, IsShort, text_bytes, IsOptionOf, option_bytes, IsListOf, list_bytes}
 use Rattle.byte_fields.proofs.Codes.{begins_as, both_code, code_as, flag_code, narrow_code, one_reading, option_code, read_as, read_narrow, read_none_as, three_code}
 use Rattle.byte_fields.proofs.Numbers.{four_code, eight_code}
@@ -12,8 +12,8 @@ use Rattle.campaign.specs.declared.parts.FactParts.{FactParts}
 use Rattle.campaign.specs.declared.parts.FactFault.{FactFault}
 use Rattle.campaign.specs.Encoding.{facts_bytes, int_bytes, sides_bytes}
 use Rattle.campaign.specs.Faults.{checked, fact_faults}
-use Rattle.campaign.specs.Groups.{AreGroups, AreNames, AreSides, Groups, IsCreative, IsLook, IsLoose, IsMicros, IsMoney, IsNanos, IsWhole, creative_bytes, creative_of, groups_bytes, groups_of, look_bytes, look_of, money_bytes, money_of, names_bytes, names_of, parts_from}
-use Rattle.campaign.specs.Kept.{IsInRange, IsKept, size_of}
+use Rattle.campaign.specs.Groups.{AreGroups, AreNames, AreSides, Groups, IsCreative, IsLook, IsLoose, IsMicros, IsMoney, IsNanos, IsWhole, creative_bytes, groups_bytes, groups_of, look_bytes, money_bytes, names_bytes, parts_from}
+use Rattle.campaign.specs.Kept.{IsKept, size_of}
 use Rattle.campaign.proofs.Rules.{loose}
 
 whole_fits : (z : ℤ) → IsWhole z → cast_unsigned w32 z < 2 ^ 32

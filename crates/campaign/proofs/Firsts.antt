@@ -1,8 +1,8 @@
 -- The first of a list of faults.
-use Rattle.std.proofs.Common.{◌≡◌, ℕ, zero, suc, ◌+◌, ◌<◌, ◌≤◌, nat_lt, nat_le, List, [], ◌∷◌, ◌++◌, length, get_or, Bool, true, false, not, cond, Option, Some, None, Result, Ok, Err, refl, sym, ap, ◌∙◌, arith, ℤ, pos, int_le, int_lt, FitsSigned, IfNone, All, ◌^◌}
+use Rattle.std.proofs.Common.{◌≡◌, ℕ, zero, suc, ◌+◌, ◌<◌, ◌≤◌, nat_lt, List, [], ◌∷◌, ◌++◌, length, get_or, Bool, true, false, not, cond, Option, Some, None, Ok, Err, refl, sym, ap, ◌∙◌, arith, ℤ, pos, int_le, int_lt, FitsSigned, IfNone, All, ◌^◌}
 use Rattle.std.specs.Int.{w32}
 use Rattle.std.specs.Option.{option_or, option_map}
-use Rattle.std.specs.List.{flat_map, enumerate_from, position, position_or_len, prefix_len, slice_get}
+use Rattle.std.specs.List.{flat_map, enumerate_from, position, position_or_len, slice_get}
 use Rattle.std.proofs.lemmas.Bool.Decides.{nat_tests}
 use Rattle.std.proofs.lemmas.Int.{ints}
 use Rattle.campaign.specs.declared.field.CampField.{CampField}

@@ -1,5 +1,5 @@
 -- What facts without fault keep.
-use Rattle.std.proofs.Common.{◌≡◌, ℕ, ◌+◌, ◌*◌, ◌<◌, ◌≤◌, ◌^◌, nat_le, ◌&&◌, List, [], ◌∷◌, ◌++◌, length, Bool, true, false, cond, Option, Some, None, is_some, refl, sym, ap, ◌∙◌, arith, All, ℤ, pos, negsuc, ◌≤ℤ◌, int_le, FitsSigned}
+use Rattle.std.proofs.Common.{◌≡◌, ℕ, ◌+◌, ◌≤◌, nat_le, ◌&&◌, List, [], ◌∷◌, ◌++◌, length, Bool, true, false, Option, Some, None, is_some, refl, arith, All, ℤ, pos, negsuc, ◌≤ℤ◌, int_le, FitsSigned}
 use Rattle.std.specs.Option.{option_to_list, option_zip}
 use Rattle.std.specs.List.{flat_map, enumerate_from, sum_by}
 use Rattle.std.specs.Int.{w32}
@@ -12,7 +12,7 @@ use Rattle.campaign.specs.declared.parts.FactFault.{FactFault}
 use Rattle.campaign.specs.declared.field.CampField.{CampField}
 use Rattle.campaign.specs.Faults.{fault_unless, is_text, text_faults, is_list, texts_faults, is_side, is_size, attr_faults, fact_faults}
 use Rattle.campaign.specs.Groups.{IsWhole, AreSides, AreNames, IsLook, IsMoney, IsCreative, names_of, look_of, money_of, creative_of, IsLoose}
-use Rattle.campaign.specs.Kept.{IsInRange, IsKept}
+use Rattle.campaign.specs.Kept.{IsKept}
 
 pub both_nil : {A : Type 0} (xs ys : List A) → xs ++ ys ≡ [] → (xs ≡ []) × (ys ≡ [])
 both_nil [] ys e = (refl, e)

@@ -1,5 +1,5 @@
 -- The bytes of facts.
-use Rattle.std.specs.Prelude.{◌≡◌, ℕ, List, ◌++◌, ℤ, Option, Some, None, Result, Ok, Err}
+use Rattle.std.specs.Prelude.{◌≡◌, ℕ, List, ◌++◌, ℤ, Some, None, Result, Ok, Err}
 use Rattle.std.specs.Int.{w32, cast_unsigned}
 use Rattle.byte_fields.specs.Codes.{IsReadAt}
 use Rattle.byte_fields.specs.Encodings.{four_bytes, eight_bytes, flag_bytes, text_bytes, option_bytes, list_bytes}

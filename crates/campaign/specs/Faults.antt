@@ -1,5 +1,5 @@
 -- The faults of what an advertiser states of a campaign, in the order of its fields.
-use Rattle.std.specs.Prelude.{ℕ, nat_le, ◌==◌, ◌&&◌, not, List, [], ◌∷◌, ◌++◌, length, Bool, true, false, cond, Option, Some, None, Result, Ok, Err, ℤ, pos, int_le, option_map}
+use Rattle.std.specs.Prelude.{ℕ, nat_le, ◌&&◌, List, [], ◌∷◌, ◌++◌, length, Bool, true, false, cond, Option, Some, None, Result, Ok, Err, ℤ, pos, int_le}
 use Rattle.std.specs.Option.{option_to_list}
 use Rattle.std.specs.List.{flat_map, enumerate_from}
 use Rattle.campaign.specs.declared.TheConstants.{MOST_ITEMS, LONGEST_TEXT, LONGEST_MARKUP, LONGEST_SIDE}

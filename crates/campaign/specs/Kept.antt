@@ -1,5 +1,5 @@
 -- What is known of all facts, and what is counted of them.
-use Rattle.std.specs.Prelude.{◌≡◌, ℕ, ◌%◌, ◌^◌, ◌≤◌, List, [], ◌∷◌, ◌++◌, length, All, ℤ, FitsSigned, Option, option_map}
+use Rattle.std.specs.Prelude.{◌≡◌, ℕ, ◌%◌, ◌^◌, ◌≤◌, List, [], ◌∷◌, ◌++◌, length, All, ℤ, FitsSigned, Option}
 use Rattle.std.specs.Option.{option_to_list, option_zip}
 use Rattle.std.specs.List.{sum_by}
 use Rattle.std.specs.Int.{w32}

@@ -1,8 +1,7 @@
-ghost use Rattle.std.specs.Prelude.{◌≡◌, ◌≤◌, ◌<◌, ◌*◌, ◌^◌, length, All, IfOk, IsTrue};
+ghost use Rattle.std.specs.Prelude.{◌≡◌, ◌≤◌, ◌<◌, ◌*◌, ◌^◌, length, All, IfOk};
 ghost use Rattle.std.specs.Option.{option_to_list};
 ghost use Rattle.std.specs.List.{sum_by};
-ghost use Rattle.campaign.specs.Faults.{is_text};
-ghost use Rattle.campaign.specs.Kept.{IsKept, text_bytes_of};
+ghost use Rattle.campaign.specs.Kept.{text_bytes_of};
 
 use crate::facts::Facts;
 use crate::parts::FactParts;

@@ -1,4 +1,4 @@
-ghost use Rattle.std.specs.Prelude.{◌≡◌, ◌≤◌, ℕ, List, length, All, IfOk};
+ghost use Rattle.std.specs.Prelude.{◌≡◌, ◌≤◌, List, length, All, IfOk};
 ghost use Rattle.std.specs.List.{flat_map};
 ghost use Rattle.byte_fields.specs.Codes.{IsReadAt};
 ghost use Rattle.byte_fields.specs.Encodings.{IsListOf, IsOptionOf, IsShort, eight_bytes, list_bytes, option_bytes, text_bytes};

@@ -1,4 +1,4 @@
-ghost use Rattle.std.specs.Prelude.{◌≡◌, ◌++◌, ℕ, List, ℤ, Option, OnOk, OnErr};
+ghost use Rattle.std.specs.Prelude.{◌≡◌, ◌++◌, ℕ, List, Option, OnOk, OnErr};
 ghost use Rattle.byte_fields.specs.Encodings.{IsListOf, IsOptionOf, IsShort, list_bytes, option_bytes, text_bytes};
 ghost use Rattle.campaign.specs.Encoding.{facts_bytes, int_bytes, sides_bytes};
 ghost use Rattle.campaign.specs.Groups.{AreNames, AreSides, IsCreative, IsLook, IsMoney, IsWhole, creative_bytes, creative_of, look_bytes, look_of, money_bytes, money_of, names_bytes, names_of};

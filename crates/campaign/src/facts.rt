@@ -1,7 +1,7 @@
-ghost use Rattle.std.specs.Prelude.{◌≡◌, ◌%◌, ◌<◌, ◌≤◌, ◌^◌, option_map};
+ghost use Rattle.std.specs.Prelude.{◌≡◌, ◌%◌, ◌<◌, ◌≤◌};
 ghost use Rattle.std.specs.Option.{option_copied};
 ghost use Rattle.campaign.specs.Faults.{checked, fact_faults};
-ghost use Rattle.campaign.specs.Kept.{IsKept, size_of, text_bytes_of};
+ghost use Rattle.campaign.specs.Kept.{IsKept, size_of};
 
 use crate::check::first_fault;
 use crate::parts::{FactFault, FactParts, size_of};

@@ -4,10 +4,8 @@ use Rattle.std.proofs.lemmas.List.{map_push}
 use Rattle.exact_json.specs.Tree.{Tree}
 use Rattle.json_fields.specs.Answers.{value_or}
 use Rattle.json_fields.specs.Fields.{as_array}
-use Rattle.json_fields.specs.Items.{each_at}
 use Rattle.json_fields.proofs.Each.{each_none, front_more}
 use Rattle.target_expr.specs.declared.pred.RawPred.{RawPred}
-use Rattle.campaign_read.specs.declared.fault.CampFault.{CampFault}
 use Rattle.campaign_read.specs.Target.{conjunction_faults, conjunction_from, conjunctions_from, pred_at, pred_from}
 
 map_more : {V A B : Type 0} (f : A → B) (v : V → A) (vs : List V) (k : ℕ) (x : V) (ys : List B) (y : B) → k < length vs → x ≡ get_or vs k x

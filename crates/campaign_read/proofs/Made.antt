@@ -1,6 +1,6 @@
 -- The faults of what is made of the fields: facts and an expression.
 use Rattle.std.specs.Prelude.{codes}
-use Rattle.std.proofs.Common.{◌≡◌, ℕ, ◌*◌, ◌%◌, List, [], ◌∷◌, ◌++◌, map, subst, Some, None, Result, Ok, Err, find, true, inl, inr, refl, sym, ap, ◌∙◌, arith}
+use Rattle.std.proofs.Common.{◌≡◌, ℕ, ◌*◌, ◌%◌, List, [], ◌∷◌, ◌++◌, map, subst, Some, Ok, Err, inl, inr, refl, ap, ◌∙◌, arith}
 use Rattle.exact_json.specs.Tree.{Tree}
 use Rattle.json_fields.specs.Answers.{IsFirst}
 use Rattle.json_fields.proofs.First.{behind, in_front, neither}

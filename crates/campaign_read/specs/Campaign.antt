@@ -1,5 +1,5 @@
 -- A campaign's body in a JSON text: its faults, and the campaign.
-use Rattle.std.specs.Prelude.{ℕ, ◌*◌, List, [], ◌∷◌, ◌++◌, map, false, None, Result, Ok, Err, codes}
+use Rattle.std.specs.Prelude.{◌*◌, List, [], ◌∷◌, ◌++◌, map, false, None, Result, Ok, Err, codes}
 use Rattle.exact_json.specs.Tree.{Tree}
 use Rattle.json_fields.specs.Answers.{value_or}
 use Rattle.json_fields.specs.Fields.{present, as_flag, as_object, as_text, as_whole, optional, or_absent}

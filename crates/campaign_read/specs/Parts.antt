@@ -1,5 +1,5 @@
 -- The faults of the fields of a campaign's body, and what the fields hold.
-use Rattle.std.specs.Prelude.{ℕ, ℤ, pos, List, [], ◌∷◌, map, Option, Some, None, Result, Ok, Err, codes}
+use Rattle.std.specs.Prelude.{ℕ, ℤ, pos, List, [], ◌∷◌, map, Option, None, Result, Ok, Err, codes}
 use Rattle.exact_json.specs.Tree.{Tree}
 use Rattle.json_fields.specs.Answers.{flaws_of, value_or}
 use Rattle.json_fields.specs.Fields.{present, as_text, as_whole, as_exact, optional, required}

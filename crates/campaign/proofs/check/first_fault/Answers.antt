@@ -1,4 +1,4 @@
-use Rattle.std.proofs.Common.{◌≡◌, sym}
+use Rattle.std.proofs.Common.{sym}
 use Rattle.campaign.specs.Kept.{IsInRange}
 use Rattle.campaign.proofs.check.first_fault.Goals as goal
 use Rattle.campaign.proofs.Firsts.{first_of_ten, fifth_of_ten, known_range}

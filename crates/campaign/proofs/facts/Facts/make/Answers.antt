@@ -1,7 +1,7 @@
 use Rattle.std.proofs.Common.{sym}
 use Rattle.campaign.specs.Faults.{fact_faults}
 use Rattle.campaign.proofs.facts.Facts.make.Goals as goal
-use Rattle.campaign.proofs.Firsts.{checked_fault, checked_right, no_first}
+use Rattle.campaign.proofs.Firsts.{no_first}
 
 pub invariant_of-result : goal.invariant_of-result
 invariant_of-result c = record {
