@@ -1,10 +1,13 @@
 -- Words that are campaigns.
-use Rattle.std.proofs.Common.{◌≡◌, ℕ, ◌+◌, ◌<◌, List, [], ◌∷◌, ◌++◌, length, take, drop, get_or, Option, None, Some, is_some, refl, sym, ap, ◌∙◌, append_assoc, take-append-drop}
+use Rattle.std.proofs.Common.{◌≡◌, ℕ, ◌+◌, ◌<◌, ◌≤◌, nat_le, List, [], ◌∷◌, ◌++◌, length, take, drop, get_or, Bool, true, false, cond, Option, None, Some, is_some, option_map, option_and_then, refl, sym, ap, ◌∙◌, arith, append_assoc, take-append-drop, length-take}
 use Rattle.std.specs.Prelude.{IsSome}
-use Rattle.std.specs.List.{list_all}
-use Rattle.std.proofs.lemmas.List.{take_more}
-use Rattle.exchange_run.specs.Words.{Campaign, campaign_of, campaigns_of}
+use Rattle.std.specs.List.{after_first, before_first, enumerate_from, list_all, list_any}
+use Rattle.std.proofs.lemmas.Bool.{and_parts, leb-true}
+use Rattle.std.proofs.lemmas.List.{map_push, take_more}
+use Rattle.exchange_run.specs.Words.{Campaign, amount_of, bid_of, campaign_of, campaigns_of, domain_of, is_at, is_within}
+use Rattle.exchange_run.specs.Numbered.{AreNumbered, is_short, listed}
 use Rattle.exchange_run.proofs.Each as each
+use Rattle.exchange_run.proofs.Sales.{numbered_push}
 
 pub all_are : (words : List (List ℕ)) → list_all (λ word. is_some (campaign_of word)) words ≡ is_some (campaigns_of words)
 all_are words = each.all_are campaign_of words
@@ -29,3 +32,50 @@ is_one words k d h lt e =
 -- one campaign more
 pub one_more : (words : List (List ℕ)) (k : ℕ) (d : List ℕ) (cs : List Campaign) (c : Campaign) → k < length words → d ≡ get_or words k d → campaigns_of (take k words) ≡ Some cs → Some c ≡ campaign_of d → campaigns_of (take (k + 1) words) ≡ Some (cs ++ c ∷ [])
 one_more words k d cs c lt e read f = ap campaigns_of (take_more words k d lt) ∙ each.one_more campaign_of (take k words) (get_or words k d) cs c read (f ∙ ap campaign_of e)
+
+-- ---- what is known of a campaign
+
+at_least_one : (o : Option ℕ) (n : ℕ) → option_and_then (λ m. cond (nat_le 1 m) (Some m) None) o ≡ Some n → 1 ≤ n
+at_least_one None n e = cc
+at_least_one (Some m) n e =
+    elim (nat_le 1 m) as (λ b. nat_le 1 m ≡ b → cond b (Some m) None ≡ Some n → 1 ≤ n) [
+      | true ↦ λ t f. let same : m ≡ n = cc in let some : 1 ≤ m = leb-true 1 m t in omega arith
+      | false ↦ λ t f. cc
+    ] refl e
+
+short_by : (a b : Bool) (x : List ℕ) (o : Option (List ℕ)) → (b ≡ true → nat_le (length x) 255 ≡ true) → cond a (cond b (Some (Some x)) None) (Some None) ≡ Some o → is_short o ≡ true
+short_by true true x o h e = let same : Some x ≡ o = cc in ap is_short (sym same) ∙ h refl
+short_by true false x o h e = cc
+short_by false b x o h e = let same : None ≡ o = cc in ap is_short (sym same)
+
+short_domain : (word : List ℕ) (o : Option (List ℕ)) → domain_of word ≡ Some o → is_short o ≡ true
+short_domain word o e =
+    let x = after_first is_at word in
+    short_by (list_any is_at word) (is_within 255 (length x)) x o (λ t. (and_parts (nat_le 1 (length x)) (nat_le (length x) 255) t).1) e
+
+limits : (b : Option ℕ) (d : Option (Option (List ℕ))) (c : Campaign) → ((n : ℕ) → b ≡ Some n → 1 ≤ n) → ((o : Option (List ℕ)) → d ≡ Some o → is_short o ≡ true)
+    → Some c ≡ option_and_then (λ bid. option_map (λ domain. record { bid = bid; domain = domain }) d) b → (1 ≤ c.bid) × (is_short c.domain ≡ true)
+limits None d c some short e = cc
+limits (Some n) None c some short e = cc
+limits (Some n) (Some o) c some short e =
+    let made : Campaign = record { bid = n; domain = o } in
+    let same : c ≡ made = cc in
+    let bid : c.bid ≡ n = ap (λ (x : Campaign). x.bid) same in
+    let most : 1 ≤ n = some n refl in
+    (omega arith, ap (λ (x : Campaign). is_short x.domain) same ∙ short o refl)
+
+-- a campaign bids at least a micro-dollar, and wants no domain of more than 255 bytes
+pub in_limits : (word : List ℕ) (c : Campaign) → Some c ≡ campaign_of word → (1 ≤ c.bid) × (is_short c.domain ≡ true)
+in_limits word c e = limits (bid_of word) (domain_of word) c (at_least_one (amount_of (before_first is_at word))) (short_domain word) e
+
+-- ---- numbers
+
+-- one numbered campaign more
+pub numbered_more : (ps : List (ℕ × Campaign)) (k : ℕ) (c : Campaign) → AreNumbered ps → k ≡ 1 + length (listed ps) → AreNumbered (ps ++ (k, c) ∷ [])
+numbered_more ps k c e n =
+    ap (λ l. l ++ (k, c) ∷ []) e ∙ ap (λ (m : ℕ). enumerate_from 1 (listed ps) ++ (m, c) ∷ []) n ∙ sym (numbered_push 1 (listed ps) c)
+    ∙ ap (enumerate_from 1) (sym (map_push (λ (p : ℕ × Campaign). p.1) ps (k, c)))
+
+-- as many as words
+pub as_many : (words : List (List ℕ)) (k : ℕ) (ps : List (ℕ × Campaign)) → k < length words → campaigns_of (take k words) ≡ Some (listed ps) → length (listed ps) ≡ k
+as_many words k ps lt e = each.each_length campaign_of (take k words) (listed ps) e ∙ omega (arith, length-take k words)

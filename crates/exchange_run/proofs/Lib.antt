@@ -1,6 +1,10 @@
 pub mod Campaigns
 pub mod Each
+pub mod Facts
+pub mod Found
 pub mod Places
 pub mod Sales
 pub mod Texts
 pub mod Replies
+pub mod Wanted
+pub mod Winners

@@ -1,5 +1,5 @@
 -- Which reply the reading of a text leads to.
-use Rattle.std.proofs.Common.{◌≡◌, ℕ, ◌≤◌, List, [], ◌∷◌, ◌⊎◌, inl, inr, length, map, Some, Result, Ok, Err, IfOk, OnOk, sym, ap, ◌∙◌, arith}
+use Rattle.std.proofs.Common.{◌≡◌, ℕ, ◌≤◌, List, [], ◌∷◌, ◌⊎◌, inl, inr, length, Some, Result, Ok, Err, IfOk, OnOk, sym, ap, ◌∙◌, arith}
 use Rattle.exact_json.specs.Tree.{Tree}
 use Rattle.exact_json.specs.declared.fault.JsonFault.{JsonFault}
 use Rattle.exact_json.specs.declared.fault.JsonFault.TheVariants.{Memory}
@@ -13,8 +13,7 @@ use Rattle.json_fields.specs.Answers.{IsFirst}
 use Rattle.exchange_run.specs.Words.{Campaign, campaign_of, campaigns_of}
 use Rattle.exchange_run.specs.Refusals.{json_fault_text, request_fault_text}
 use Rattle.exchange_run.specs.Answer.{IsReply, faulty, max_input, refusal_of, reply_by, reply_to, said, tree_reply}
-use Rattle.exchange_run.specs.View.{campaign_view}
-use Rattle.exchange_run.specs.declared.words.NamedCampaign.{NamedCampaign}
+use Rattle.exchange_run.specs.Numbered.{listed}
 use Rattle.exchange_run.specs.declared.try_command.Reply.{Reply}
 use Rattle.exchange_run.proofs.Each.{each_length}
 use Rattle.std.proofs.lemmas.List.{length-map}
@@ -48,5 +47,5 @@ refused cs bytes (Ok x) fault le explained e other = faulty le fault other expla
 refused cs bytes (Err f) fault le explained e other = e
 
 -- as many campaigns as words
-pub few : (words : List (List ℕ)) (cs : List NamedCampaign) → Some (map campaign_view cs) ≡ campaigns_of words → length words ≤ 64 → length cs ≤ 64
-few words cs e le = omega (arith, each_length campaign_of words (map campaign_view cs) (sym e), length-map cs campaign_view)
+pub few : (words : List (List ℕ)) (ps : List (ℕ × Campaign)) → Some (listed ps) ≡ campaigns_of words → length words ≤ 64 → length ps ≤ 64
+few words ps e le = omega (arith, each_length campaign_of words (listed ps) (sym e), length-map ps (λ (p : ℕ × Campaign). p.1))

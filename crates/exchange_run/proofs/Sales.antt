@@ -1,13 +1,11 @@
 -- What one more campaign, and one more impression, changes.
-use Rattle.std.proofs.Common.{◌≡◌, ℕ, ◌+◌, ◌<◌, nat_le, ◌&&◌, List, [], ◌∷◌, ◌++◌, length, take, get_or, map, Bool, true, false, Option, None, Some, is_some, cond, option_to_list, refl, sym, ap, ◌∙◌, arith}
+use Rattle.std.proofs.Common.{◌≡◌, ℕ, ◌+◌, ◌<◌, nat_le, ◌&&◌, List, [], ◌∷◌, ◌++◌, length, take, get_or, Bool, true, false, Option, None, Some, is_some, cond, option_to_list, refl, sym, ap, ◌∙◌, arith}
 use Rattle.std.specs.Prelude.{IsTrue}
 use Rattle.std.specs.List.{list_all, cons_option, enumerate_from, filter_map}
-use Rattle.std.proofs.lemmas.List.{length-map, length-take, map_push, take_more}
+use Rattle.std.proofs.lemmas.List.{take_more}
 use Rattle.std.proofs.lemmas.List.Elements.{filter_map-append}
 use Rattle.clearing.specs.Clearing.{is_fit}
 use Rattle.clearing.specs.declared.Offer.{Offer}
-use Rattle.exchange_run.specs.View.{campaign_view}
-use Rattle.exchange_run.specs.declared.words.NamedCampaign.{NamedCampaign}
 use Rattle.exchange_run.specs.Words.{Campaign}
 use Rattle.rtb_types.specs.declared.request.Imp.{Imp}
 use Rattle.exchange_run.specs.Auction.{is_offering, is_wanted, offer_of, offers_of, terms_of}
@@ -23,19 +21,10 @@ pub numbered_push : {A : Type 0} (n : ℕ) (xs : List A) (x : A) → enumerate_f
 numbered_push n [] x = ap (λ (k : ℕ). (k, x) ∷ []) (omega arith)
 numbered_push n (y ∷ xs) x = ap (λ l. (n, y) ∷ l) (numbered_push (n + 1) xs x ∙ ap (λ (k : ℕ). enumerate_from (n + 1) xs ++ (k, x) ∷ []) (omega arith))
 
--- one campaign more
-pub offers_push : (domain : Option (List ℕ)) (imp : Imp) (cs : List Campaign) (k : ℕ) (c : Campaign) → k ≡ 1 + length cs
-    → filter_map (offer_of domain imp) (enumerate_from 1 (cs ++ c ∷ [])) ≡ filter_map (offer_of domain imp) (enumerate_from 1 cs) ++ option_to_list (offer_of domain imp (k, c))
-offers_push domain imp cs k c e =
-    ap (filter_map (offer_of domain imp)) (numbered_push 1 cs c) ∙ filter_map-append (offer_of domain imp) (enumerate_from 1 cs) ((1 + length cs, c) ∷ [])
-    ∙ ap (λ l. filter_map (offer_of domain imp) (enumerate_from 1 cs) ++ l) (alone (offer_of domain imp) (1 + length cs, c) ∙ ap (λ (n : ℕ). option_to_list (offer_of domain imp (n, c))) (sym e))
-
-pub offers_step : (domain : Option (List ℕ)) (imp : Imp) (cs : List NamedCampaign) (k : ℕ) (d : NamedCampaign) (number : ℕ) → k < length cs → d ≡ get_or cs k d → number ≡ k + 1
-    → filter_map (offer_of domain imp) (enumerate_from 1 (map campaign_view (take (k + 1) cs))) ≡ filter_map (offer_of domain imp) (enumerate_from 1 (map campaign_view (take k cs))) ++ option_to_list (offer_of domain imp (number, campaign_view d))
-offers_step domain imp cs k d number lt e n =
-    let front : map campaign_view (take (k + 1) cs) ≡ map campaign_view (take k cs) ++ campaign_view d ∷ [] = ap (map campaign_view) (take_more cs k d lt ∙ ap (λ c. take k cs ++ c ∷ []) (sym e)) ∙ map_push campaign_view (take k cs) d in
-    ap (λ l. filter_map (offer_of domain imp) (enumerate_from 1 l)) front
-    ∙ offers_push domain imp (map campaign_view (take k cs)) number (campaign_view d) (omega (arith, n, length-map (take k cs) campaign_view, length-take k cs))
+-- one number more
+pub offers_step : (h : ℕ → Option Offer) (ns : List ℕ) (k d : ℕ) → k < length ns → filter_map h (take (k + 1) ns) ≡ filter_map h (take k ns) ++ option_to_list (h (get_or ns k d))
+offers_step h ns k d lt =
+    ap (filter_map h) (take_more ns k d lt) ∙ filter_map-append h (take k ns) (get_or ns k d ∷ []) ∙ ap (λ l. filter_map h (take k ns) ++ l) (alone h (get_or ns k d))
 
 -- each offer is fit
 fit_step : (imp : Imp) (b : Bool) (o : Offer) (rest : List Offer) → (b ≡ true → is_fit (terms_of imp) o ≡ true) → list_all (is_fit (terms_of imp)) rest ≡ true → list_all (is_fit (terms_of imp)) (cons_option (cond b (Some o) None) rest) ≡ true

@@ -1,5 +1,6 @@
 -- What one more piece of a text changes.
 use Rattle.std.proofs.Common.{◌≡◌, ℕ, ◌+◌, ◌<◌, ◌==◌, List, [], ◌∷◌, ◌++◌, length, take, get_or, map, Bool, true, false, not, ◌||◌, cond, filter, refl, sym, ap, ◌∙◌, arith, append_assoc, append-nil}
+use Rattle.std.specs.Prelude.{codes}
 use Rattle.std.specs.List.{concat, enumerate_from, join_with_byte, list_any}
 use Rattle.std.specs.Borrow.{Bor}
 use Rattle.std.proofs.lemmas.Bool.Decides.{nat_tests}
@@ -7,7 +8,8 @@ use Rattle.std.proofs.lemmas.List.Elements.{filter-append}
 use Rattle.std.proofs.lemmas.List.{map-append, length-map, length-take, map_push, take_more}
 use Rattle.std.proofs.lemmas.List.Folds.{concat-append}
 use Rattle.exchange_run.specs.Auction.{Sale}
-use Rattle.exchange_run.specs.Response.{bid_text, seat_bids, seats_of}
+use Rattle.exchange_run.specs.Words.{Campaign}
+use Rattle.exchange_run.specs.Response.{bid_tail, bid_text, seat_bids, seats_of}
 use Rattle.exchange_run.specs.View.{sale_view}
 use Rattle.exchange_run.specs.declared.auction.SoldImp.{SoldImp}
 use Rattle.exchange_run.proofs.Sales.{numbered_push}
@@ -59,20 +61,13 @@ same_seat a b e = grind (arith, nat_tests)
 pub other_seat : (a b : ℕ) → (a ≡ b → ⊥) → (a == b) ≡ false
 other_seat a b e = grind (arith, nat_tests)
 
-pub seat_more : (o out y : List ℕ) (f : ℕ → List ℕ) (cs : List ℕ) (k : ℕ) → k < length cs → out ≡ o ++ join_with_byte 44 (map f (take k cs)) → y ≡ f (get_or cs k 0)
-    → (out ++ cond (k == 0) [] (44 ∷ [])) ++ y ≡ o ++ join_with_byte 44 (map f (take (k + 1) cs))
-seat_more o out y f cs k lt e same =
-    let count : k ≡ length (map f (take k cs)) = omega (arith, length-map (take k cs) f, length-take k cs) in
-    joined_more o out (map f (take k cs)) (k == 0) y e (ap (λ n. n == 0) count) ∙ ap (λ z. o ++ join_with_byte 44 (map f (take k cs) ++ z ∷ [])) same
-    ∙ ap (λ l. o ++ join_with_byte 44 l) (sym (ap (map f) (take_more cs k 0 lt) ∙ map_push f (take k cs) (get_or cs k 0)))
-
 chosen : {A B : Type 0} (f : A → B) (b : Bool) (x : A) → map f (cond b (x ∷ []) []) ≡ cond b (f x ∷ []) []
 chosen f true x = refl
 chosen f false x = refl
 
 -- one sale more
 pub bids_step : (sold : List SoldImp) (k : ℕ) (d : SoldImp) (c : ℕ) → k < length sold → d ≡ get_or sold k d
-    → seat_bids (map sale_view (take (k + 1) sold)) c ≡ seat_bids (map sale_view (take k sold)) c ++ cond (d.campaign == c) (bid_text (k + 1, sale_view d) ∷ []) []
+    → seat_bids (map sale_view (take (k + 1) sold)) c ≡ seat_bids (map sale_view (take k sold)) c ++ cond (d.campaign.now.0 == c) (bid_text (k + 1, sale_view d) ∷ []) []
 bids_step sold k d c lt e =
     let front : map sale_view (take (k + 1) sold) ≡ map sale_view (take k sold) ++ sale_view d ∷ [] = ap (map sale_view) (take_more sold k d lt ∙ ap (λ s. take k sold ++ s ∷ []) (sym e)) ∙ map_push sale_view (take k sold) d in
     let before = map sale_view (take k sold) in
@@ -81,8 +76,8 @@ bids_step sold k d c lt e =
     ap (λ l. map bid_text (filter test (enumerate_from 1 l))) front
     ∙ ap (λ l. map bid_text (filter test l)) (numbered_push 1 before (sale_view d) ∙ ap (λ (n : ℕ). enumerate_from 1 before ++ (n, sale_view d) ∷ []) number)
     ∙ ap (map bid_text) (filter-append test (enumerate_from 1 before) ((k + 1, sale_view d) ∷ []))
-    ∙ map-append bid_text (filter test (enumerate_from 1 before)) (cond (d.campaign == c) ((k + 1, sale_view d) ∷ []) [])
-    ∙ ap (λ l. map bid_text (filter test (enumerate_from 1 before)) ++ l) (chosen bid_text (d.campaign == c) (k + 1, sale_view d))
+    ∙ map-append bid_text (filter test (enumerate_from 1 before)) (cond (d.campaign.now.0 == c) ((k + 1, sale_view d) ∷ []) [])
+    ∙ ap (λ l. map bid_text (filter test (enumerate_from 1 before)) ++ l) (chosen bid_text (d.campaign.now.0 == c) (k + 1, sale_view d))
 
 -- without the seat t, another seat is there as before
 any_step : (is_t is_s : Bool) (c s : ℕ) (kept cs : List ℕ) → (c == s) ≡ is_s → (is_t ≡ true → is_s ≡ false) → list_any (λ x. x == s) kept ≡ list_any (λ x. x == s) cs
@@ -129,6 +124,46 @@ seats_push (t ∷ sales) s =
     ∙ ap (λ l. t.campaign ∷ l) (filter-append others (seats_of sales) (cond (list_any (λ c. c == s.campaign) (seats_of sales)) [] (s.campaign ∷ [])) ∙ ap (λ l. filter others (seats_of sales) ++ l) (kept_by (t.campaign == s.campaign) t.campaign s.campaign (seats_of sales) refl))
 
 pub seats_step : (sold : List SoldImp) (k : ℕ) (d : SoldImp) → k < length sold → d ≡ get_or sold k d
-    → seats_of (map sale_view (take (k + 1) sold)) ≡ seats_of (map sale_view (take k sold)) ++ cond (list_any (λ c. c == d.campaign) (seats_of (map sale_view (take k sold)))) [] (d.campaign ∷ [])
+    → seats_of (map sale_view (take (k + 1) sold)) ≡ seats_of (map sale_view (take k sold)) ++ cond (list_any (λ c. c == d.campaign.now.0) (seats_of (map sale_view (take k sold)))) [] (d.campaign.now.0 ∷ [])
 seats_step sold k d lt e =
     ap (λ l. seats_of (map sale_view l)) (take_more sold k d lt ∙ ap (λ s. take k sold ++ s ∷ []) (sym e)) ∙ ap seats_of (map_push sale_view (take k sold) d) ∙ seats_push (map sale_view (take k sold)) (sale_view d)
+
+-- ---- seats as campaigns
+
+abbrev pub numbers : List (Bor (ℕ × Campaign)) → List ℕ
+numbers seats = map (λ (s : Bor (ℕ × Campaign)). s.now.0) seats
+
+any_number : (n : ℕ) (seats : List (Bor (ℕ × Campaign))) → list_any (λ (s : Bor (ℕ × Campaign)). s.now.0 == n) seats ≡ list_any (λ m. m == n) (numbers seats)
+any_number n [] = refl
+any_number n (s ∷ seats) = ap (λ b. (s.now.0 == n) || b) (any_number n seats)
+
+number_alone : (b : Bool) (s : Bor (ℕ × Campaign)) → numbers (cond b [] (s ∷ [])) ≡ cond b [] (s.now.0 ∷ [])
+number_alone true s = refl
+number_alone false s = refl
+
+-- one seat more, where it is new
+pub seat_push : (seats : List (Bor (ℕ × Campaign))) (kept : List ℕ) (s : Bor (ℕ × Campaign)) → numbers seats ≡ kept
+    → numbers (seats ++ cond (list_any (λ (t : Bor (ℕ × Campaign)). t.now.0 == s.now.0) seats) [] (s ∷ [])) ≡ kept ++ cond (list_any (λ m. m == s.now.0) kept) [] (s.now.0 ∷ [])
+seat_push seats kept s e =
+    map-append (λ (t : Bor (ℕ × Campaign)). t.now.0) seats (cond (list_any (λ (t : Bor (ℕ × Campaign)). t.now.0 == s.now.0) seats) [] (s ∷ []))
+    ∙ ap (λ l. numbers seats ++ l) (number_alone (list_any (λ (t : Bor (ℕ × Campaign)). t.now.0 == s.now.0) seats) s ∙ ap (λ b. cond b [] (s.now.0 ∷ [])) (any_number s.now.0 seats))
+    ∙ ap (λ l. l ++ cond (list_any (λ m. m == s.now.0) l) [] (s.now.0 ∷ [])) e
+
+-- the text of one seat more
+pub seat_text_more : (o out y : List ℕ) (f : ℕ → List ℕ) (seats : List (Bor (ℕ × Campaign))) (k : ℕ) (d : Bor (ℕ × Campaign)) → k < length seats → out ≡ o ++ join_with_byte 44 (map f (numbers (take k seats))) → y ≡ f (get_or seats k d).now.0
+    → (out ++ cond (k == 0) [] (44 ∷ [])) ++ y ≡ o ++ join_with_byte 44 (map f (numbers (take (k + 1) seats)))
+seat_text_more o out y f seats k d lt e same =
+    let before = map f (numbers (take k seats)) in
+    let count : k ≡ length before = omega (arith, length-map (numbers (take k seats)) f, length-map (take k seats) (λ (s : Bor (ℕ × Campaign)). s.now.0), length-take k seats) in
+    joined_more o out before (k == 0) y e (ap (λ n. n == 0) count) ∙ ap (λ z. o ++ join_with_byte 44 (before ++ z ∷ [])) same
+    ∙ ap (λ l. o ++ join_with_byte 44 l) (sym (ap (λ l. map f (numbers l)) (take_more seats k d lt) ∙ ap (map f) (map_push (λ (s : Bor (ℕ × Campaign)). s.now.0) (take k seats) (get_or seats k d)) ∙ map_push f (numbers (take k seats)) (get_or seats k d).now.0))
+
+-- ---- the texts of a campaign
+
+abbrev pub tail_by : List ℕ → List ℕ → List ℕ → List ℕ → List ℕ
+tail_by adm adomain cid crid = concat (codes ",\"adm\":\"" ∷ adm ∷ codes "\",\"adomain\":[\"" ∷ adomain ∷ codes "\"],\"cid\":\"" ∷ cid ∷ codes "\",\"crid\":\"" ∷ crid ∷ codes "\"}" ∷ [])
+
+pub tail_same : (n : List ℕ) → tail_by (codes "ad " ++ n) (codes "ad" ++ n ++ codes ".example") n (codes "cr" ++ n) ≡ bid_tail n
+tail_same n =
+    ap (λ l. codes ",\"adm\":\"ad " ++ (n ++ (codes "\",\"adomain\":[\"ad" ++ l)))
+    (append_assoc n (codes ".example") (codes "\"],\"cid\":\"" ++ (n ++ (codes "\",\"crid\":\"cr" ++ (n ++ codes "\"}")))))

@@ -1,6 +1,7 @@
 pub mod Each
 pub mod Words
 pub mod Auction
+pub mod Numbered
 pub mod Response
 pub mod Refusals
 pub mod Unbuilt

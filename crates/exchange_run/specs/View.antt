@@ -9,4 +9,4 @@ abbrev pub campaign_view : NamedCampaign → Campaign
 campaign_view c = record { bid = c.bid; domain = option_map (λ d. d.now) c.domain }
 
 abbrev pub sale_view : SoldImp → Sale
-sale_view s = record { imp = s.imp.now; campaign = s.campaign; price = s.price }
+sale_view s = record { imp = s.imp.now; campaign = s.campaign.now.0; price = s.price }

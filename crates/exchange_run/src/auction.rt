@@ -1,73 +1,106 @@
-ghost use Rattle.std.specs.Prelude.{◌≡◌, ◌≤◌, ◌++◌, length, map, option_map, option_to_list, IfOk, IsTrue, OnOk};
-ghost use Rattle.std.specs.List.{list_all};
-ghost use Rattle.clearing.specs.Clearing.{is_fit};
-ghost use Rattle.exchange_run.specs.Auction.{is_wanted, is_offering as is_offering_of, offer_of, offers_of, sale_by, sales_of, site_domain_of, terms_of};
-ghost use Rattle.exchange_run.specs.View.{campaign_view, sale_view};
+ghost use Rattle.std.specs.Prelude.{◌≡◌, ◌==◌, ◌<◌, ◌≤◌, ◌&&◌, ◌++◌, ℕ, true, nat_le, is_some, find, length, map, option_map, option_to_list, IfOk, IfSome, IsTrue, OnOk};
+ghost use Rattle.std.specs.List.{filter_map, list_all, list_any};
+ghost use Rattle.clearing.specs.Clearing.{is_fit, outcome};
+ghost use Rattle.conj_index.specs.Content.{IsIndexOf};
+ghost use Rattle.exchange_run.specs.Auction.{sale_by, sales_of, terms_of};
+ghost use Rattle.exchange_run.specs.Numbered.{AreNumbered, added_of, listed, offer_at, offer_numbered};
+ghost use Rattle.exchange_run.specs.View.{sale_view};
 
-use crate::words::NamedCampaign;
-use clearing::{Offer, PriceKind, Terms, clear};
+use crate::numbered::NumberedCampaign;
+use assign::assignment;
+use clearing::{Offer, PriceKind, Terms, Win, clear};
+use conj_index::{Builder, Index, IndexFault};
+use rtb_base::Steps;
 use rtb_num::{Micros, Txt};
 use rtb_types::{BidRequest, Imp};
 use std::alloc::{AllocError, Global};
+use std::marker::Brand;
+use std::sync::ledger::{Blank, Ledger};
 
 /// A sale of an impression.
 #[derive(Debug, Drop)]
 pub(crate) struct SoldImp<'a> {
     /// The impression's `id`.
     pub imp: &'a Txt,
-    /// The winner's number.
-    pub campaign: u32,
+    /// The winner.
+    pub campaign: &'a NumberedCampaign,
     /// Micro-dollars per thousand impressions.
     pub price: Micros,
 }
 
-fn site_domain(request: &BidRequest) -> Option<&Txt>
-    ensures { option_map (λ d. d.now) result ≡ site_domain_of request.now }
+// The campaigns with their targets.
+fn added<L: Ledger>(
+    alloc: Global,
+    campaigns: &[NumberedCampaign],
+    steps: &mut Steps<L>,
+) -> Result<Builder, AllocError>
+    requires few { length campaigns.now ≤ 64 }
+    requires numbered { AreNumbered campaigns.now }
+    ensures { IfOk result (λ b. b ≡ added_of campaigns.now) }
 {
-    match &request.site {
-        Some(site) => site.domain.as_ref(),
-        None => None,
+    let mut builder = Builder::new(alloc);
+    for campaign in campaigns {
+        builder.add(campaign.number(), campaign.target(), steps)?;
+    }
+    Ok(builder)
+}
+
+// The index of the campaigns' targets.
+fn index_of<L: Ledger>(
+    alloc: Global,
+    campaigns: &[NumberedCampaign],
+    steps: &mut Steps<L>,
+) -> Result<Index, AllocError>
+    requires few { length campaigns.now ≤ 64 }
+    requires numbered { AreNumbered campaigns.now }
+    ensures { IfOk result (IsIndexOf (added_of campaigns.now)) }
+{
+    let builder = added(alloc, campaigns, steps)?;
+    match Index::build(alloc, builder, steps) {
+        Ok(index) => Ok(index),
+        Err(IndexFault::Memory) => Err(AllocError),
     }
 }
 
-// Whether the request is for the domain that the campaign wants, if it wants one.
-fn is_wanted_domain(campaign: &NamedCampaign, request: &BidRequest) -> bool
-    ensures { result ≡ is_wanted (campaign_view campaign.now).domain (site_domain_of request.now) }
+// The campaign of that number.
+fn campaign_of(campaigns: &[NumberedCampaign], number: u32) -> Option<&NumberedCampaign>
+    ensures { option_map (λ c. c.now) result ≡ find (λ p. p.0 == number) campaigns.now }
 {
-    match campaign.domain {
-        None => true,
-        Some(wanted) => match site_domain(request) {
-            None => false,
-            Some(domain) => domain.as_bytes() == wanted,
-        },
-    }
+    campaigns
+        .iter()
+        .find(|campaign| campaign.number() == number)
 }
 
-fn is_offering(campaign: &NamedCampaign, request: &BidRequest, imp: &Imp) -> bool
-    ensures { result ≡ is_offering_of (site_domain_of request.now) imp.now (campaign_view campaign.now) }
+// Whether the campaign, which wants the impression, offers for it.
+fn is_offering(campaign: &NumberedCampaign, imp: &Imp) -> bool
+    ensures { result ≡ (is_some imp.now.banner && nat_le imp.now.floor campaign.now.1.bid) }
 {
     if imp.banner.is_none() {
         return false;
     }
-    if !is_wanted_domain(campaign, request) {
-        return false;
-    }
-    imp.floor <= campaign.bid
+    imp.floor <= campaign.facts().bid()
 }
 
-// The offer of the campaign of that number, if it makes one.
-fn offer_by(number: u32, campaign: &NamedCampaign, request: &BidRequest, imp: &Imp) -> Option<Offer>
-    ensures { result ≡ offer_of (site_domain_of request.now) imp.now (number, campaign_view campaign.now) }
+// The offer of the campaign, which wants the impression.
+fn offer_at(campaign: &NumberedCampaign, imp: &Imp) -> Option<Offer>
+    ensures { result ≡ offer_at imp.now campaign.now }
 {
-    if is_offering(campaign, request, imp) {
+    if is_offering(campaign, imp) {
         Some(Offer {
-            campaign: number,
-            bid: campaign.bid,
+            campaign: campaign.number(),
+            bid: campaign.facts().bid(),
             pool: 0,
         })
     } else {
         None
     }
+}
+
+// The offer of the campaign of that number, which wants the impression.
+fn offer_of(campaigns: &[NumberedCampaign], number: u32, imp: &Imp) -> Option<Offer>
+    ensures { result ≡ offer_numbered campaigns.now imp.now number }
+{
+    offer_at(campaign_of(campaigns, number)?, imp)
 }
 
 fn push_offer(offers: &mut Vec<Offer>, offer: Option<Offer>) -> Result<(), AllocError>
@@ -79,42 +112,61 @@ fn push_offer(offers: &mut Vec<Offer>, offer: Option<Offer>) -> Result<(), Alloc
     Ok(())
 }
 
-// Puts the offers of the campaigns in the place of what stands there.
+// Puts the offers of the campaigns that were found in the place of what stands there.
 fn collect_offers(
     offers: &mut Vec<Offer>,
-    campaigns: &[NamedCampaign],
-    request: &BidRequest,
+    campaigns: &[NumberedCampaign],
+    found: &[u32],
     imp: &Imp,
 ) -> Result<(), AllocError>
-    requires { length campaigns.now ≤ 64 }
-    ensures { OnOk result (offers.new.items ≡ offers_of (site_domain_of request.now) imp.now (map campaign_view campaigns.now)) }
+    ensures { OnOk result (offers.new.items ≡ filter_map (offer_numbered campaigns.now imp.now) found.now) }
 {
     offers.clear();
-    let mut number = 0;
-    for campaign in campaigns {
-        number += 1;
-        push_offer(offers, offer_by(number, campaign, request, imp))?;
+    for number in found {
+        push_offer(offers, offer_of(campaigns, *number, imp))?;
     }
     Ok(())
 }
 
-// Sells one impression by second price, and appends the sale, if there is one.
-fn sell_imp<'a>(
-    sold: &mut Vec<SoldImp<'a>>,
-    offers: &[Offer],
-    imp: &'a Imp,
-) -> Result<(), AllocError>
+// What the offers for the impression are cleared to, by second price.
+fn cleared(offers: &[Offer], imp: &Imp) -> Option<Win>
     requires { IsTrue (list_all (is_fit (terms_of imp.now)) offers.now) }
-    ensures { OnOk result (map sale_view sold.new.items ≡ map sale_view sold.old.items ++ option_to_list (sale_by imp.now offers.now)) }
+    ensures win { result ≡ outcome offers.now (terms_of imp.now) }
+    ensures winner { IfSome result (λ w. list_any (λ o. o.campaign == w.campaign) offers.now ≡ true) }
 {
     let terms = [Terms {
         floor: imp.floor,
         kind: PriceKind::Second,
     }];
-    if let Some(win) = clear(offers, &terms) {
+    clear(offers, &terms)
+}
+
+// The campaign that won.
+fn winner(campaigns: &[NumberedCampaign], number: u32) -> &NumberedCampaign
+    requires { IsTrue (list_any (λ p. p.0 == number) campaigns.now) }
+    ensures { result.now.0 ≡ number }
+{
+    match campaign_of(campaigns, number) {
+        Some(campaign) => campaign,
+        None => unreachable!(),
+    }
+}
+
+// Sells one impression, and appends the sale, if there is one.
+fn sell_imp<'a>(
+    sold: &mut Vec<SoldImp<'a>>,
+    campaigns: &'a [NumberedCampaign],
+    offers: &[Offer],
+    imp: &'a Imp,
+) -> Result<(), AllocError>
+    requires fit { IsTrue (list_all (is_fit (terms_of imp.now)) offers.now) }
+    requires known { (n : ℕ) → list_any (λ o. o.campaign == n) offers.now ≡ true → list_any (λ p. p.0 == n) campaigns.now ≡ true }
+    ensures { OnOk result (map sale_view sold.new.items ≡ map sale_view sold.old.items ++ option_to_list (sale_by imp.now offers.now)) }
+{
+    if let Some(win) = cleared(offers, imp) {
         let sale = SoldImp {
             imp: &imp.id,
-            campaign: win.campaign,
+            campaign: winner(campaigns, win.campaign),
             price: win.price,
         };
         if sold.push(sale).is_err() {
@@ -124,20 +176,41 @@ fn sell_imp<'a>(
     Ok(())
 }
 
-/// Sells the impressions of the request one after the other.
-pub(crate) fn sell<'a>(
+fn sell_counted<'a, L: Ledger>(
     alloc: Global,
-    campaigns: &[NamedCampaign],
+    campaigns: &'a [NumberedCampaign],
     request: &'a BidRequest,
+    blank: Blank,
 ) -> Result<Vec<SoldImp<'a>>, AllocError>
-    requires { length campaigns.now ≤ 64 }
-    ensures { IfOk result (λ sold. map sale_view sold.items ≡ sales_of (map campaign_view campaigns.now) request.now) }
+    requires name { blank.name ≡ L.name }
+    requires parts { blank.parts ≡ L.parts }
+    requires some { 0 < blank.parts }
+    requires few { length campaigns.now ≤ 64 }
+    requires numbered { AreNumbered campaigns.now }
+    ensures { IfOk result (λ sold. map sale_view sold.items ≡ sales_of (listed campaigns.now) request.now) }
 {
+    let mut steps = Steps::<L>::new(blank);
+    let index = index_of(alloc, campaigns, &mut steps)?;
     let mut offers = Vec::with_capacity(alloc, campaigns.len())?;
     let mut sold = Vec::with_capacity(alloc, request.imps.len())?;
-    for imp in request.imps.as_slice() {
-        collect_offers(&mut offers, campaigns, request, imp)?;
-        sell_imp(&mut sold, offers.as_slice(), imp)?;
+    for (place, imp) in request.imps.as_slice().iter().enumerate() {
+        let assignment = assignment(alloc, request, place)?;
+        let found = index.find(alloc, &assignment, &mut steps)?;
+        collect_offers(&mut offers, campaigns, found.as_slice(), imp)?;
+        sell_imp(&mut sold, campaigns, offers.as_slice(), imp)?;
     }
     Ok(sold)
+}
+
+/// Sells the impressions of the request one after the other. The steps of the index are not counted.
+pub(crate) fn sell<'a>(
+    alloc: Global,
+    campaigns: &'a [NumberedCampaign],
+    request: &'a BidRequest,
+) -> Result<Vec<SoldImp<'a>>, AllocError>
+    requires few { length campaigns.now ≤ 64 }
+    requires numbered { AreNumbered campaigns.now }
+    ensures { IfOk result (λ sold. map sale_view sold.items ≡ sales_of (listed campaigns.now) request.now) }
+{
+    sell_counted::<Brand>(alloc, campaigns, request, Blank::new(1))
 }

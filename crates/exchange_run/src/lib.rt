@@ -2,6 +2,7 @@
 #![tactic(auto)]
 
 mod auction;
+mod numbered;
 mod refusals;
 mod response;
 #[cfg(test)]

@@ -1,9 +1,10 @@
-ghost use Rattle.std.specs.Prelude.{◌≡◌, ◌==◌, ◌<◌, ◌++◌, [], ◌∷◌, cond, length, map, OnOk, IfOk};
+ghost use Rattle.std.specs.Prelude.{◌≡◌, ◌==◌, ◌++◌, [], ◌∷◌, cond, decimal, map, OnOk, IfOk};
 ghost use Rattle.std.specs.List.{concat, join_with_byte, list_any};
 ghost use Rattle.exchange_run.specs.Response.{bid_head, bid_tail, bid_text, response_head, response_text, seat_bids, seat_tail, seat_text, seats_of};
 ghost use Rattle.exchange_run.specs.View.{sale_view};
 
 use crate::auction::SoldImp;
+use crate::numbered::NumberedCampaign;
 use itoa::Buffer;
 use json_out::push_string;
 use rtb_num::{Txt, write_micros};
@@ -32,23 +33,26 @@ fn put_bid_head(out: &mut Txt, number: &[u8], imp: &[u8]) -> Result<(), AllocErr
 }
 
 // Appends what stands behind the price in a bid object.
-fn put_bid_tail(out: &mut Txt, campaign: &[u8]) -> Result<(), AllocError>
-    ensures { OnOk result (out.new ≡ out.old ++ bid_tail campaign.now) }
+fn put_bid_tail(out: &mut Txt, campaign: &NumberedCampaign) -> Result<(), AllocError>
+    ensures { OnOk result (out.new ≡ out.old ++ bid_tail (decimal campaign.now.0)) }
 {
+    let facts = campaign.facts();
+    let mut buffer = Buffer::new();
     put(
         out,
         &[
-            b",\"adm\":\"ad ",
-            campaign,
-            b"\",\"adomain\":[\"ad",
-            campaign,
-            b".example\"],\"cid\":\"",
-            campaign,
-            b"\",\"crid\":\"cr",
-            campaign,
+            b",\"adm\":\"",
+            facts.adm().as_bytes(),
+            b"\",\"adomain\":[\"",
+            facts.adomain().as_bytes(),
+            b"\"],\"cid\":\"",
+            buffer.format(campaign.number()).as_bytes(),
+            b"\",\"crid\":\"",
+            facts.crid().as_bytes(),
             b"\"}",
         ],
-    )
+    )?;
+    Ok(())
 }
 
 // Appends the bid object of the sale of that number.
@@ -58,7 +62,7 @@ fn put_bid(out: &mut Txt, number: usize, sale: &SoldImp) -> Result<(), AllocErro
     let mut buffer = Buffer::new();
     put_bid_head(out, buffer.format(number).as_bytes(), sale.imp.as_bytes())?;
     write_micros(sale.price, out)?;
-    put_bid_tail(out, buffer.format(sale.campaign).as_bytes())?;
+    put_bid_tail(out, sale.campaign)?;
     Ok(())
 }
 
@@ -73,12 +77,12 @@ fn put_comma(out: &mut Txt, is_first: bool) -> Result<(), AllocError>
 }
 
 // Appends the bids of one seat.
-fn put_seat_bids(out: &mut Txt, sold: &[SoldImp], campaign: u32) -> Result<(), AllocError>
-    ensures { OnOk result (out.new ≡ out.old ++ join_with_byte 44 (seat_bids (map sale_view sold.now) campaign)) }
+fn put_seat_bids(out: &mut Txt, sold: &[SoldImp], seat: &NumberedCampaign) -> Result<(), AllocError>
+    ensures { OnOk result (out.new ≡ out.old ++ join_with_byte 44 (seat_bids (map sale_view sold.now) seat.now.0)) }
 {
     let mut is_first = true;
     for (index, sale) in sold.iter().enumerate() {
-        if sale.campaign == campaign {
+        if sale.campaign.number() == seat.number() {
             put_comma(out, is_first)?;
             put_bid(out, index + 1, sale)?;
             is_first = false;
@@ -87,26 +91,31 @@ fn put_seat_bids(out: &mut Txt, sold: &[SoldImp], campaign: u32) -> Result<(), A
     Ok(())
 }
 
-fn put_seat_tail(out: &mut Txt, campaign: &[u8]) -> Result<(), AllocError>
-    ensures { OnOk result (out.new ≡ out.old ++ seat_tail campaign.now) }
+fn put_seat_tail(out: &mut Txt, seat: &NumberedCampaign) -> Result<(), AllocError>
+    ensures { OnOk result (out.new ≡ out.old ++ seat_tail (decimal seat.now.0)) }
 {
-    put(out, &[b"],\"seat\":\"s", campaign, b"\"}"])
+    put(
+        out,
+        &[b"],\"seat\":\"", seat.facts().seat().as_bytes(), b"\"}"],
+    )
 }
 
 // Appends the object of one seat.
-fn put_seat(out: &mut Txt, sold: &[SoldImp], campaign: u32) -> Result<(), AllocError>
-    ensures { OnOk result (out.new ≡ out.old ++ seat_text (map sale_view sold.now) campaign) }
+fn put_seat(out: &mut Txt, sold: &[SoldImp], seat: &NumberedCampaign) -> Result<(), AllocError>
+    ensures { OnOk result (out.new ≡ out.old ++ seat_text (map sale_view sold.now) seat.now.0) }
 {
     out.extend(b"{\"bid\":[")?;
-    put_seat_bids(out, sold, campaign)?;
-    let mut buffer = Buffer::new();
-    put_seat_tail(out, buffer.format(campaign).as_bytes())?;
+    put_seat_bids(out, sold, seat)?;
+    put_seat_tail(out, seat)?;
     Ok(())
 }
 
 // The campaigns that bought, in the order of what each bought first.
-fn seats_in(alloc: Global, sold: &[SoldImp]) -> Result<Vec<u32>, AllocError>
-    ensures { IfOk result (λ seats. seats.items ≡ seats_of (map sale_view sold.now)) }
+fn seats_in<'a>(
+    alloc: Global,
+    sold: &[SoldImp<'a>],
+) -> Result<Vec<&'a NumberedCampaign>, AllocError>
+    ensures { IfOk result (λ seats. map (λ s. s.now.0) seats.items ≡ seats_of (map sale_view sold.now)) }
 {
     let mut seats = Vec::new(alloc);
     for sale in sold {
@@ -115,27 +124,32 @@ fn seats_in(alloc: Global, sold: &[SoldImp]) -> Result<Vec<u32>, AllocError>
     Ok(seats)
 }
 
-fn has_seat(seats: &[u32], campaign: u32) -> bool
-    ensures { result ≡ list_any (λ c. c == campaign) seats.now }
+fn has_seat(seats: &[&NumberedCampaign], campaign: &NumberedCampaign) -> bool
+    ensures { result ≡ list_any (λ s. s.now.0 == campaign.now.0) seats.now }
 {
-    seats.iter().any(|seat| *seat == campaign)
+    seats.iter().any(|seat| seat.number() == campaign.number())
 }
 
-fn push_new(seats: &mut Vec<u32>, campaign: u32) -> Result<(), AllocError>
-    ensures { OnOk result (seats.new.items ≡ seats.old.items ++ cond (list_any (λ c. c == campaign) seats.old.items) [] (campaign ∷ [])) }
+fn push_new<'a>(
+    seats: &mut Vec<&'a NumberedCampaign>,
+    campaign: &'a NumberedCampaign,
+) -> Result<(), AllocError>
+    ensures { OnOk result (seats.new.items ≡ seats.old.items ++ cond (list_any (λ s. s.now.0 == campaign.now.0) seats.old.items) [] (campaign.entry ∷ [])) }
 {
     if !has_seat(seats.as_slice(), campaign) {
-        seats.push(campaign)?;
+        if seats.push(campaign).is_err() {
+            return Err(AllocError);
+        }
     }
     Ok(())
 }
 
-fn put_seats(out: &mut Txt, sold: &[SoldImp], seats: &[u32]) -> Result<(), AllocError>
-    ensures { OnOk result (out.new ≡ out.old ++ join_with_byte 44 (map (seat_text (map sale_view sold.now)) seats.now)) }
+fn put_seats(out: &mut Txt, sold: &[SoldImp], seats: &[&NumberedCampaign]) -> Result<(), AllocError>
+    ensures { OnOk result (out.new ≡ out.old ++ join_with_byte 44 (map (seat_text (map sale_view sold.now)) (map (λ s. s.now.0) seats.now))) }
 {
     for (index, seat) in seats.iter().enumerate() {
         put_comma(out, index == 0)?;
-        put_seat(out, sold, *seat)?;
+        put_seat(out, sold, seat)?;
     }
     Ok(())
 }
@@ -168,31 +182,90 @@ pub(crate) fn put_response(
 #[cfg(test)]
 mod tests {
     use super::*;
+    use crate::words::NamedCampaign;
     use rtb_num::Micros;
     use std::test::Fail;
+
+    // The campaign of that number, which bids a micro-dollar on any site.
+    fn campaign(alloc: Global, number: u32) -> Result<NumberedCampaign, AllocError> {
+        match Micros::new(1) {
+            Some(bid) => {
+                let named = NamedCampaign { bid, domain: None };
+                NumberedCampaign::make(alloc, number, &named)
+            }
+            None => Err(AllocError),
+        }
+    }
+
+    fn push_sale<'a>(
+        sold: &mut Vec<SoldImp<'a>>,
+        imp: &'a Txt,
+        campaign: &'a NumberedCampaign,
+        micros: u64,
+    ) -> Result<(), Fail> {
+        let price = Micros::new(micros).ok_or("a price")?;
+        let sale = SoldImp {
+            imp,
+            campaign,
+            price,
+        };
+        if sold.push(sale).is_err() {
+            return Err(Fail::from(AllocError));
+        }
+        Ok(())
+    }
+
+    // Campaigns 1 and 2.
+    fn campaigns(alloc: Global) -> Result<Vec<NumberedCampaign>, AllocError> {
+        let mut campaigns = Vec::new(alloc);
+        for number in 1..3 {
+            campaigns.push(campaign(alloc, number)?)?;
+        }
+        Ok(campaigns)
+    }
+
+    fn imps(alloc: Global, ids: &[&[u8]]) -> Result<Vec<Txt>, AllocError> {
+        let mut imps = Vec::new(alloc);
+        for id in ids {
+            imps.push(Txt::from_slice(alloc, id)?)?;
+        }
+        Ok(imps)
+    }
+
+    // Sells each impression to the campaign at the place, at the price in micro-dollars.
+    fn push_sales<'a>(
+        sold: &mut Vec<SoldImp<'a>>,
+        imps: &'a [Txt],
+        campaigns: &'a [NumberedCampaign],
+        sales: &[(usize, u64)],
+    ) -> Result<(), Fail> {
+        for (imp, sale) in imps.iter().zip(sales) {
+            let campaign = campaigns.get(sale.0).ok_or("a campaign")?;
+            push_sale(sold, imp, campaign, sale.1)?;
+        }
+        Ok(())
+    }
+
+    fn response(
+        alloc: Global,
+        imps: &[Txt],
+        campaigns: &[NumberedCampaign],
+        sales: &[(usize, u64)],
+    ) -> Result<Txt, Fail> {
+        let mut sold = Vec::new(alloc);
+        push_sales(&mut sold, imps, campaigns, sales)?;
+        let mut out = Txt::new(alloc);
+        put_response(alloc, &mut out, b"r", sold.as_slice())?;
+        Ok(out)
+    }
 
     // The seat that buys first stands first, with both of its bids; a bid keeps its sale's number.
     #[test]
     fn writes_each_seat_once(rt: HostRuntime) -> Result<(), Fail> {
-        let alloc = rt.alloc();
-        let ids = [
-            Txt::from_vec(b"a".to_vec(alloc)?),
-            Txt::from_vec(b"b".to_vec(alloc)?),
-            Txt::from_vec(b"c".to_vec(alloc)?),
-        ];
-        let sales = [(2, 1_010_000), (1, 300_000), (2, 10_000)];
-        let mut sold = Vec::new(alloc);
-        for (imp, (campaign, micros)) in ids.iter().zip(sales) {
-            let price = Micros::new(micros).ok_or("a price")?;
-            let sale = SoldImp {
-                imp,
-                campaign,
-                price,
-            };
-            assert!(rt; sold.push(sale).is_ok());
-        }
-        let mut out = Txt::new(alloc);
-        put_response(alloc, &mut out, b"r", sold.as_slice())?;
+        let campaigns = campaigns(rt.alloc())?;
+        let imps = imps(rt.alloc(), &[b"a", b"b", b"c"])?;
+        let sales = [(1, 1_010_000), (0, 300_000), (1, 10_000)];
+        let out = response(rt.alloc(), &imps, &campaigns, &sales)?;
         assert_eq!(rt;
             out.as_bytes(),
             b"{\"id\":\"r\",\"seatbid\":[{\"bid\":[{\"id\":\"1\",\"impid\":\"a\",\"price\":1.01,\"adm\":\"ad 2\",\"adomain\":[\"ad2.example\"],\"cid\":\"2\",\"crid\":\"cr2\"},{\"id\":\"3\",\"impid\":\"c\",\"price\":0.01,\"adm\":\"ad 2\",\"adomain\":[\"ad2.example\"],\"cid\":\"2\",\"crid\":\"cr2\"}],\"seat\":\"s2\"},{\"bid\":[{\"id\":\"2\",\"impid\":\"b\",\"price\":0.3,\"adm\":\"ad 1\",\"adomain\":[\"ad1.example\"],\"cid\":\"1\",\"crid\":\"cr1\"}],\"seat\":\"s1\"}],\"cur\":\"USD\"}".as_slice()

@@ -711,7 +711,7 @@ fn writes_all_or_answers_7(rt: HostRuntime) -> Result<(), Fail> {
     Ok(())
 }
 
-// For runs where one allocation fails: the words and the room of the sink take the first five.
+// For runs where one allocation fails: the words and the room of the sink take the first two.
 #[test]
 fn want_of_memory_is_answered_9_with_nothing_written(rt: HostRuntime) -> Result<(), Fail> {
     let alloc = rt.alloc();

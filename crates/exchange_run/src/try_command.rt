@@ -1,17 +1,18 @@
-ghost use Rattle.std.specs.Prelude.{◌≡◌, ◌≢◌, ◌⊎◌, ◌↔◌, ◌≤◌, None, Some, map, length, IfOk, IsSome, OnOk};
+ghost use Rattle.std.specs.Prelude.{◌≡◌, ◌≢◌, ◌⊎◌, ◌↔◌, ◌≤◌, None, Some, length, IfOk, IsSome, OnOk};
 ghost use Rattle.std.specs.Io.KnownBytes.{Appends};
 ghost use Rattle.rtb_base.specs.Faults.{Rose};
 ghost use Rattle.exchange_run.specs.Answer.{Answered, CutShort, HalfAnswered, IsReply, Replies, Sent, refusal_of, reply_to, tree_reply};
 ghost use Rattle.exchange_run.specs.Refusals.{error_text, json_fault_text, request_fault_text};
 ghost use Rattle.exact_json.specs.Docs.{doc_tree};
 ghost use Rattle.exchange_run.specs.Words.{campaigns_of, command_of};
-ghost use Rattle.exchange_run.specs.View.{campaign_view};
+ghost use Rattle.exchange_run.specs.Numbered.{AreNumbered, listed};
 
 use crate::auction::sell;
+use crate::numbered::NumberedCampaign;
 use crate::refusals::{put_error, put_json_fault, put_request_fault};
 use crate::response::put_response;
 use crate::unbuilt::is_unbuilt;
-use crate::words::{NamedCampaign, campaigns_in, command_in};
+use crate::words::{campaigns_in, command_in};
 use exact_json::{Doc, JsonFault, read};
 use rtb_io::{ReadFault, read_all, write_all};
 use rtb_num::{Sink, Source, Txt};
@@ -57,11 +58,12 @@ fn refusal(alloc: Global, word: &[u8]) -> Result<Reply, AllocError>
 // What is sold of the request, or that this stage has no rules for it.
 fn request_reply(
     alloc: Global,
-    campaigns: &[NamedCampaign],
+    campaigns: &[NumberedCampaign],
     request: &BidRequest,
 ) -> Result<Reply, AllocError>
-    requires { length campaigns.now ≤ 64 }
-    ensures { IfOk result (λ r. r ≡ reply_to (map campaign_view campaigns.now) request.now) }
+    requires few { length campaigns.now ≤ 64 }
+    requires numbered { AreNumbered campaigns.now }
+    ensures { IfOk result (λ r. r ≡ reply_to (listed campaigns.now) request.now) }
 {
     if is_unbuilt(request) {
         return refusal(alloc, b"not-built");
@@ -92,9 +94,10 @@ fn request_refusal(alloc: Global, fault: &ReqFault) -> Result<Reply, AllocError>
 }
 
 // What is sold of the request that the text makes, or its first fault.
-fn doc_reply(alloc: Global, campaigns: &[NamedCampaign], doc: &Doc) -> Result<Reply, AllocError>
-    requires { length campaigns.now ≤ 64 }
-    ensures { IfOk result (λ r. r ≡ tree_reply (map campaign_view campaigns.now) (doc_tree doc.now)) }
+fn doc_reply(alloc: Global, campaigns: &[NumberedCampaign], doc: &Doc) -> Result<Reply, AllocError>
+    requires few { length campaigns.now ≤ 64 }
+    requires numbered { AreNumbered campaigns.now }
+    ensures { IfOk result (λ r. r ≡ tree_reply (listed campaigns.now) (doc_tree doc.now)) }
 {
     match read_request(alloc, doc) {
         Ok(request) => request_reply(alloc, campaigns, &request),
@@ -121,11 +124,12 @@ fn json_refusal(alloc: Global, fault: JsonFault) -> Result<Reply, AllocError>
 // The reply to the bytes.
 fn bytes_reply(
     alloc: Global,
-    campaigns: &[NamedCampaign],
+    campaigns: &[NumberedCampaign],
     bytes: &[u8],
 ) -> Result<Reply, AllocError>
-    requires { length campaigns.now ≤ 64 }
-    ensures { IfOk result (IsReply (map campaign_view campaigns.now) bytes.now) }
+    requires few { length campaigns.now ≤ 64 }
+    requires numbered { AreNumbered campaigns.now }
+    ensures { IfOk result (IsReply (listed campaigns.now) bytes.now) }
 {
     if bytes.len() > MAX_INPUT {
         return refusal(alloc, b"body-too-large");

@@ -1,8 +1,10 @@
-ghost use Rattle.std.specs.Prelude.{◌≡◌, ◌==◌, ◌<◌, ◌≤◌, position, length, IfSome, Option, None, Some, cond, option_map, is_some, IfOk, IsSome, map};
+ghost use Rattle.std.specs.Prelude.{◌≡◌, ◌==◌, ◌<◌, ◌≤◌, position, length, IfSome, Option, None, Some, cond, option_map, is_some, IfOk, IsSome, IsTrue};
 ghost use Rattle.std.specs.List.{after_first, before_first, list_all, list_any};
 ghost use Rattle.exchange_run.specs.Words.{amount_of, campaign_of, campaign_words, campaigns_of, command_of, domain_of, bid_of, is_at};
+ghost use Rattle.exchange_run.specs.Numbered.{AreNumbered, is_short, listed};
 ghost use Rattle.exchange_run.specs.View.{campaign_view};
 
+use crate::numbered::NumberedCampaign;
 use json_fields::exact_amount;
 use rtb_num::{Micros, Txt, is_number};
 use std::alloc::{AllocError, Global};
@@ -138,7 +140,9 @@ pub(crate) fn command_in(words: &[Txt]) -> Option<&[Txt]>
 
 fn known_campaign(word: &Txt) -> NamedCampaign<'_>
     requires { IsSome (campaign_of word.now) }
-    ensures { Some (campaign_view result) ≡ campaign_of word.now }
+    ensures value { Some (campaign_view result) ≡ campaign_of word.now }
+    ensures some_bid { 1 ≤ result.bid }
+    ensures short { IsTrue (is_short (campaign_view result).domain) }
 {
     match campaign(word.as_bytes()) {
         Some(campaign) => campaign,
@@ -146,19 +150,21 @@ fn known_campaign(word: &Txt) -> NamedCampaign<'_>
     }
 }
 
-/// The campaigns that the words name, in their order.
-pub(crate) fn campaigns_in<'a>(
+/// The campaigns that the words name, in their order, numbered from 1.
+pub(crate) fn campaigns_in(
     alloc: Global,
-    words: &'a [Txt],
-) -> Result<Vec<NamedCampaign<'a>>, AllocError>
-    requires { IsSome (campaigns_of words.now) }
-    ensures { IfOk result (λ cs. Some (map campaign_view cs.items) ≡ campaigns_of words.now) }
+    words: &[Txt],
+) -> Result<Vec<NumberedCampaign>, AllocError>
+    requires campaigns { IsSome (campaigns_of words.now) }
+    requires few { length words.now ≤ 64 }
+    ensures named { IfOk result (λ cs. Some (listed cs.items) ≡ campaigns_of words.now) }
+    ensures numbered { IfOk result (λ cs. AreNumbered cs.items) }
 {
     let mut campaigns = Vec::with_capacity(alloc, words.len())?;
+    let mut number = 0;
     for word in words {
-        if campaigns.push(known_campaign(word)).is_err() {
-            return Err(AllocError);
-        }
+        number += 1;
+        campaigns.push(NumberedCampaign::make(alloc, number, &known_campaign(word))?)?;
     }
     Ok(campaigns)
 }

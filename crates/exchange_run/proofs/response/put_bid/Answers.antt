@@ -10,11 +10,9 @@ returns c =
     let o = c.args.out.now in
     let sale = c.args.sale.now in
     let price = micros_text sale.price in
+    let tail = bid_tail (decimal sale.campaign.now.0) in
     let number : c.as_bytes.result.now ≡ decimal c.args.number = c.as_bytes.ensures.value ∙ c.format.ensures.text in
-    let campaign : c.as_bytes-3.result.now ≡ decimal sale.campaign = c.as_bytes-3.ensures.value ∙ c.format-2.ensures.text in
     let head : c.put_bid_head.new.out ≡ o ++ bid_head (decimal c.args.number) sale.imp.now =
     c.in_ok-put_bid_head.ensures ∙ ap (λ n. o ++ bid_head n c.as_bytes-2.result.now) number ∙ ap (λ i. o ++ bid_head (decimal c.args.number) i) c.as_bytes-2.ensures.value in
-    let tail : c.put_bid_tail.new.out ≡ c.write_micros.new.out ++ bid_tail (decimal sale.campaign) =
-    c.in_ok-put_bid_tail.ensures ∙ ap (λ n. c.write_micros.new.out ++ bid_tail n) campaign in
-    tail ∙ ap (λ l. l ++ bid_tail (decimal sale.campaign)) (c.in_ok-write_micros.ensures.ok ∙ ap (λ l. l ++ price) head)
-    ∙ in_three o (bid_head (decimal c.args.number) sale.imp.now) price (bid_tail (decimal sale.campaign))
+    c.in_ok-put_bid_tail.ensures ∙ ap (λ l. l ++ tail) (c.in_ok-write_micros.ensures.ok ∙ ap (λ l. l ++ price) head)
+    ∙ in_three o (bid_head (decimal c.args.number) sale.imp.now) price tail

@@ -8,6 +8,6 @@ use Rattle.exchange_run.proofs.response.put_seat_bids.Given as goal
 abbrev pub invariant-loop-index : goal.invariant-loop-index
 invariant-loop-index l =
     record {
-      out : l.out ≡ l.fn.out ++ join_with_byte 44 (seat_bids (map sale_view (take l.index l.sold)) l.campaign);
-      first : l.is_first ≡ (length (seat_bids (map sale_view (take l.index l.sold)) l.campaign) == 0);
+      out : l.out ≡ l.fn.out ++ join_with_byte 44 (seat_bids (map sale_view (take l.index l.sold)) l.seat.0);
+      first : l.is_first ≡ (length (seat_bids (map sale_view (take l.index l.sold)) l.seat.0) == 0);
     }

@@ -1,8 +1,13 @@
-use Rattle.std.proofs.Common.{◌≡◌, Some, map, take}
+use Rattle.std.proofs.Common.{◌≡◌, Some, take}
 use Rattle.exchange_run.specs.Words.{campaigns_of}
-use Rattle.exchange_run.specs.View.{campaign_view}
+use Rattle.exchange_run.specs.Numbered.{AreNumbered, listed}
 use Rattle.exchange_run.proofs.words.campaigns_in.Given as goal
 
 -- the campaigns of the words so far
 abbrev pub invariant-loop-word : goal.invariant-loop-word
-invariant-loop-word l = campaigns_of (take l.word-index l.words) ≡ Some (map campaign_view l.campaigns.items)
+invariant-loop-word l =
+    record {
+      counted : l.number ≡ l.word-index;
+      named : campaigns_of (take l.word-index l.words) ≡ Some (listed l.campaigns.items);
+      numbered : AreNumbered l.campaigns.items;
+    }
