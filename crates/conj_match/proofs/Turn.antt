@@ -1,12 +1,12 @@
 -- One cursor in a turn of the merge.
-use Rattle.std.proofs.Common.{◌≡◌, ◌≢◌, ℕ, ◌+◌, ◌-◌, ◌<◌, ◌≤◌, ◌||◌, inl, inr, List, Bool, true, false, cond, Option, count_by, get_or, length, set, take, sym, ◌∙◌, ap, subst, arith}
+use Rattle.std.proofs.Common.{◌≡◌, ◌≢◌, ℕ, ◌+◌, ◌-◌, ◌^◌, ◌<◌, ◌≤◌, ◌||◌, inl, inr, List, Bool, true, false, cond, min, Option, Some, None, count_by, get_or, length, set, take, sym, ◌∙◌, ap, subst, arith}
 use Rattle.std.specs.List.{list_any}
-use Rattle.std.proofs.lemmas.Bool.{cases_Bool, cases_lt}
+use Rattle.std.proofs.lemmas.Bool.{cases_Bool, cases_lt, le-ltb, lt-ltb}
 use Rattle.std.proofs.lemmas.List.{get_or-set_other, get_or-set_same, get_or_default, length-set, take-set}
 use Rattle.std.proofs.lemmas.List.Folds.{list_any_more}
 use Rattle.std.proofs.lemmas.List.Sums.{count_by_more_no, count_by_more_yes, sum_by-set}
 use Rattle.conj_match.specs.Merge.{IsLeast, Passed, left_in, lesser, shown_id, shows_negated, shows_plain}
-use Rattle.conj_match.specs.Place.{Place}
+use Rattle.conj_match.specs.Place.{Place, head_of, number_of}
 use Rattle.conj_match.proofs.Merge.{least_more}
 
 -- the cursors from `i` on are as they were
@@ -72,3 +72,30 @@ cost_after id now i c new before after within is p step =
     subst (λ (x : Place). left_in (set now i new) + (length x.entries - x.place) ≡ left_in now + (length new.entries - new.place)) (sym is) moved
     in
     omega arith
+
+-- of two heads the lesser stands for the lesser number
+below_past : (a : ℕ) → a < 2 ^ 32 → number_of a ≡ Some a
+below_past a h = ap (λ b. cond b (Some a) None) (lt-ltb a (2 ^ 32) h)
+
+at_past : (a : ℕ) → 2 ^ 32 ≤ a → number_of a ≡ None
+at_past a h = ap (λ b. cond b (Some a) None) (le-ltb a (2 ^ 32) h)
+
+lesser_min : (a b : ℕ) → lesser (number_of a) (number_of b) ≡ number_of (min a b)
+lesser_min a b =
+    elim (cases_lt a (2 ^ 32)) [
+      | inl low ↦ elim (cases_lt b (2 ^ 32)) [
+        | inl also ↦ ap (λ x. lesser x (number_of b)) (below_past a low) ∙ ap (lesser (Some a)) (below_past b also) ∙ sym (below_past (min a b) (omega arith))
+        | inr past ↦
+            let same : a ≡ min a b = omega arith in
+            ap (λ x. lesser x (number_of b)) (below_past a low) ∙ ap (lesser (Some a)) (at_past b past) ∙ sym (below_past a low) ∙ ap number_of same
+      ]
+      | inr high ↦ elim (cases_lt b (2 ^ 32)) [
+        | inl low ↦
+            let same : b ≡ min a b = omega arith in
+            ap (λ x. lesser x (number_of b)) (at_past a high) ∙ ap number_of same
+        | inr past ↦ ap (λ x. lesser x (number_of b)) (at_past a high) ∙ at_past b past ∙ sym (at_past (min a b) (omega arith))
+      ]
+    ]
+
+pub least_is : (before after : ℕ) (c : Place) → number_of (head_of c) ≡ shown_id c → after ≡ min before (head_of c) → lesser (number_of before) (shown_id c) ≡ number_of after
+least_is before after c number is = ap (lesser (number_of before)) (sym number) ∙ lesser_min before (head_of c) ∙ ap number_of (sym is)

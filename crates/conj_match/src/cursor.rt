@@ -1,5 +1,5 @@
-ghost use Rattle.std.specs.Prelude.{◌≡◌, ◌≤◌, ◌<◌, ◌+◌, ◌-◌, ◌*◌, ℕ, length, false, true, None, slice_get, if◌then◌else◌};
-ghost use Rattle.conj_match.specs.Place.{IsFirstFrom, shown};
+ghost use Rattle.std.specs.Prelude.{◌≡◌, ◌≤◌, ◌<◌, ◌+◌, ◌-◌, ◌*◌, length, false, true, None};
+ghost use Rattle.conj_match.specs.Place.{HasHead, IsFirstFrom, head_of, number_of, shown};
 ghost use Rattle.conj_match.specs.Merge.{Passed, shown_id, shows_negated, shows_plain};
 ghost use Rattle.conj_match.specs.Turn.{reaches};
 ghost use Rattle.postings.specs.Order.{IsRising};
@@ -8,6 +8,9 @@ use postings::{Entry, Postings};
 use rtb_base::Steps;
 use std::marker::Model;
 use std::sync::ledger::Ledger;
+
+/// More than any number of a conjunction.
+pub(crate) const PAST: u64 = 1 << 32;
 
 /// A place in a posting list. Contracts see the list, the place, counted from 0, and whether the
 /// entry there was read.
@@ -19,17 +22,19 @@ pub struct Cursor<'a> {
     place: usize,
     loaded: bool,
     entry: Option<Entry>,
+    // The number of the entry, or more than any number where there is none.
+    head: u64,
 }
 
 impl<'a> Model for Cursor<'a> {
-    ghost use Rattle.conj_match.specs.Place.{Place, shown};
+    ghost use Rattle.conj_match.specs.Place.{Place, HasHead, shown};
     ghost use Rattle.std.specs.Prelude.{◌≡◌, ◌≤◌, length};
 
     ghost Value = { Place };
 
     ghost view = { λ c. record { entries = c.list.now; place = c.place; loaded = c.loaded } };
 
-    ghost invariant = { λ c. (c.place ≤ length c.list.now) × (c.entry ≡ shown (record { entries = c.list.now; place = c.place; loaded = c.loaded })) };
+    ghost invariant = { λ c. (c.place ≤ length c.list.now) × (c.entry ≡ shown (record { entries = c.list.now; place = c.place; loaded = c.loaded })) × HasHead c.entry c.head };
 }
 
 impl<'a> Cursor<'a> {
@@ -42,6 +47,7 @@ impl<'a> Cursor<'a> {
             place: 0,
             loaded: false,
             entry: None,
+            head: PAST,
         }
     }
 
@@ -54,6 +60,7 @@ impl<'a> Cursor<'a> {
         ensures rising { IsRising self.new.entries }
     {
         self.entry = self.list.at(self.place, steps);
+        self.head = head_of(self.entry);
         self.loaded = true;
     }
 
@@ -77,6 +84,7 @@ impl<'a> Cursor<'a> {
         if self.place < self.list.len() {
             self.place += 1;
             self.entry = self.list.at(self.place, steps);
+            self.head = head_of(self.entry);
         }
     }
 
@@ -114,7 +122,16 @@ impl<'a> Cursor<'a> {
         ensures value { result ≡ reaches id self.now }
         ensures within { self.now.place ≤ length self.now.entries }
     {
-        self.entry.is_some_and(|entry| entry.id <= id)
+        self.head <= u64::from(id)
+    }
+
+    /// The number of the entry at the place, or `PAST`.
+    #[inline(always)]
+    pub(crate) fn head(&self) -> u64
+        ensures value { result ≡ head_of self.now }
+        ensures number { number_of result ≡ shown_id self.now }
+    {
+        self.head
     }
 
     /// The number of the entry at the place.
@@ -138,6 +155,17 @@ impl<'a> Cursor<'a> {
     {
         self.entry
             .is_some_and(|entry| entry.id == id && !entry.negated)
+    }
+}
+
+// The number of the entry, or `PAST`.
+#[inline(always)]
+fn head_of(entry: Option<Entry>) -> u64
+    ensures { HasHead entry result }
+{
+    match entry {
+        Some(entry) => u64::from(entry.id),
+        None => PAST,
     }
 }
 

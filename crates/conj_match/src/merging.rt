@@ -1,9 +1,11 @@
-ghost use Rattle.std.specs.Prelude.{◌≡◌, ◌≤◌, ◌<◌, ◌+◌, ◌-◌, ℕ, All, IfOk, MatchOption, cond, count_by, length, map, sum_by, nat_le, not, true, ◌&&◌, ◌||◌};
+ghost use Rattle.std.specs.Prelude.{◌≡◌, ◌≤◌, ◌<◌, ◌+◌, ◌-◌, ℕ, All, IfOk, cond, count_by, length, map, min, sum_by, nat_le, not, true, ◌&&◌, ◌||◌};
 ghost use Rattle.std.specs.List.{list_any};
 ghost use Rattle.conj_match.specs.Matching.{IsAnswer, lists_at};
+ghost use Rattle.conj_match.specs.Place.{head_of, number_of};
 ghost use Rattle.conj_match.specs.Merge.{ArePassed, Passed, Stands, IsLeast, entries_of, left_in, lesser, shown_id, shows_negated, shows_plain};
 
 use crate::Cursor;
+use crate::cursor::PAST;
 use postings::Postings;
 use rtb_base::Steps;
 use std::alloc::{AllocError, Global};
@@ -29,10 +31,11 @@ pub(crate) fn merge_lists<L: Ledger>(
     let mut next = least(cursors.as_slice());
     while let Some(id) = next {
         let turn = pass_all(&mut cursors, id, steps);
+        let least = number_of(turn.least);
         if turn.is_match(k) {
             ids.push(id)?;
         }
-        next = turn.least;
+        next = least;
     }
     Ok(ids)
 }
@@ -82,12 +85,20 @@ fn lesser(a: Option<u32>, b: Option<u32>) -> Option<u32>
     }
 }
 
-// What the cursors showed of a number, and the least number after it.
+// The number that a head stands for.
+#[inline(always)]
+fn number_of(head: u64) -> Option<u32>
+    ensures { result ≡ number_of head }
+{
+    if head < PAST { Some(head as u32) } else { None }
+}
+
+// What the cursors showed of a number, and the least head after it.
 #[derive(Drop)]
 struct Turn {
     is_excluded: bool,
     plain: usize,
-    least: Option<u32>,
+    least: u64,
 }
 
 impl Turn {
@@ -105,7 +116,8 @@ impl Turn {
         requires room { self.old.plain < usize.MAX }
         ensures excluded { self.new.is_excluded ≡ (self.old.is_excluded || shows_negated id cursor.old) }
         ensures plain { self.new.plain ≡ self.old.plain + cond (shows_plain id cursor.old) 1 0 }
-        ensures least { self.new.least ≡ lesser self.old.least (shown_id cursor.new) }
+        ensures least { self.new.least ≡ min self.old.least (head_of cursor.new) }
+        ensures number { number_of (head_of cursor.new) ≡ shown_id cursor.new }
         ensures passed { Passed id cursor.old cursor.new }
         ensures cost { steps.new ≤ steps.old + (cursor.new.place - cursor.old.place) }
     {
@@ -113,7 +125,7 @@ impl Turn {
             self.count(cursor, id);
             cursor.pass(id, steps);
         }
-        self.least = lesser(self.least, cursor.current_id());
+        self.least = self.least.min(cursor.head());
     }
 
     // Counts what the cursor shows of the number.
@@ -132,14 +144,14 @@ fn pass_all<L: Ledger>(cursors: &mut Vec<Cursor>, id: u32, steps: &mut Steps<L>)
     requires { (b : ℕ) × All (Stands b) cursors.old.items }
     ensures excluded { result.is_excluded ≡ list_any (shows_negated id) cursors.old.items }
     ensures plain { result.plain ≡ count_by (shows_plain id) cursors.old.items }
-    ensures least { IsLeast cursors.new.items result.least }
+    ensures least { IsLeast cursors.new.items (number_of result.least) }
     ensures passed { ArePassed id cursors.old.items cursors.new.items }
     ensures cost { steps.new + left_in cursors.new.items ≤ steps.old + left_in cursors.old.items }
 {
     let mut turn = Turn {
         is_excluded: false,
         plain: 0,
-        least: None,
+        least: PAST,
     };
     for at in 0..cursors.len() {
         turn.visit(&mut cursors[at], id, steps);

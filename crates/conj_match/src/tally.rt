@@ -1,4 +1,4 @@
-ghost use Rattle.std.specs.Prelude.{◌≡◌, ◌≤◌, ◌<◌, ◌+◌, ◌^◌, ◌++◌, ◌∷◌, [], ℕ, All, IfOk, List, cond, length, nat_le, not, slice_index, ◌&&◌, ◌==◌};
+ghost use Rattle.std.specs.Prelude.{◌≡◌, ◌≤◌, ◌<◌, ◌+◌, ◌^◌, ◌++◌, ◌∷◌, [], All, IfOk, List, length, ◌&&◌};
 ghost use Rattle.std.specs.List.{sum_by};
 ghost use Rattle.postings.specs.Order.{IsRising, entry_at};
 ghost use Rattle.postings.specs.declared.entry.Entry.{Entry};

@@ -49,7 +49,7 @@ loop-next-preserved-in_ok-push g c =
     let shown = shown_by cs k m turn.is_excluded turn.plain c.is_match.result c.is_match.ensures c.pass_all-turn.ensures.excluded c.pass_all-turn.ensures.plain in
     record {
       decided = (m + 1, subst (λ l. Decided lists k new l (m + 1)) (sym c.in_ok-push.ensures.items) (turn_yes lists k cs new ids b m d c.requires.some least (sym shown ∙ c.if-is_match.true) c.pass_all-turn.ensures.passed));
-      least = c.pass_all-turn.ensures.least;
+      least = subst (IsLeast new) (sym c.number_of-least.ensures) c.pass_all-turn.ensures.least;
       cost = omega (arith, c.pass_all-turn.ensures.cost, c.loop-next.invariant.cost);
     }
 
@@ -67,7 +67,7 @@ loop-next-preserved g c =
     let shown = shown_by cs k m turn.is_excluded turn.plain c.is_match.result c.is_match.ensures c.pass_all-turn.ensures.excluded c.pass_all-turn.ensures.plain in
     record {
       decided = (m + 1, turn_no lists k cs new ids b m d c.requires.some least (sym shown ∙ c.if-is_match.false) c.pass_all-turn.ensures.passed);
-      least = c.pass_all-turn.ensures.least;
+      least = subst (IsLeast new) (sym c.number_of-least.ensures) c.pass_all-turn.ensures.least;
       cost = omega (arith, c.pass_all-turn.ensures.cost, c.loop-next.invariant.cost);
     }
 

@@ -1,7 +1,8 @@
-use Rattle.std.proofs.Common.{◌≡◌, ◌≢◌, ◌<◌, ◌+◌, get_or, length, set, take, sym, ◌∙◌, subst, arith}
+use Rattle.std.proofs.Common.{◌≡◌, ◌≢◌, ◌<◌, ◌+◌, get_or, length, set, take, ◌∙◌, subst, arith}
 use Rattle.std.proofs.lemmas.List.{get_or-set_other, length-set}
 use Rattle.conj_match.specs.Merge.{IsLeast, shows_plain}
-use Rattle.conj_match.proofs.Turn.{any_after, at_most_one, cost_after, count_after, least_after, passed_after}
+use Rattle.conj_match.specs.Place.{number_of}
+use Rattle.conj_match.proofs.Turn.{any_after, at_most_one, cost_after, count_after, least_after, least_is, passed_after}
 use Rattle.conj_match.proofs.merging.pass_all.Goals as goal
 
 pub loop-at-preserved : goal.loop-at-preserved
@@ -24,6 +25,6 @@ loop-at-preserved g c =
       few = omega (arith, seen.plain, at_most_one (shows_plain id x), before.few);
       excluded = any_after id old now i x c.loop-at.turn.is_excluded c.visit.new.self.is_excluded there is before.ahead before.excluded seen.excluded;
       plain = count_after id old now i x c.loop-at.turn.plain c.visit.new.self.plain there is before.ahead before.plain seen.plain;
-      least = subst (IsLeast (take (i + 1) (set now i new))) (sym seen.least) (least_after now i new c.loop-at.turn.least within before.least);
+      least = subst (IsLeast (take (i + 1) (set now i new))) (least_is c.loop-at.turn.least c.visit.new.self.least new seen.number seen.least) (least_after now i new (number_of c.loop-at.turn.least) within before.least);
       cost = omega (arith, cost_after id now i x new c.loop-at.steps c.visit.new.steps within is seen.passed seen.cost, before.cost);
     }

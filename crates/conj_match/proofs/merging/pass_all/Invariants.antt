@@ -1,7 +1,7 @@
 use Rattle.std.proofs.Common.{◌≡◌, ◌≤◌, ◌<◌, ◌+◌, ℕ, count_by, get_or, length, take}
 use Rattle.std.specs.List.{list_any}
 use Rattle.conj_match.specs.Merge.{IsLeast, Passed, left_in, shows_negated, shows_plain}
-use Rattle.conj_match.specs.Place.{Place}
+use Rattle.conj_match.specs.Place.{Place, number_of}
 use Rattle.conj_match.proofs.merging.pass_all.Given as goal
 
 abbrev pub invariant-loop-at : goal.invariant-loop-at
@@ -12,6 +12,6 @@ invariant-loop-at g l = record {
   few : l.turn.plain ≤ l.at;
   excluded : l.turn.is_excluded ≡ list_any (shows_negated l.id) (take l.at l.fn.cursors.items);
   plain : l.turn.plain ≡ count_by (shows_plain l.id) (take l.at l.fn.cursors.items);
-  least : IsLeast (take l.at l.cursors.items) l.turn.least;
+  least : IsLeast (take l.at l.cursors.items) (number_of l.turn.least);
   cost : l.steps + left_in l.cursors.items ≤ l.fn.steps + left_in l.fn.cursors.items;
 }
