@@ -10,6 +10,6 @@ one_piece o ps k d lt =
     let p = get_or ps k d in
     let before = map (λ (q : Bor (List ℕ)). q.now) (take k ps) in
     let front : map (λ (q : Bor (List ℕ)). q.now) (take (k + 1) ps) ≡ before ++ p.now ∷ [] =
-        ap (map (λ (q : Bor (List ℕ)). q.now)) (take_more ps k d lt) ∙ map_push (λ (q : Bor (List ℕ)). q.now) (take k ps) p in
+    ap (map (λ (q : Bor (List ℕ)). q.now)) (take_more ps k d lt) ∙ map_push (λ (q : Bor (List ℕ)). q.now) (take k ps) p in
     append_assoc o (concat before) p.now
     ∙ ap (λ l. o ++ l) (ap (λ l. concat before ++ l) (sym (append-nil p.now)) ∙ sym (concat-append before (p.now ∷ [])) ∙ ap concat (sym front))

@@ -93,8 +93,6 @@ impl From<Micros> for Nanos {
     /// What one impression costs at the price: a thousandth of so many micro-dollars, which is as many
     /// nano-dollars.
     fn from(price: Micros) -> Nanos {
-        Nanos {
-            nanos: price.get(),
-        }
+        Nanos { nanos: price.get() }
     }
 }
