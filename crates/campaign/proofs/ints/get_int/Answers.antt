@@ -1,4 +1,4 @@
-use Rattle.campaign.proofs.decode.get_int.Goals as goal
+use Rattle.campaign.proofs.ints.get_int.Goals as goal
 use Rattle.campaign.proofs.Decoding.{int_too_large}
 
 pub returns-then-n : goal.returns-then-n
