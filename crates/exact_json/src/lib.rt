@@ -12,8 +12,6 @@ mod place;
 mod reader;
 mod stop;
 mod string;
-#[cfg(test)]
-mod tests;
 mod value;
 mod whole;
 
