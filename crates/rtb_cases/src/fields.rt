@@ -24,9 +24,7 @@ pub fn answer(alloc: Global, call: &[u8], args: &[Txt], out: &mut Txt) -> Result
     match (call, args) {
         (b"field", [kind, name, text]) => {
             match read(alloc, text.as_bytes()) {
-                Ok(doc) => {
-                    put_field(alloc, kind.as_bytes(), doc.root(), name.as_bytes(), out)?
-                }
+                Ok(doc) => { put_field(alloc, kind.as_bytes(), doc.root(), name.as_bytes(), out)? }
                 Err(_) => out.extend(b"unreadable")?,
             }
             Ok(true)
@@ -49,7 +47,11 @@ fn put_field(
         b"flag" => put_flag(fields::flag(object, name), out),
         b"floor" => put_price(alloc, fields::floor_price(object, name), out),
         b"price" => put_price(alloc, fields::exact_price(object, name), out),
-        b"integers" => put_integers(alloc, fields::whole_numbers(alloc, object, name, &DIGIT), out),
+        b"integers" => put_integers(
+            alloc,
+            fields::whole_numbers(alloc, object, name, &DIGIT),
+            out,
+        ),
         b"texts" => put_texts(alloc, fields::texts(alloc, object, name), out),
         _ => put_plain(kind, object, name, out),
     }

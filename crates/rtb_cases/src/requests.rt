@@ -50,12 +50,7 @@ fn frame(place: &[u8]) -> Option<(&'static [u8], &'static [u8])> {
     }
 }
 
-fn judge_in(
-    alloc: Global,
-    place: &[u8],
-    members: &[u8],
-    out: &mut Txt,
-) -> Result<(), AllocError> {
+fn judge_in(alloc: Global, place: &[u8], members: &[u8], out: &mut Txt) -> Result<(), AllocError> {
     let Some((before, behind)) = frame(place) else {
         return out.extend(b"unreadable");
     };
