@@ -7,8 +7,13 @@
 #![tactic(auto)]
 
 mod cases;
+mod fields;
+mod json;
 mod notation;
 mod numbers;
+mod requests;
+mod sales;
+mod trees;
 
 use cases::report_on;
 use rtb_io::{read_all, write_all};
