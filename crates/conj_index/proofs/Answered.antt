@@ -81,7 +81,7 @@ match_holds k cs part a id c is e size apart single =
     ap (is_match (found_lists a k part) (max k 1)) (sym s.long)
     ∙ match_is_true k s.front c s.back a (found_lists a k part) (subst (λ (l : List Listed). Serves k l a (found_lists a k part)) s.same (serves k cs part a is)) size apart single
 
-taken_at : {X : Type 0} (xs : List X) (n k : ℕ) (x : X) → slice_get (take n xs) k ≡ Some x → slice_get xs k ≡ Some x
+pub taken_at : {X : Type 0} (xs : List X) (n k : ℕ) (x : X) → slice_get (take n xs) k ≡ Some x → slice_get xs k ≡ Some x
 taken_at xs zero k x e = absurd (none_some x e)
 taken_at [] (suc n) k x e = absurd (none_some x e)
 taken_at (y ∷ xs) (suc n) zero x e = e

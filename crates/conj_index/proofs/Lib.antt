@@ -20,3 +20,4 @@ pub mod Asked
 pub mod Climbing
 pub mod Standing
 pub mod Singles
+pub mod Costs

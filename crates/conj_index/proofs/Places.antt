@@ -13,7 +13,6 @@ use Rattle.conj_index.specs.declared.key.Key.{Key}
 use Rattle.conj_index.specs.declared.part.Part.{Part}
 use Rattle.conj_index.specs.Content.{same_key}
 use Rattle.conj_index.specs.Find.{key_lists, key_of, key_place, places_of, zero_place}
-use Rattle.conj_index.specs.Searching.{are_single_keys}
 use Rattle.conj_index.proofs.Members.{Has, found_has, has_any, has_either}
 use Rattle.conj_index.proofs.Served.{key_same}
 
@@ -26,17 +25,6 @@ at_has (x ∷ xs) (suc k) d h = inr (at_has xs k d (omega arith))
 
 all_from_has : {X : Type 0} (P : X → Type 0) (xs : List X) → ((z : X) → Has z xs → P z) → All P xs
 all_from_has P xs h = λ k d within. h (get_or xs k d) (at_has xs k d within)
-
-Apart : List ℕ → Type 0
-Apart [] = Unit {0}
-Apart (x ∷ xs) = ((z : ℕ) → Has z xs → x ≡ z → ⊥) × Apart xs
-
-differ_at : (xs : List ℕ) → Apart xs → (i j : ℕ) → i < j → j < length xs → get_or xs i 0 ≡ get_or xs j 0 → ⊥
-unfolding Apart
-differ_at [] apart i j lt h e = absurd (omega arith)
-differ_at (x ∷ xs) apart i zero lt h e = absurd (omega arith)
-differ_at (x ∷ xs) apart zero (suc j) lt h e = apart.0 (get_or xs j 0) (at_has xs j 0 (omega arith)) e
-differ_at (x ∷ xs) apart (suc i) (suc j) lt h e = differ_at xs apart.1 i j (omega arith) (omega arith) e
 
 -- ---- one place
 
@@ -88,63 +76,3 @@ places_within looked k part = all_from_has (λ n. n < length part.lists) (places
           omega (arith, (is_place k part key z is).within, some_list k part)
       | inr r ↦ (zero_is k part z r).0
     ])
-
--- ---- all places
-
-one_default : {X : Type 0} (xs : List X) (i : ℕ) (d f : X) → i < length xs → get_or xs i d ≡ get_or xs i f
-one_default [] i d f h = absurd (omega arith)
-one_default (x ∷ xs) zero d f h = refl
-one_default (x ∷ xs) (suc i) d f h = one_default xs i d f (omega arith)
-
-one_place : {X : Type 0} (xs : List X) (i j : ℕ) (d f : X) → i < length xs → i ≡ j → get_or xs i d ≡ get_or xs j f
-one_place xs i j d f h e = one_default xs i d f h ∙ ap (λ n. get_or xs n f) e
-
-nothing_alike : (key : Key) (rest : List Key) → list_any (λ (other : Key). same_attr other.attr key.attr) rest ≡ false → (other : Key) → Has other rest → other ≡ key → ⊥
-nothing_alike key rest none other has e =
-    false≢true (sym none ∙ has_any (λ (o : Key). same_attr o.attr key.attr) rest other has (ap (λ (o : Key). number_of o.attr == number_of key.attr) e ∙ itself (number_of key.attr)))
-  where
-    itself : (n : ℕ) → (n == n) ≡ true
-    itself n = grind (arith, nat_tests)
-
-apart_places : (looked : List Key) (k : ℕ) (part : Part) → are_single_keys looked ≡ true → Apart (filter_map (key_place k part) looked ++ cons_option (zero_place k part) [])
-unfolding Apart
-apart_places [] k part single = by (zero_place k part)
-  where
-    by : (o : Option ℕ) → Apart (cons_option o [])
-    by None = tt
-    by (Some n) = (λ z h e. absurd h, tt)
-apart_places (key ∷ rest) k part single =
-    let parts = and_parts (not (list_any (λ (other : Key). same_attr other.attr key.attr) rest)) (are_single_keys rest) single in
-    by (key_place k part key) refl (none (list_any (λ (other : Key). same_attr other.attr key.attr) rest) parts.0) (apart_places rest k part parts.1)
-  where
-    none : (b : Bool) → not b ≡ true → b ≡ false
-    none true h = absurd (false≢true h)
-    none false h = refl
-
-    by : (o : Option ℕ) → key_place k part key ≡ o → list_any (λ (other : Key). same_attr other.attr key.attr) rest ≡ false → Apart (filter_map (key_place k part) rest ++ cons_option (zero_place k part) [])
-        → Apart (cons_option o (filter_map (key_place k part) rest) ++ cons_option (zero_place k part) [])
-    by None p alone later = later
-    by (Some n) p alone later = (
-      λ z h e.
-          let at = is_place k part key n p in
-          elim (has_either (filter_map (key_place k part) rest) (cons_option (zero_place k part) []) z h) [
-            | inl l ↦
-                let (other, has, is) = found_has (key_place k part) rest z l in
-                let there = is_place k part other z is in
-                nothing_alike key rest alone other has (there.same ∙ one_place (keys part.keys) z n other key there.there (sym e) ∙ sym at.same)
-            | inr r ↦ absurd (omega (arith, (zero_is k part z r).1, at.within, e))
-          ],
-      later,
-    )
-
-pub places_differ : (looked : List Key) (k : ℕ) (part : Part) → are_single_keys looked ≡ true → (i j : ℕ) → i < j → j < length (places_of looked k part)
-    → slice_index (places_of looked k part) i ≡ slice_index (places_of looked k part) j → ⊥
-places_differ looked k part single = differ_at (places_of looked k part) (apart_places looked k part single)
-
-pub single_keys : (a : List (Attr × List ℕ)) → are_single_keys (map key_of a) ≡ are_single a
-single_keys [] = refl
-single_keys (q ∷ a) = ap (λ b. not b && are_single_keys (map key_of a)) (any_key q.0 a) ∙ ap (λ b. not (list_any (λ (r : Attr × List ℕ). same_attr r.0 q.0) a) && b) (single_keys a)
-  where
-    any_key : (t : Attr) (a : List (Attr × List ℕ)) → list_any (λ (other : Key). same_attr other.attr t) (map key_of a) ≡ list_any (λ (r : Attr × List ℕ). same_attr r.0 t) a
-    any_key t [] = refl
-    any_key t (r ∷ a) = ap (λ b. same_attr r.0 t || b) (any_key t a)

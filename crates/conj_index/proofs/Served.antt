@@ -22,6 +22,7 @@ use Rattle.target_expr.proofs.Encoding.{numbered_again}
 use Rattle.conj_index.specs.declared.key.Key.{Key}
 use Rattle.conj_index.specs.declared.part.Part.{Part}
 use Rattle.conj_index.specs.Content.{IsPartOf, Listed, entries_of, entry_under, is_named, names, of_size, same_key, zero_entries, zero_lists}
+use Rattle.conj_index.specs.Cost.{list_under, lists_under}
 use Rattle.conj_index.specs.Find.{found_lists, key_lists, key_of, key_place, zero_place}
 use Rattle.conj_index.proofs.Entries.{has, numbered as numbered_entries}
 use Rattle.conj_index.proofs.Found.{Serves}
@@ -147,29 +148,58 @@ position_none p xs e =
     none_some : (n : ℕ) → Some n ≡ None → ⊥
     none_some n e = cc
 
--- what is found under a key is what stands under it
-found_under : (k : ℕ) (cs : List Listed) (part : Part) → IsPartOf k cs part → (kind : Bool → Bool) (id : ℕ) (key : Key)
-    → option_map_or (has kind id) (option_map (λ n. get_or part.lists n []) (key_place k part key)) false ≡ has kind id (entries_of k cs key)
-found_under k cs part is kind id key = by (position (same_key key) (keys part.keys)) refl
+-- what is found under a key is the list of its entries, where a conjunction names it
+list_is : (k : ℕ) (cs : List Listed) (part : Part) → IsPartOf k cs part → (q : Attr × List ℕ) → list_found k part q ≡ list_under k cs q
+list_is k cs part is q = by (position (same_key (key_of q)) (keys part.keys)) refl
   where
-    by : (o : Option ℕ) → position (same_key key) (keys part.keys) ≡ o
-        → option_map_or (has kind id) (option_map (λ n. get_or part.lists n []) (option_and_then (λ n. cond (nat_lt n (key_lists k part)) (Some n) None) o)) false ≡ has kind id (entries_of k cs key)
-    by None e = sym (ap (has kind id) (no_entries k cs key (sym (is.named key) ∙ position_none (same_key key) (keys part.keys) e)))
+    at_none : (b : Bool) → b ≡ false → None ≡ cond b (Some (entries_of k cs (key_of q))) None
+    at_none true e = absurd (false≢true (sym e))
+    at_none false e = refl
+
+    at_some : (b : Bool) → b ≡ true → Some (entries_of k cs (key_of q)) ≡ cond b (Some (entries_of k cs (key_of q))) None
+    at_some true e = refl
+    at_some false e = absurd (false≢true e)
+
+    by : (o : Option ℕ) → position (same_key (key_of q)) (keys part.keys) ≡ o
+        → option_map (λ n. get_or part.lists n []) (option_and_then (λ n. cond (nat_lt n (key_lists k part)) (Some n) None) o) ≡ list_under k cs q
+    by None e = at_none (is_named k cs (key_of q)) (sym (is.named (key_of q)) ∙ position_none (same_key (key_of q)) (keys part.keys) e)
     by (Some n) e =
-        let at = position-Some (same_key key) (keys part.keys) n key e in
+        let at = position-Some (same_key (key_of q)) (keys part.keys) n (key_of q) e in
         let within : nat_lt n (key_lists k part) ≡ true = below n (key_lists k part) (omega (arith, at.0, key_lists_are k cs part is)) in
-        ap (λ b. option_map_or (has kind id) (option_map (λ m. get_or part.lists m []) (cond b (Some n) None)) false) within
-        ∙ ap (has kind id) (list_at k cs part is n key at.0 ∙ ap (entries_of k cs) (sym (key_same key (get_or (keys part.keys) n key) at.1)))
+        let there : list_any (same_key (key_of q)) (keys part.keys) ≡ true = any_at (same_key (key_of q)) (keys part.keys) n (key_of q) at.0 at.1 in
+        ap (λ b. option_map (λ m. get_or part.lists m []) (cond b (Some n) None)) within
+        ∙ ap (λ (l : List Entry). Some l) (list_at k cs part is n (key_of q) at.0 ∙ ap (entries_of k cs) (sym (key_same (key_of q) (get_or (keys part.keys) n (key_of q)) at.1)))
+        ∙ at_some (is_named k cs (key_of q)) (sym (is.named (key_of q)) ∙ there)
       where
         below : (m l : ℕ) → m < l → nat_lt m l ≡ true
         below m l h = grind (arith, nat_tests, h)
 
+        or_any : (a b : Bool) → b ≡ true → (a || b) ≡ true
+        or_any true b e = refl
+        or_any false b e = e
+
+        any_at : {X : Type 0} (p : X → Bool) (xs : List X) (n : ℕ) (d : X) → n < length xs → p (get_or xs n d) ≡ true → list_any p xs ≡ true
+        any_at p [] n d h t = absurd (omega arith)
+        any_at p (x ∷ xs) zero d h t = ap (λ b. b || list_any p xs) t
+        any_at p (x ∷ xs) (suc n) d h t = or_any (p x) (list_any p xs) (any_at p xs n d (omega arith) t)
+
+pub lists_are : (a : Pairs) (k : ℕ) (cs : List Listed) (part : Part) → IsPartOf k cs part → found_lists a k part ≡ lists_under a cs k
+lists_are a k cs part is =
+    map-append (λ n. get_or part.lists n []) (filter_map (key_place k part) (map key_of a)) (cons_option (zero_place k part) [])
+    ∙ ap (λ l. l ++ map (λ n. get_or part.lists n []) (cons_option (zero_place k part) [])) (mapped_found k part a ∙ each a)
+    ∙ ap (λ l. filter_map (list_under k cs) a ++ l) (zero_found k cs part is)
+  where
+    each : (b : Pairs) → filter_map (list_found k part) b ≡ filter_map (list_under k cs) b
+    each [] = refl
+    each (q ∷ b) = ap (λ o. cons_option o (filter_map (list_found k part) b)) (list_is k cs part is q) ∙ ap (cons_option (list_under k cs q)) (each b)
+
 pub serves : (k : ℕ) (cs : List Listed) (part : Part) (a : Pairs) → IsPartOf k cs part → Serves k cs a (found_lists a k part)
 serves k cs part a is = record {
-  found = list_found k part;
-  are =
-      map-append (λ n. get_or part.lists n []) (filter_map (key_place k part) (map key_of a)) (cons_option (zero_place k part) [])
-      ∙ ap (λ l. l ++ map (λ n. get_or part.lists n []) (cons_option (zero_place k part) [])) (mapped_found k part a)
-      ∙ ap (λ l. filter_map (list_found k part) a ++ l) (zero_found k cs part is);
-  same = λ kind id q. found_under k cs part is kind id (key_of q);
+  found = list_under k cs;
+  are = lists_are a k cs part is;
+  same = λ kind id q. shown kind id q (is_named k cs (key_of q)) refl;
 }
+  where
+    shown : (kind : Bool → Bool) (id : ℕ) (q : Attr × List ℕ) (b : Bool) → is_named k cs (key_of q) ≡ b → option_map_or (has kind id) (cond b (Some (entries_of k cs (key_of q))) None) false ≡ has kind id (entries_of k cs (key_of q))
+    shown kind id q true e = refl
+    shown kind id q false e = sym (ap (has kind id) (no_entries k cs (key_of q) e))

@@ -8,11 +8,6 @@ use Rattle.conj_index.specs.declared.key.Key.{Key}
 use Rattle.conj_index.specs.declared.part.Part.{Part}
 use Rattle.conj_index.specs.Find.{found_lists}
 
--- no attribute stands twice
-abbrev pub are_single_keys : List Key → Bool
-are_single_keys [] = true
-are_single_keys (key ∷ rest) = not (list_any (λ (other : Key). same_attr other.attr key.attr) rest) && are_single_keys rest
-
 -- the conjunction is found in part k, and it is the campaign's
 pub record IsFoundIn (a : List (Attr × List ℕ)) (owners : List ℕ) (k : ℕ) (part : Part) (id number : ℕ) : Type 0 where
   pub matched : is_match (found_lists a k part) (max k 1) id ≡ true

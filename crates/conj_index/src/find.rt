@@ -6,7 +6,7 @@ ghost use Rattle.conj_index.specs.Campaigns.{Campaigns};
 ghost use Rattle.conj_index.specs.Content.{IsIndexOf, same_key};
 ghost use Rattle.indexmap.specs.IndexMap.{keys};
 ghost use Rattle.conj_index.specs.Find.{find_cost, key_lists, key_of, key_place, places_of, true_under, zero_place};
-ghost use Rattle.conj_index.specs.Searching.{AreFound, are_single_keys};
+ghost use Rattle.conj_index.specs.Searching.{AreFound};
 
 use crate::index::Index;
 use crate::key::Key;
@@ -99,7 +99,6 @@ fn find_in<L: Ledger>(
     places: &mut Vec<usize>,
     steps: &mut Steps<L>,
 ) -> Result<Vec<u32>, AllocError>
-    requires { IsTrue (are_single_keys looked.now) }
     ensures answer { IfOk result (λ ids. IsAnswer (lists_at part.now.lists (places_of looked.now size part.now)) (max size 1) ids.items) }
     ensures cost { steps.new ≤ steps.old + cost_of (lists_at part.now.lists (places_of looked.now size part.now)) (max size 1) }
 {

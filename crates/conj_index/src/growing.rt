@@ -6,7 +6,7 @@ ghost use Rattle.conj_index.specs.Growing.{with_entry};
 use crate::key::Key;
 use crate::part::Part;
 use indexmap::IndexMap;
-use postings::{Entry, Postings};
+use postings::{BuildFault, Entry, Postings};
 use rtb_num::List;
 use std::alloc::{AllocError, Global};
 
@@ -62,18 +62,19 @@ fn posting_lists(alloc: Global, lists: Vec<Vec<Entry>>) -> Result<List<Postings>
     let mut made = List::new(alloc);
     made.reserve(lists.len())?;
     for list in lists {
-        made.push(posting_list(list))?;
+        made.push(posting_list(alloc, list)?)?;
     }
     Ok(made)
 }
 
 // The posting list of these entries.
-fn posting_list(entries: Vec<Entry>) -> Postings
+fn posting_list(alloc: Global, entries: Vec<Entry>) -> Result<Postings, AllocError>
     requires { IsRising entries.items }
-    ensures { result ≡ entries.items }
+    ensures { IfOk result (λ list. list ≡ entries.items) }
 {
-    match Postings::build(entries) {
-        Ok(list) => list,
+    match Postings::build(alloc, entries) {
+        Ok(list) => Ok(list),
+        Err(BuildFault::Memory) => Err(AllocError),
         Err(_) => unreachable!(),
     }
 }

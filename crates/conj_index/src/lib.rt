@@ -19,9 +19,9 @@ pub use builder::Builder;
 pub use fault::IndexFault;
 pub use index::Index;
 pub use key::Key;
-pub use laws::{a_conjunction_stands_once_under_each_pair, posting_lists_rise};
+pub use laws::{
+    a_conjunction_stands_once_under_each_pair, a_find_costs_what_its_campaigns_say,
+    posting_lists_rise,
+};
 pub use part::Part;
 pub use scanning::scan;
-
-#[cfg(test)]
-mod tests;

@@ -1,4 +1,4 @@
-ghost use Rattle.std.specs.Prelude.{◌≡◌, ◌≤◌, ◌<◌, ◌+◌, ◌*◌, ◌^◌, ◌/◌, ℕ, All, IfOk, length, nat_le, nat_lt, sum_by, ◌&&◌, slice_index};
+ghost use Rattle.std.specs.Prelude.{◌≡◌, ◌≤◌, ◌<◌, ◌+◌, ◌*◌, ◌^◌, ◌/◌, All, IfOk, length, nat_le, nat_lt, sum_by, ◌&&◌};
 ghost use Rattle.conj_match.specs.Matching.{IsAnswer, cost_of, lists_at};
 ghost use Rattle.conj_match.specs.Tally.{IsBelow};
 
@@ -12,7 +12,8 @@ use std::sync::ledger::Ledger;
 /// The conjunctions that match, in rising order: those that no chosen list has a negated entry of,
 /// and of which at least `k` chosen lists have another entry.
 ///
-/// `chosen` has places in `lists`. One step is one entry read.
+/// `chosen` has places in `lists`, and a list counts as often as it is chosen. One step is one entry
+/// read.
 pub fn match_lists<L: Ledger>(
     alloc: Global,
     lists: &[Postings],
@@ -22,7 +23,6 @@ pub fn match_lists<L: Ledger>(
 ) -> Result<Vec<u32>, AllocError>
     requires some { 1 ≤ k }
     requires within { All (λ n. n < length lists.now) chosen.now }
-    requires distinct { (i j : ℕ) → i < j → j < length chosen.now → slice_index chosen.now i ≡ slice_index chosen.now j → ⊥ }
     ensures answer { IfOk result (λ ids. IsAnswer (lists_at lists.now chosen.now) k ids.items) }
     ensures cost { steps.new ≤ steps.old + cost_of (lists_at lists.now chosen.now) k }
 {
@@ -82,84 +82,5 @@ fn width_of<L: Ledger>(list: &Postings, steps: &mut Steps<L>) -> usize
     match list.at(list.len().saturating_sub(1), steps) {
         Some(last) => last.id as usize + 1,
         None => 0,
-    }
-}
-
-#[cfg(test)]
-mod tests {
-    use super::*;
-    use postings::Entry;
-    use std::marker::Brand;
-    use std::sync::ledger::Blank;
-    use std::test::Fail;
-
-    fn match_three<L: Ledger>(
-        alloc: Global,
-        lists: &[Postings],
-        k: u32,
-        blank: Blank,
-    ) -> Result<Vec<u32>, AllocError>
-        requires three { length lists.now ≡ 3 }
-        requires some { 1 ≤ k }
-        requires name { blank.name ≡ L.name }
-        requires parts { blank.parts ≡ L.parts }
-        requires own { 0 < blank.parts }
-    {
-        let mut steps = Steps::<L>::new(blank);
-        match_lists(alloc, lists, [2, 0, 1].as_slice(), k, &mut steps)
-    }
-
-    fn matches(alloc: Global, lists: &[Postings], k: u32) -> Result<Vec<u32>, AllocError>
-        requires three { length lists.now ≡ 3 }
-        requires some { 1 ≤ k }
-    {
-        match_three::<Brand>(alloc, lists, k, Blank::new(1))
-    }
-
-    // Three lists, of which one excludes 4 and one excludes 6; each number is that many times as great.
-    fn three_lists(alloc: Global, apart: u32) -> Result<Vec<Postings>, AllocError> {
-        let entries = [
-            [(1, false), (4, false), (6, true)].as_slice(),
-            [(1, false), (4, false), (6, false)].as_slice(),
-            [(4, true)].as_slice(),
-        ];
-        let mut lists = Vec::new(alloc);
-        for list in entries {
-            let mut all = Vec::new(alloc);
-            for (id, negated) in list {
-                all.push(Entry {
-                    id: apart.saturating_mul(*id),
-                    negated: *negated,
-                })?;
-            }
-            if let Ok(list) = Postings::build(all) {
-                lists.push(list)?;
-            }
-        }
-        Ok(lists)
-    }
-
-    // Close together the numbers are counted, far apart the lists are merged.
-    #[test]
-    fn matches_what_enough_lists_ask_for_and_none_excludes(rt: HostRuntime) -> Result<(), Fail> {
-        for (apart, k, want) in [
-            (1, 1, [1].as_slice()),
-            (1, 2, [1].as_slice()),
-            (1, 3, [].as_slice()),
-            (1, 4, [].as_slice()),
-            (1_000_000, 1, [1_000_000].as_slice()),
-            (1_000_000, 2, [1_000_000].as_slice()),
-            (1_000_000, 3, [].as_slice()),
-            (1_000_000, 4, [].as_slice()),
-        ] {
-            let lists = three_lists(rt.alloc(), apart)?;
-            assert_eq!(rt; lists.len(), 3);
-            assert_eq!(rt;
-                matches(rt.alloc(), &lists, k)?.as_slice(),
-                want,
-                "{apart} {k}"
-            );
-        }
-        Ok(())
     }
 }

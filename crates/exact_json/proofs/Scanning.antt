@@ -1,11 +1,13 @@
 -- Reading a number byte by byte, as a loop does.
 use Rattle.std.proofs.Common.{◌≡◌, ℕ, ◌≤◌, ◌-◌, cond, List, [], ◌∷◌, ◌++◌, length, take, true, false, Option, Some, None, refl, sym, ap, ◌∙◌, ◌==◌, subst, append_assoc, append-nil, arith, length-append}
 use Rattle.std.proofs.Math.Seq.{take-append_seam}
-use Rattle.exact_json.specs.Numbers.{Phase, start, minus, leading_zero, whole, next_phase, ends_number, is_digit, digit_to, to_int, to_point}
+use Rattle.rtb_num.specs.Amounts.{is_digit}
+use Rattle.rtb_num.specs.Numbers.{is_minus}
+use Rattle.exact_json.specs.Numbers.{Phase, start, minus, leading_zero, whole, next_phase, ends_number, digit_to, to_int, to_point}
 use Rattle.exact_json.specs.Reading.{Outcome, done, stops, short, mapped, scan, number_at, skip_digits, before}
 use Rattle.std.proofs.lemmas.Bool.Decides.{nat_tests}
 use Rattle.exact_json.proofs.Fronts.{by_test}
-use Rattle.exact_json.proofs.NumberForm.{on, off}
+use Rattle.exact_json.proofs.NumberForm.{on, off, digit_no_minus}
 use Rattle.exact_json.proofs.Right.{unchanged}
 
 -- what stands before the rest
@@ -105,12 +107,9 @@ skipped_next (d ∷ s) rest c e = by_test (λ k. k ≡ c ∷ rest → is_digit c
 -- a number of digits alone, with bytes behind it, and at the end
 scanned_whole : (bytes : List ℕ) (d : ℕ) (rest left : List ℕ) → bytes ≡ d ∷ rest → (d == 48) ≡ false → is_digit d ≡ true → left ≡ skip_digits rest → Scanned bytes whole left
 scanned_whole bytes d rest left eb nz dd es =
-    let begins : next_phase start d ≡ Some whole = off (d == 45) (Some minus) (to_int d) (no_minus d dd) ∙ off (d == 48) (Some leading_zero) (digit_to whole d) nz ∙ on (is_digit d) (Some whole) None dd in
+    let begins : next_phase start d ≡ Some whole = off (is_minus d) (Some minus) (to_int d) (digit_no_minus d dd) ∙ off (d == 48) (Some leading_zero) (digit_to whole d) nz ∙ on (is_digit d) (Some whole) None dd in
     let one : Scanned bytes whole rest = scanned_more bytes start whole d bytes rest (begun bytes) eb (sym begins) in
     subst (Scanned bytes whole) (sym es) (scanned_digits bytes rest one)
-  where
-    no_minus : (d : ℕ) → is_digit d ≡ true → (d == 45) ≡ false
-    no_minus d e = grind (arith, nat_tests)
 
 pub digits_before : (bytes : List ℕ) (d : ℕ) (rest left : List ℕ) (c : ℕ) (after : List ℕ) → bytes ≡ d ∷ rest → (d == 48) ≡ false → is_digit d ≡ true → left ≡ skip_digits rest → left ≡ c ∷ after → to_point c ≡ None
     → (number_at bytes ≡ done (before left bytes) left) × (length left ≤ length bytes)

@@ -3,7 +3,7 @@ use Rattle.std.proofs.Common.{◌≡◌, ℕ, ◌+◌, ◌-◌, ◌*◌, ◌<◌
 use Rattle.std.proofs.lemmas.Bool.{cases_lt, cases_order}
 use Rattle.postings.specs.declared.entry.Entry.{Entry}
 use Rattle.postings.specs.declared.fault.BuildFault.{BuildFault}
-use Rattle.postings.specs.declared.fault.BuildFault.TheVariants.{NotSorted, Repeated}
+use Rattle.postings.specs.declared.fault.BuildFault.TheVariants.{NotSorted, Repeated, Memory}
 use Rattle.postings.specs.Order.{rank_of, entry_at, RisesTo, IsRising, IsFirstBelow, IsFirstEqual, explains}
 
 -- one entry more, above the last
@@ -73,6 +73,7 @@ equal_not_rising es n rises h = not_rising es n (first_equal es n h) rises
 pub fault_not_rising : (es : List Entry) (f : BuildFault) → explains es f → IsRising es → ⊥
 fault_not_rising es (NotSorted n) h rises = below_not_rising es n rises h
 fault_not_rising es (Repeated n) h rises = equal_not_rising es n rises h
+fault_not_rising es Memory h rises = h
 
 -- not both kinds at one place
 not_both : (es : List Entry) (m n : ℕ) → IsFirstBelow es m → IsFirstEqual es n → ⊥
@@ -87,17 +88,21 @@ below_found es (NotSorted m) h n e =
     let same : m ≡ n = cc in
     subst (IsFirstBelow es) same h
 below_found es (Repeated m) h n e = cc
+below_found es Memory h n e = absurd h
 
 pub equal_found : (es : List Entry) (f : BuildFault) → explains es f → (n : ℕ) → f ≡ Repeated n → IsFirstEqual es n
 equal_found es (Repeated m) h n e =
     let same : m ≡ n = cc in
     subst (IsFirstEqual es) same h
 equal_found es (NotSorted m) h n e = cc
+equal_found es Memory h n e = absurd h
 
 pub below_only : (es : List Entry) (f : BuildFault) → explains es f → (n : ℕ) → IsFirstBelow es n → f ≡ NotSorted n
 below_only es (NotSorted m) h n k = ap NotSorted (same_first es m n (first_below es m h) (first_below es n k))
 below_only es (Repeated m) h n k = absurd (not_both es n m k h)
+below_only es Memory h n k = absurd h
 
 pub equal_only : (es : List Entry) (f : BuildFault) → explains es f → (n : ℕ) → IsFirstEqual es n → f ≡ Repeated n
 equal_only es (Repeated m) h n k = ap Repeated (same_first es m n (first_equal es m h) (first_equal es n k))
 equal_only es (NotSorted m) h n k = absurd (not_both es m n h k)
+equal_only es Memory h n k = absurd h

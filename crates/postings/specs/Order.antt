@@ -3,7 +3,7 @@
 use Rattle.std.specs.Prelude.{ℕ, ◌≡◌, ◌+◌, ◌-◌, ◌*◌, ◌<◌, List, cond, true, length, get_or}
 use Rattle.postings.specs.declared.entry.Entry.{Entry}
 use Rattle.postings.specs.declared.fault.BuildFault.{BuildFault}
-use Rattle.postings.specs.declared.fault.BuildFault.TheVariants.{NotSorted, Repeated}
+use Rattle.postings.specs.declared.fault.BuildFault.TheVariants.{NotSorted, Repeated, Memory}
 
 -- entries stand by number, and of one number the negated one stands first
 abbrev pub rank_of : Entry → ℕ
@@ -31,3 +31,4 @@ IsFirstEqual es n = (0 < n) × (n < length es) × RisesTo es n × (entry_at es n
 abbrev pub explains : List Entry → BuildFault → Type 0
 explains es (NotSorted n) = IsFirstBelow es n
 explains es (Repeated n) = IsFirstEqual es n
+explains es Memory = ⊥

@@ -1,3 +1,8 @@
+ghost use Rattle.std.specs.Prelude.{◌≡◌};
+ghost use Rattle.postings.specs.declared.fault.BuildFault.TheVariants.{Memory as memory};
+
+use std::alloc::AllocError;
+
 /// Why a list of entries is no posting list.
 ///
 /// The place is that of the first entry that is not above the one before it, counted from 0.
@@ -7,4 +12,14 @@ pub enum BuildFault {
     NotSorted { at: usize },
     /// The entry equals the one before it.
     Repeated { at: usize },
+    /// There is not enough memory.
+    Memory,
+}
+
+impl From<AllocError> for BuildFault {
+    ghost from_gives = { λ _ f. f ≡ memory };
+
+    fn from(_: AllocError) -> BuildFault {
+        BuildFault::Memory
+    }
 }

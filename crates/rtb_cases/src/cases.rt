@@ -1,6 +1,6 @@
 //! Cases, one after the other.
 use crate::notation::{expand, show};
-use crate::numbers;
+use crate::{fields, json, markup, numbers, requests, sales};
 use rtb_num::{List, Txt};
 use std::alloc::{AllocError, Global};
 
@@ -105,11 +105,26 @@ fn fields_of(alloc: Global, asked: &str) -> Result<Option<List<Txt>>, AllocError
 }
 
 // Appends the answer, or tells that no area has the call.
-fn answer(alloc: Global, fields: &[Txt], out: &mut Txt) -> Result<bool, AllocError> {
-    match fields {
+fn answer(alloc: Global, all: &[Txt], out: &mut Txt) -> Result<bool, AllocError> {
+    match all {
         [call, args @ ..] => {
             let call = call.as_bytes();
-            Ok(numbers::answer(alloc, call, args, out)?)
+            if numbers::answer(alloc, call, args, out)? {
+                return Ok(true);
+            }
+            if json::answer(alloc, call, args, out)? {
+                return Ok(true);
+            }
+            if fields::answer(alloc, call, args, out)? {
+                return Ok(true);
+            }
+            if requests::answer(alloc, call, args, out)? {
+                return Ok(true);
+            }
+            if markup::answer(alloc, call, args, out)? {
+                return Ok(true);
+            }
+            Ok(sales::answer(alloc, call, args, out)?)
         }
         [] => Ok(false),
     }

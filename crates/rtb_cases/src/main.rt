@@ -7,8 +7,14 @@
 #![tactic(auto)]
 
 mod cases;
+mod fields;
+mod json;
+mod markup;
 mod notation;
 mod numbers;
+mod requests;
+mod sales;
+mod trees;
 
 use cases::report_on;
 use rtb_io::{read_all, write_all};

@@ -1,5 +1,5 @@
 -- What contracts see of a source and of a sink in memory.
-use Rattle.std.specs.Prelude.{ℕ, List, [], Option, Some}
+use Rattle.std.specs.Prelude.{ℕ, List}
 use Rattle.rtb_base.specs.Calls.{Calls}
 
 -- the bytes that are left, and the calls

@@ -13,15 +13,11 @@ mod memory;
 mod money;
 mod number_form;
 mod number_parts;
-#[cfg(test)]
-mod number_tests;
 mod read_amounts;
 mod real;
 mod short;
 mod spare;
 mod streams;
-#[cfg(test)]
-mod tests;
 mod text;
 mod write_amounts;
 mod write_whole;

@@ -4,9 +4,8 @@ use Rattle.conj_match.specs.Matching.{IsAnswer, cost_of, lists_at}
 use Rattle.conj_index.specs.declared.key.Key.{Key}
 use Rattle.conj_index.specs.declared.part.Part.{Part}
 use Rattle.conj_index.specs.Find.{match_cost, places_of}
-use Rattle.conj_index.specs.Searching.{AreFound, are_single_keys}
+use Rattle.conj_index.specs.Searching.{AreFound}
 use Rattle.conj_index.proofs.Finding.{at_place, cost_below, cost_step, few_parts, found_next, found_none}
-use Rattle.conj_index.proofs.Places.{single_keys}
 use Rattle.conj_index.proofs.find.find_all.Goals as goal
 
 pub loop-size-init : goal.loop-size-init
@@ -21,9 +20,6 @@ overflow_cast-size g c =
     let few : length (take (length c.args.pairs.now + 1) c.args.index.now.parts) ≤ 24 = few_parts c.args.pairs.now c.args.index.now.parts c.requires in
     let same : length c.first_parts-part-items.result.now ≡ length (take (length c.args.pairs.now + 1) c.args.index.now.parts) = ap length c.first_parts-part-items.ensures in
     omega (arith, few, same, c.loop-size-test.true)
-
-pub find_in-requires : goal.find_in-requires
-find_in-requires g c = ap are_single_keys (c.as_slice.ensures.value ∙ c.in_ok-looked.ensures) ∙ single_keys c.args.pairs.now ∙ c.requires
 
 pub loop-size-preserved : goal.loop-size-preserved
 loop-size-preserved g c =

@@ -2,7 +2,7 @@ use Rattle.std.proofs.Common.{◌≡◌, ◌∙◌, ◌<◌, ℕ, List, length, 
 use Rattle.std.specs.List.{All}
 use Rattle.postings.specs.declared.entry.Entry.{Entry}
 use Rattle.conj_index.specs.Find.{places_of}
-use Rattle.conj_index.proofs.Places.{places_differ, places_within}
+use Rattle.conj_index.proofs.Places.{places_within}
 use Rattle.conj_index.proofs.find.find_in.Goals as goal
 
 pub match_lists-requires : goal.match_lists-requires
@@ -13,6 +13,4 @@ match_lists-requires g c =
       some = omega (arith, c.max.ensures);
       within = subst (λ (l : List ℕ). All (λ n. n < length c.as_slice.result.now) l) (sym same)
           (subst (λ (ls : List (List Entry)). All (λ n. n < length ls) places) (sym c.as_slice.ensures) (places_within c.args.looked.now c.args.size c.args.part.now));
-      distinct = subst (λ (l : List ℕ). (i j : ℕ) → i < j → j < length l → slice_index l i ≡ slice_index l j → ⊥) (sym same)
-          (places_differ c.args.looked.now c.args.size c.args.part.now c.requires);
     }
