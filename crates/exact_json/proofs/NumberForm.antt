@@ -164,11 +164,11 @@ fraction_step : (c : ℕ) (s : List ℕ) → Ends fraction s → Ends exponent s
 fraction_step c s ih exponents =
     by_bool (is_digit c)
     (λ e. led fraction fraction c s ih (on (is_digit c) (Some fraction) (to_exponent c) e)
-        (past_other (λ d b. list_all is_digit d && b) c s (digit_no_mark c e) ∙ ap (λ b. (b && list_all is_digit (front s)) && power_fits s) e))
+    (past_other (λ d b. list_all is_digit d && b) c s (digit_no_mark c e) ∙ ap (λ b. (b && list_all is_digit (front s)) && power_fits s) e))
     (λ n. by_bool (is_exponent_mark c)
     (λ e. led fraction exponent c s exponents (off (is_digit c) (Some fraction) (to_exponent c) n ∙ on (is_exponent_mark c) (Some exponent) None e) (past_mark (λ d b. list_all is_digit d && b) c s e))
     (λ e. stuck fraction c s (off (is_digit c) (Some fraction) (to_exponent c) n ∙ off (is_exponent_mark c) (Some exponent) None e)
-        (past_other (λ d b. list_all is_digit d && b) c s e ∙ ap (λ b. (b && list_all is_digit (front s)) && power_fits s) n)))
+    (past_other (λ d b. list_all is_digit d && b) c s e ∙ ap (λ b. (b && list_all is_digit (front s)) && power_fits s) n)))
 
 point_step : (c : ℕ) (s : List ℕ) → Ends fraction s → Ends point (c ∷ s)
 point_step c s ih =
@@ -217,13 +217,13 @@ zero_step c s points exponents =
     (λ n. by_bool (is_exponent_mark c)
     (λ e. led leading_zero exponent c s exponents (to_point_mark c n e) (behind_mark is_empty c s e))
     (λ e. stuck leading_zero c s (to_point_none c n e)
-        (behind_other is_empty c s n e ∙ ap (λ b. (b && fraction_fits (front s)) && power_fits s) (not_empty c (whole_part (front s))))))
+    (behind_other is_empty c s n e ∙ ap (λ b. (b && fraction_fits (front s)) && power_fits s) (not_empty c (whole_part (front s))))))
 
 whole_step : (c : ℕ) (s : List ℕ) → Ends whole s → Ends point s → Ends exponent s → Ends whole (c ∷ s)
 whole_step c s ih points exponents =
     by_bool (is_digit c)
     (λ d. led whole whole c s ih (on (is_digit c) (Some whole) (to_point c) d)
-        (behind_other (list_all is_digit) c s (digit_no_point c d) (digit_no_mark c d) ∙ figure c s true d))
+    (behind_other (list_all is_digit) c s (digit_no_point c d) (digit_no_mark c d) ∙ figure c s true d))
     (λ d. by_bool (is_point c)
     (λ e. led whole point c s points (off (is_digit c) (Some whole) (to_point c) d ∙ to_point_some c e) (behind_point (list_all is_digit) c s e))
     (λ n. by_bool (is_exponent_mark c)
@@ -246,11 +246,11 @@ minus_step : (c : ℕ) (s : List ℕ) → Ends leading_zero s → Ends whole s �
 minus_step c s zeros wholes =
     by_bool (c == 48)
     (λ z. let d = zero_is_digit c z in
-        led minus leading_zero c s zeros (on (c == 48) (Some leading_zero) (digit_to whole c) z)
-        (figure c s d ∙ ap (λ b. (b && fraction_fits (front s)) && power_fits s) (first_figure c (whole_part (front s)) true true d z ∙ zero_alone (whole_part (front s)))))
+    led minus leading_zero c s zeros (on (c == 48) (Some leading_zero) (digit_to whole c) z)
+    (figure c s d ∙ ap (λ b. (b && fraction_fits (front s)) && power_fits s) (first_figure c (whole_part (front s)) true true d z ∙ zero_alone (whole_part (front s)))))
     (λ z. by_bool (is_digit c)
     (λ d. led minus whole c s wholes (off (c == 48) (Some leading_zero) (digit_to whole c) z ∙ on (is_digit c) (Some whole) None d)
-        (figure c s d ∙ ap (λ b. (b && fraction_fits (front s)) && power_fits s) (first_figure c (whole_part (front s)) true false d z ∙ and_true (list_all is_digit (whole_part (front s))))))
+    (figure c s d ∙ ap (λ b. (b && fraction_fits (front s)) && power_fits s) (first_figure c (whole_part (front s)) true false d z ∙ and_true (list_all is_digit (whole_part (front s))))))
     (λ d. stuck minus c s (off (c == 48) (Some leading_zero) (digit_to whole c) z ∙ off (is_digit c) (Some whole) None d) (none c s d z)))
   where
     figure : (c : ℕ) (s : List ℕ) → is_digit c ≡ true → Fits minus (c ∷ s) ≡ ((is_whole_part (c ∷ whole_part (front s)) && fraction_fits (front s)) && power_fits s)
@@ -269,7 +269,7 @@ start_step c s ih same =
     by_bool (is_minus c)
     (λ e. led start minus c s ih (on (is_minus c) (Some minus) (to_int c) e) (ap (Fits minus) (on (is_minus c) s (c ∷ s) e)))
     (λ e. ap (λ (o : Option Phase). elim o [ None ↦ false | Some r ↦ accepts next_phase ends_number r s ]) (off (is_minus c) (Some minus) (to_int c) e)
-        ∙ same ∙ sym (ap (Fits minus) (off (is_minus c) s (c ∷ s) e)))
+    ∙ same ∙ sym (ap (Fits minus) (off (is_minus c) s (c ∷ s) e)))
 
 ends : (w : List ℕ) (q : Phase) → Ends q w
 ends [] start = refl
