@@ -157,18 +157,20 @@ exponent_step c s signed ih =
     by_bool (c == 43 || is_minus c)
     (λ e. led exponent sign c s signed (on (c == 43 || is_minus c) (Some sign) (digit_to power c) e) (ap some_digits (on (c == 43 || is_minus c) s (c ∷ s) e)))
     (λ n. by_bool (is_digit c)
-    (λ e. led exponent power c s ih (off (c == 43 || is_minus c) (Some sign) (digit_to power c) n ∙ on (is_digit c) (Some power) None e) (ap some_digits (off (c == 43 || is_minus c) s (c ∷ s) n) ∙ one_more c s e))
-    (λ e. stuck exponent c s (off (c == 43 || is_minus c) (Some sign) (digit_to power c) n ∙ off (is_digit c) (Some power) None e) (ap some_digits (off (c == 43 || is_minus c) s (c ∷ s) n) ∙ no_more c s e)))
+    (λ e. led exponent power c s ih (off (c == 43 || is_minus c) (Some sign) (digit_to power c) n
+    ∙ on (is_digit c) (Some power) None e) (ap some_digits (off (c == 43 || is_minus c) s (c ∷ s) n) ∙ one_more c s e))
+    (λ e. stuck exponent c s (off (c == 43 || is_minus c) (Some sign) (digit_to power c) n
+    ∙ off (is_digit c) (Some power) None e) (ap some_digits (off (c == 43 || is_minus c) s (c ∷ s) n) ∙ no_more c s e)))
 
 fraction_step : (c : ℕ) (s : List ℕ) → Ends fraction s → Ends exponent s → Ends fraction (c ∷ s)
 fraction_step c s ih exponents =
     by_bool (is_digit c)
     (λ e. led fraction fraction c s ih (on (is_digit c) (Some fraction) (to_exponent c) e)
-        (past_other (λ d b. list_all is_digit d && b) c s (digit_no_mark c e) ∙ ap (λ b. (b && list_all is_digit (front s)) && power_fits s) e))
+    (past_other (λ d b. list_all is_digit d && b) c s (digit_no_mark c e) ∙ ap (λ b. (b && list_all is_digit (front s)) && power_fits s) e))
     (λ n. by_bool (is_exponent_mark c)
     (λ e. led fraction exponent c s exponents (off (is_digit c) (Some fraction) (to_exponent c) n ∙ on (is_exponent_mark c) (Some exponent) None e) (past_mark (λ d b. list_all is_digit d && b) c s e))
     (λ e. stuck fraction c s (off (is_digit c) (Some fraction) (to_exponent c) n ∙ off (is_exponent_mark c) (Some exponent) None e)
-        (past_other (λ d b. list_all is_digit d && b) c s e ∙ ap (λ b. (b && list_all is_digit (front s)) && power_fits s) n)))
+    (past_other (λ d b. list_all is_digit d && b) c s e ∙ ap (λ b. (b && list_all is_digit (front s)) && power_fits s) n)))
 
 point_step : (c : ℕ) (s : List ℕ) → Ends fraction s → Ends point (c ∷ s)
 point_step c s ih =
@@ -203,7 +205,8 @@ behind_point a c s e =
 behind_mark : (a : List ℕ → Bool) (c : ℕ) (s : List ℕ) → is_exponent_mark c ≡ true → Behind a (c ∷ s) ≡ ((a [] && true) && is_exponent s)
 behind_mark a c s e = past_mark (λ d b. (a (whole_part d) && fraction_fits d) && b) c s e
 
-behind_other : (a : List ℕ → Bool) (c : ℕ) (s : List ℕ) → is_point c ≡ false → is_exponent_mark c ≡ false → Behind a (c ∷ s) ≡ ((a (c ∷ whole_part (front s)) && fraction_fits (front s)) && power_fits s)
+behind_other : (a : List ℕ → Bool) (c : ℕ) (s : List ℕ) → is_point c ≡ false → is_exponent_mark c ≡ false
+    → Behind a (c ∷ s) ≡ ((a (c ∷ whole_part (front s)) && fraction_fits (front s)) && power_fits s)
 behind_other a c s n e =
     past_other (λ d b. (a (whole_part d) && fraction_fits d) && b) c s e ∙ past_figure (λ w f. (a w && f) && power_fits s) c (front s) n
 
@@ -217,13 +220,13 @@ zero_step c s points exponents =
     (λ n. by_bool (is_exponent_mark c)
     (λ e. led leading_zero exponent c s exponents (to_point_mark c n e) (behind_mark is_empty c s e))
     (λ e. stuck leading_zero c s (to_point_none c n e)
-        (behind_other is_empty c s n e ∙ ap (λ b. (b && fraction_fits (front s)) && power_fits s) (not_empty c (whole_part (front s))))))
+    (behind_other is_empty c s n e ∙ ap (λ b. (b && fraction_fits (front s)) && power_fits s) (not_empty c (whole_part (front s))))))
 
 whole_step : (c : ℕ) (s : List ℕ) → Ends whole s → Ends point s → Ends exponent s → Ends whole (c ∷ s)
 whole_step c s ih points exponents =
     by_bool (is_digit c)
     (λ d. led whole whole c s ih (on (is_digit c) (Some whole) (to_point c) d)
-        (behind_other (list_all is_digit) c s (digit_no_point c d) (digit_no_mark c d) ∙ figure c s true d))
+    (behind_other (list_all is_digit) c s (digit_no_point c d) (digit_no_mark c d) ∙ figure c s true d))
     (λ d. by_bool (is_point c)
     (λ e. led whole point c s points (off (is_digit c) (Some whole) (to_point c) d ∙ to_point_some c e) (behind_point (list_all is_digit) c s e))
     (λ n. by_bool (is_exponent_mark c)
@@ -246,11 +249,11 @@ minus_step : (c : ℕ) (s : List ℕ) → Ends leading_zero s → Ends whole s �
 minus_step c s zeros wholes =
     by_bool (c == 48)
     (λ z. let d = zero_is_digit c z in
-        led minus leading_zero c s zeros (on (c == 48) (Some leading_zero) (digit_to whole c) z)
-        (figure c s d ∙ ap (λ b. (b && fraction_fits (front s)) && power_fits s) (first_figure c (whole_part (front s)) true true d z ∙ zero_alone (whole_part (front s)))))
+    led minus leading_zero c s zeros (on (c == 48) (Some leading_zero) (digit_to whole c) z)
+    (figure c s d ∙ ap (λ b. (b && fraction_fits (front s)) && power_fits s) (first_figure c (whole_part (front s)) true true d z ∙ zero_alone (whole_part (front s)))))
     (λ z. by_bool (is_digit c)
     (λ d. led minus whole c s wholes (off (c == 48) (Some leading_zero) (digit_to whole c) z ∙ on (is_digit c) (Some whole) None d)
-        (figure c s d ∙ ap (λ b. (b && fraction_fits (front s)) && power_fits s) (first_figure c (whole_part (front s)) true false d z ∙ and_true (list_all is_digit (whole_part (front s))))))
+    (figure c s d ∙ ap (λ b. (b && fraction_fits (front s)) && power_fits s) (first_figure c (whole_part (front s)) true false d z ∙ and_true (list_all is_digit (whole_part (front s))))))
     (λ d. stuck minus c s (off (c == 48) (Some leading_zero) (digit_to whole c) z ∙ off (is_digit c) (Some whole) None d) (none c s d z)))
   where
     figure : (c : ℕ) (s : List ℕ) → is_digit c ≡ true → Fits minus (c ∷ s) ≡ ((is_whole_part (c ∷ whole_part (front s)) && fraction_fits (front s)) && power_fits s)
@@ -269,7 +272,7 @@ start_step c s ih same =
     by_bool (is_minus c)
     (λ e. led start minus c s ih (on (is_minus c) (Some minus) (to_int c) e) (ap (Fits minus) (on (is_minus c) s (c ∷ s) e)))
     (λ e. ap (λ (o : Option Phase). elim o [ None ↦ false | Some r ↦ accepts next_phase ends_number r s ]) (off (is_minus c) (Some minus) (to_int c) e)
-        ∙ same ∙ sym (ap (Fits minus) (off (is_minus c) s (c ∷ s) e)))
+    ∙ same ∙ sym (ap (Fits minus) (off (is_minus c) s (c ∷ s) e)))
 
 ends : (w : List ℕ) (q : Phase) → Ends q w
 ends [] start = refl
@@ -298,7 +301,13 @@ accepts_numbers w = ends w start
 -- a number begins with a minus or a digit
 pub number_begins : (w : List ℕ) → is_number w ≡ true → (c : ℕ) × (b : List ℕ) × (w ≡ c ∷ b) × (((c == 45) || is_digit c) ≡ true)
 number_begins [] h = not_both (is_number []) h refl
-number_begins (c ∷ b) h = (c, b, refl, by_bool {P = ((c == 45) || is_digit c) ≡ true} ((c == 45) || is_digit c) (λ e. e) (λ e. not_both (is_number (c ∷ b)) h (sym (accepts_numbers (c ∷ b)) ∙ step_none next_phase ends_number start c b (leads_nowhere c e))))
+number_begins (c ∷ b) h = (
+  c,
+  b,
+  refl,
+  by_bool {P = ((c == 45) || is_digit c) ≡ true} ((c == 45) || is_digit c) (λ e. e)
+      (λ e. not_both (is_number (c ∷ b)) h (sym (accepts_numbers (c ∷ b)) ∙ step_none next_phase ends_number start c b (leads_nowhere c e))),
+)
   where
     no_minus : (c : ℕ) → ((c == 45) || is_digit c) ≡ false → is_minus c ≡ false
     no_minus c e = grind (arith, nat_tests)
