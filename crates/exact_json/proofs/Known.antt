@@ -101,7 +101,8 @@ if_some false t h = tt
 pair_formed : (name : List ℕ) (ps : Pairs) → members_formed ps ≡ true → IfSome (get_pair name ps) HasForms
 pair_formed name no_pairs h = tt
 pair_formed name (pair k t ps) h =
-    later_formed (get_pair name ps) (cond (bytes_eq k name) (Some t) None) (pair_formed name ps (second (numbers_formed t) (members_formed ps) h)) (if_some (bytes_eq k name) t (first (numbers_formed t) (members_formed ps) h))
+    later_formed (get_pair name ps) (cond (bytes_eq k name) (Some t) None) (pair_formed name ps (second (numbers_formed t) (members_formed ps) h)) (if_some
+    (bytes_eq k name) t (first (numbers_formed t) (members_formed ps) h))
 
 pub get_formed : (name : List ℕ) (t : Tree) → HasForms t → IfSome (get name t) HasForms
 get_formed name null h = tt

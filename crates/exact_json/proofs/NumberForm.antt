@@ -157,8 +157,10 @@ exponent_step c s signed ih =
     by_bool (c == 43 || is_minus c)
     (λ e. led exponent sign c s signed (on (c == 43 || is_minus c) (Some sign) (digit_to power c) e) (ap some_digits (on (c == 43 || is_minus c) s (c ∷ s) e)))
     (λ n. by_bool (is_digit c)
-    (λ e. led exponent power c s ih (off (c == 43 || is_minus c) (Some sign) (digit_to power c) n ∙ on (is_digit c) (Some power) None e) (ap some_digits (off (c == 43 || is_minus c) s (c ∷ s) n) ∙ one_more c s e))
-    (λ e. stuck exponent c s (off (c == 43 || is_minus c) (Some sign) (digit_to power c) n ∙ off (is_digit c) (Some power) None e) (ap some_digits (off (c == 43 || is_minus c) s (c ∷ s) n) ∙ no_more c s e)))
+    (λ e. led exponent power c s ih (off (c == 43 || is_minus c) (Some sign) (digit_to power c) n
+    ∙ on (is_digit c) (Some power) None e) (ap some_digits (off (c == 43 || is_minus c) s (c ∷ s) n) ∙ one_more c s e))
+    (λ e. stuck exponent c s (off (c == 43 || is_minus c) (Some sign) (digit_to power c) n
+    ∙ off (is_digit c) (Some power) None e) (ap some_digits (off (c == 43 || is_minus c) s (c ∷ s) n) ∙ no_more c s e)))
 
 fraction_step : (c : ℕ) (s : List ℕ) → Ends fraction s → Ends exponent s → Ends fraction (c ∷ s)
 fraction_step c s ih exponents =
@@ -203,7 +205,8 @@ behind_point a c s e =
 behind_mark : (a : List ℕ → Bool) (c : ℕ) (s : List ℕ) → is_exponent_mark c ≡ true → Behind a (c ∷ s) ≡ ((a [] && true) && is_exponent s)
 behind_mark a c s e = past_mark (λ d b. (a (whole_part d) && fraction_fits d) && b) c s e
 
-behind_other : (a : List ℕ → Bool) (c : ℕ) (s : List ℕ) → is_point c ≡ false → is_exponent_mark c ≡ false → Behind a (c ∷ s) ≡ ((a (c ∷ whole_part (front s)) && fraction_fits (front s)) && power_fits s)
+behind_other : (a : List ℕ → Bool) (c : ℕ) (s : List ℕ) → is_point c ≡ false → is_exponent_mark c ≡ false
+    → Behind a (c ∷ s) ≡ ((a (c ∷ whole_part (front s)) && fraction_fits (front s)) && power_fits s)
 behind_other a c s n e =
     past_other (λ d b. (a (whole_part d) && fraction_fits d) && b) c s e ∙ past_figure (λ w f. (a w && f) && power_fits s) c (front s) n
 
@@ -298,7 +301,13 @@ accepts_numbers w = ends w start
 -- a number begins with a minus or a digit
 pub number_begins : (w : List ℕ) → is_number w ≡ true → (c : ℕ) × (b : List ℕ) × (w ≡ c ∷ b) × (((c == 45) || is_digit c) ≡ true)
 number_begins [] h = not_both (is_number []) h refl
-number_begins (c ∷ b) h = (c, b, refl, by_bool {P = ((c == 45) || is_digit c) ≡ true} ((c == 45) || is_digit c) (λ e. e) (λ e. not_both (is_number (c ∷ b)) h (sym (accepts_numbers (c ∷ b)) ∙ step_none next_phase ends_number start c b (leads_nowhere c e))))
+number_begins (c ∷ b) h = (
+  c,
+  b,
+  refl,
+  by_bool {P = ((c == 45) || is_digit c) ≡ true} ((c == 45) || is_digit c) (λ e. e)
+      (λ e. not_both (is_number (c ∷ b)) h (sym (accepts_numbers (c ∷ b)) ∙ step_none next_phase ends_number start c b (leads_nowhere c e))),
+)
   where
     no_minus : (c : ℕ) → ((c == 45) || is_digit c) ≡ false → is_minus c ≡ false
     no_minus c e = grind (arith, nat_tests)

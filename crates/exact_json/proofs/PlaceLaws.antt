@@ -138,7 +138,8 @@ accepted_stay : (w : List ℕ) (q : Phase) → accepts next_phase ends_number q 
 accepted_stay [] q e = (refl, refl)
 accepted_stay (c ∷ s) q e = at c s q (next_phase q c) refl (leads q c) (λ r. accepted_stay s r) e
   where
-    at : (c : ℕ) (s : List ℕ) (q : Phase) (o : Option Phase) → next_phase q c ≡ o → LeadsBare c o → ((r : Phase) → accepts next_phase ends_number r s ≡ true → Stays s) → accepts next_phase ends_number q (c ∷ s) ≡ true → Stays (c ∷ s)
+    at : (c : ℕ) (s : List ℕ) (q : Phase) (o : Option Phase) → next_phase q c ≡ o → LeadsBare c o → ((r : Phase) → accepts next_phase ends_number r s ≡ true
+        → Stays s) → accepts next_phase ends_number q (c ∷ s) ≡ true → Stays (c ∷ s)
     at c s q None en bare k e = not_both (accepts next_phase ends_number q (c ∷ s)) e (step_none next_phase ends_number q c s en)
     at c s q (Some r) en bare k e = bare_goes c s bare (k r (sym (step_some next_phase ends_number q c s r en) ∙ e))
 
@@ -203,11 +204,15 @@ begins : (c : ℕ) → Begins c (followers c)
 begins c =
     by_test (Begins c) (is_plain c) _ _ (plain_begins c) (λ n1.
     by_test (Begins c) (in_range 194 223 c) _ _ (two_begins c) (λ n2.
-    by_test (Begins c) (c == 224) _ _ (λ e. three_begins c (in_range 160 191) (λ x. within 128 191 160 191 x (omega arith) (omega arith)) (equal_within 224 239 224 c (omega arith) (omega arith) e)) (λ n3.
-    by_test (Begins c) (c == 237) _ _ (λ e. three_begins c (in_range 128 159) (λ x. within 128 191 128 159 x (omega arith) (omega arith)) (equal_within 224 239 237 c (omega arith) (omega arith) e)) (λ n4.
+    by_test (Begins c) (c == 224) _ _ (λ e. three_begins c (in_range 160 191)
+    (λ x. within 128 191 160 191 x (omega arith) (omega arith)) (equal_within 224 239 224 c (omega arith) (omega arith) e)) (λ n3.
+    by_test (Begins c) (c == 237) _ _ (λ e. three_begins c (in_range 128 159)
+    (λ x. within 128 191 128 159 x (omega arith) (omega arith)) (equal_within 224 239 237 c (omega arith) (omega arith) e)) (λ n4.
     by_test (Begins c) (in_range 225 239 c) _ _ (λ e. three_begins c is_tail tails (within 224 239 225 239 c (omega arith) (omega arith) e)) (λ n5.
-    by_test (Begins c) (c == 240) _ _ (λ e. four_begins c (in_range 144 191) (λ x. within 128 191 144 191 x (omega arith) (omega arith)) (equal_within 240 244 240 c (omega arith) (omega arith) e)) (λ n6.
-    by_test (Begins c) (c == 244) _ _ (λ e. four_begins c (in_range 128 143) (λ x. within 128 191 128 143 x (omega arith) (omega arith)) (equal_within 240 244 244 c (omega arith) (omega arith) e)) (λ n7.
+    by_test (Begins c) (c == 240) _ _ (λ e. four_begins c (in_range 144 191)
+    (λ x. within 128 191 144 191 x (omega arith) (omega arith)) (equal_within 240 244 240 c (omega arith) (omega arith) e)) (λ n6.
+    by_test (Begins c) (c == 244) _ _ (λ e. four_begins c (in_range 128 143)
+    (λ x. within 128 191 128 143 x (omega arith) (omega arith)) (equal_within 240 244 244 c (omega arith) (omega arith) e)) (λ n7.
     by_test (Begins c) (in_range 241 243 c) _ None (λ e. four_begins c is_tail tails (within 240 244 241 243 c (omega arith) (omega arith) e)) (λ n8. tt))))))))
 
 tail_step : (n c : ℕ) → is_tail c ≡ true → step (inside (suc n)) c ≡ inside n
@@ -271,7 +276,8 @@ hexes_go (a ∷ b ∷ c ∷ d ∷ w) h =
 piece_goes : (p : Piece) (w : List ℕ) → SpellsPiece p w → Goes (inside 0) w (inside 0)
 piece_goes (character x) [] (h, e) = absurd h
 piece_goes (character x) (c ∷ s) (h, e) = character_goes c s [] (subst (λ k. IsCharacter (c ∷ k)) (sym (append-nil s)) h)
-piece_goes (escape c) w (h, e) = same_bytes w (92 ∷ c ∷ []) (inside 0) (inside 0) (more (inside 0) escaped (inside 0) 92 (c ∷ []) refl refl (one escaped c (inside 0) (ap (λ b. b || c == 117) h) refl)) e
+piece_goes (escape c) w (h, e) = same_bytes w (92 ∷ c ∷ []) (inside 0) (inside 0) (more (inside 0) escaped (inside 0) 92 (c ∷ []) refl refl (one escaped c
+    (inside 0) (ap (λ b. b || c == 117) h) refl)) e
 piece_goes (code_unit n) w (b, (h, (four, en), eb), e) =
     same_bytes w (92 ∷ 117 ∷ h) (inside 0) (inside 0)
     (more (inside 0) escaped (inside 0) 92 (117 ∷ h) refl refl (more escaped (inside 0) (inside 0) 117 h refl refl (hexes_go h four)))

@@ -175,7 +175,8 @@ false_back : (d c : ℕ) → tag_of c ≡ 2 → c ≡ 102 → ComesFrom (λ x. A
 false_back d c e ec (boolean false) w more rest l eq = (codes "alse", (codes "alse", (refl, refl), l ∙ ap (λ k. k ∷ codes "alse") (sym ec)), refl)
 false_back d c e ec t w more rest l eq = absurd (omega (arith, tag_is d t c w more rest l eq, e))
 
-literal_right : (d c k : ℕ) (ks s : List ℕ) (t : Tree) → ((w : List ℕ) → w ≡ k ∷ ks → Spells d t w) → c ≡ k → ComesFrom (λ x. After c (Word ks x)) (Spells d) (λ w. t) c → Right IsDelimiter (Spells d) (c ∷ s) (mapped (λ w. t) (word_at ks s))
+literal_right : (d c k : ℕ) (ks s : List ℕ) (t : Tree) → ((w : List ℕ) → w ≡ k ∷ ks → Spells d t w) → c ≡ k
+    → ComesFrom (λ x. After c (Word ks x)) (Spells d) (λ w. t) c → Right IsDelimiter (Spells d) (c ∷ s) (mapped (λ w. t) (word_at ks s))
 literal_right d c k ks s t into e back =
     mapped_right IsDelimiter (λ x. After c (Word ks x)) (Spells d) (λ w. t) c s (λ x w (b, (ex, eb), ew). into w (ew ∙ ap (λ l. c ∷ l) eb ∙ ap (λ n. n ∷ ks) e)) back (word_at ks s)
     (weaker Any IsDelimiter (λ c h. tt) (λ x. After c (Word ks x)) (c ∷ s) (word_at ks s) (after_right Any (Word ks) c s (word_at ks s) (word_right ks s)))
@@ -190,7 +191,11 @@ scalar_right d c s low =
     (quoted_at s)
     (weaker Any IsDelimiter (λ c h. tt) (λ x. After c (Quoted x)) (c ∷ s) (quoted_at s) (after_right Any Quoted c s (quoted_at s) (quoted_right s))))
     (λ n1. by_test (Right IsDelimiter (Spells d) (c ∷ s)) ((c == 45) || is_digit c) (mapped number (number_at (c ∷ s))) _
-    (λ e. mapped_right IsDelimiter (Accepted next_phase ends_number start) (Spells d) number c s (λ x w (l, ex). (sym (accepts_numbers w) ∙ l, ex)) (number_back d c (number_tag c e)) (number_at (c ∷ s)) (number_right (c ∷ s)))
+    (λ e. mapped_right IsDelimiter (Accepted next_phase ends_number start) (Spells d) number c s (λ x w (l, ex). (
+      sym (accepts_numbers w)
+          ∙ l,
+      ex,
+    )) (number_back d c (number_tag c e)) (number_at (c ∷ s)) (number_right (c ∷ s)))
     (λ n2. by_test (Right IsDelimiter (Spells d) (c ∷ s)) (c == 110) (mapped (λ w. null) (word_at (codes "ull") s)) _
     (λ e. literal_right d c 110 (codes "ull") s null (λ w ew. ew) (is_true c 110 e) (null_back d c (ap tag_of (is_true c 110 e)) (is_true c 110 e)))
     (λ n3. by_test (Right IsDelimiter (Spells d) (c ∷ s)) (c == 116) (mapped (λ w. boolean true) (word_at (codes "rue") s)) _
@@ -201,5 +206,6 @@ scalar_right d c s low =
   where
     high : (c : ℕ) → (c == 34) ≡ false → ((c == 45) || is_digit c) ≡ false → (c == 110) ≡ false → (c == 116) ≡ false → (c == 102) ≡ false → 5 ≤ tag_of c
     high c n1 n2 n3 n4 n5 =
-        let same : tag_of c ≡ cond (c == 91) 5 (cond (c == 123) 6 7) = off (c == 34) 4 _ n1 ∙ off ((c == 45) || is_digit c) 3 _ n2 ∙ off (c == 110) 0 _ n3 ∙ off (c == 116) 1 _ n4 ∙ off (c == 102) 2 _ n5 in
+        let same : tag_of c ≡ cond (c == 91) 5 (cond (c == 123) 6 7) = off (c == 34) 4 _ n1 ∙ off ((c == 45) || is_digit c) 3 _ n2 ∙ off (c == 110) 0 _ n3
+        ∙ off (c == 116) 1 _ n4 ∙ off (c == 102) 2 _ n5 in
         subst (λ k. 5 ≤ k) (sym same) (by_test (λ k. 5 ≤ k) (c == 91) 5 _ (λ e. omega arith) (λ e. by_test (λ k. 5 ≤ k) (c == 123) 6 7 (λ e. omega arith) (λ e. omega arith)))
