@@ -112,6 +112,19 @@ parts_from (((((seat, adomain), cat), ((size, attr), secure)), ((bid, deals), bu
   cap = None;
 }
 
+-- the parts with these names, lists and creative in place of their own
+abbrev pub joined : FactParts → Names → List ℤ → List (List ℕ) → Creative → FactParts
+joined p names attr deals creative = record p {
+  seat = names.0.0;
+  adomain = names.0.1;
+  cat = names.1;
+  attr = attr;
+  deals = deals;
+  adm = creative.0.0;
+  crid = creative.0.1;
+  adid = creative.1;
+}
+
 -- parts whose bytes can be read, within the limits of their texts and numbers or not
 pub record IsLoose (p : FactParts) : Type 0 where
   pub groups : AreGroups (groups_of p)

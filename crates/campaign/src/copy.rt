@@ -1,8 +1,10 @@
 ghost use Rattle.std.specs.Prelude.{◌≡◌, ◌≤◌, ◌<◌, ◌*◌, ◌^◌, length, All, IfOk};
 ghost use Rattle.std.specs.Option.{option_to_list};
 ghost use Rattle.std.specs.List.{sum_by};
+ghost use Rattle.campaign.specs.Groups.{creative_of, joined, names_of};
 ghost use Rattle.campaign.specs.Kept.{text_bytes_of};
 
+use crate::decode::{Creative, Names};
 use crate::facts::Facts;
 use crate::parts::FactParts;
 use rtb_num::{List, Txt};
@@ -57,35 +59,76 @@ fn lengths(texts: &[Txt]) -> u64
 fn copy_parts(parts: &FactParts) -> Result<FactParts, AllocError>
     ensures { IfOk result (λ p. p ≡ parts.now) }
 {
+    let alloc = allocator(parts);
+    let names = copy_names(alloc, parts)?;
+    let attr = List::from_vec(Vec::from_slice(alloc, parts.attr.as_slice())?);
+    let deals = copy_texts(alloc, parts.deals.as_slice())?;
+    let creative = copy_creative(parts)?;
+    Ok(joined(parts, names, attr, deals, creative))
+}
+
+// What the memory of the parts comes from.
+fn allocator(parts: &FactParts) -> Global {
     let empty = parts.attr.new_like().into_vec();
-    let alloc = *empty.allocator();
-    Ok(FactParts {
-        seat: parts.seat.copy()?,
-        adomain: parts.adomain.copy()?,
-        cat: copy_texts(alloc, parts.cat.as_slice())?,
+    *empty.allocator()
+}
+
+fn copy_names(alloc: Global, parts: &FactParts) -> Result<Names, AllocError>
+    ensures { IfOk result (λ names. names ≡ names_of parts.now) }
+{
+    let seat = parts.seat.copy()?;
+    let adomain = parts.adomain.copy()?;
+    let cat = copy_texts(alloc, parts.cat.as_slice())?;
+    Ok(((seat, adomain), cat))
+}
+
+fn copy_creative(parts: &FactParts) -> Result<Creative, AllocError>
+    ensures { IfOk result (λ creative. creative ≡ creative_of parts.now) }
+{
+    let adm = parts.adm.copy()?;
+    let crid = parts.crid.copy()?;
+    let adid = copy_optional(&parts.adid)?;
+    Ok(((adm, crid), adid))
+}
+
+// These parts, and those numbers that are no lists.
+fn joined(
+    parts: &FactParts,
+    names: Names,
+    attr: List<i32>,
+    deals: List<Txt>,
+    creative: Creative,
+) -> FactParts
+    ensures { result ≡ joined parts.now names attr deals creative }
+{
+    let ((seat, adomain), cat) = names;
+    let ((adm, crid), adid) = creative;
+    FactParts {
+        seat,
+        adomain,
+        cat,
         w: parts.w,
         h: parts.h,
-        attr: List::from_vec(Vec::from_slice(alloc, parts.attr.as_slice())?),
+        attr,
         secure: parts.secure,
         bid: parts.bid,
-        deals: copy_texts(alloc, parts.deals.as_slice())?,
+        deals,
         budget: parts.budget,
-        adm: parts.adm.copy()?,
-        crid: parts.crid.copy()?,
-        adid: copy_optional(&parts.adid)?,
+        adm,
+        crid,
+        adid,
         cap: parts.cap,
-    })
+    }
 }
 
 fn copy_texts(alloc: Global, texts: &[Txt]) -> Result<List<Txt>, AllocError>
     ensures { IfOk result (λ ts. ts ≡ texts.now) }
 {
-    let mut copies = List::new(alloc);
-    copies.reserve(texts.len())?;
+    let mut copies = Vec::with_capacity(alloc, texts.len())?;
     for text in texts {
         copies.push(text.copy()?)?;
     }
-    Ok(copies)
+    Ok(List::from_vec(copies))
 }
 
 fn copy_optional(text: &Option<Txt>) -> Result<Option<Txt>, AllocError>

@@ -16,7 +16,7 @@ use rtb_num::{List, Micros, Nanos, Txt};
 use std::alloc::{AllocError, Global};
 
 // `seat`, `adomain`, `cat`.
-type Names = ((Txt, Txt), List<Txt>);
+pub(crate) type Names = ((Txt, Txt), List<Txt>);
 
 // Width and height, `attr`, `secure`.
 type Look = ((Option<(i32, i32)>, List<i32>), bool);
@@ -25,7 +25,7 @@ type Look = ((Option<(i32, i32)>, List<i32>), bool);
 type Money = ((Micros, List<Txt>), Nanos);
 
 // `adm`, `crid`, `adid`.
-type Creative = ((Txt, Txt), Option<Txt>);
+pub(crate) type Creative = ((Txt, Txt), Option<Txt>);
 
 /// Why no facts are decoded.
 #[derive(Clone, Copy, Debug, PartialEq, Eq)]

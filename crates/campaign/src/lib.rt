@@ -16,8 +16,6 @@ mod ints;
 mod laws;
 mod parts;
 mod path;
-#[cfg(test)]
-mod tests;
 
 pub use cap::{Cap, MOST_SECONDS, MOST_TIMES};
 pub use decode::FactBytes;

@@ -2,4 +2,4 @@ use Rattle.std.proofs.Common.{◌≡◌, take}
 use Rattle.campaign.proofs.copy.copy_texts.Given as goal
 
 abbrev pub invariant-loop-text : goal.invariant-loop-text
-invariant-loop-text l = l.copies ≡ take l.text-index l.texts
+invariant-loop-text l = l.copies.items ≡ take l.text-index l.texts
