@@ -5,8 +5,8 @@ use Rattle.std.proofs.lemmas.List.{drop_at, take_at, length-take-le}
 use Rattle.std.proofs.lemmas.List.Concat.{flat_map-append}
 use Rattle.std.proofs.lemmas.List.Elements.{All-head, All-tail, All-push}
 use Rattle.byte_fields.specs.Codes.{BeginsAt, IsReadAt, IsCode, BothValid, both_bytes}
-use Rattle.byte_fields.specs.Encodings.{FitsFour, four_bytes, IsShort, text_bytes, IsListOf, list_bytes}
-use Rattle.byte_fields.proofs.Codes.{begins_from, begins_both, begins_first, begins_second, begins_as, one_reading}
+use Rattle.byte_fields.specs.Encodings.{FitsFour, four_bytes, IsShort, text_bytes, IsListOf, IsListWithin, CountsMore, list_bytes}
+use Rattle.byte_fields.proofs.Codes.{begins_from, begins_both, begins_first, begins_second, begins_as, narrow_code, one_reading}
 use Rattle.byte_fields.proofs.Numbers.{four_code}
 
 -- two texts of one length behind each other
@@ -118,3 +118,29 @@ module _ {A : Type 0} (V : A → Type 0) (e : A → List ℕ) where
   pub list_from_row : IsCode V e → (bytes : List ℕ) (place n count : ℕ) (found : Option (List A × ℕ)) → IsReadAt FitsFour four_bytes bytes place (Some (count, n)) → IsReadAt (IsRow count) (flat_map e) bytes n found → IsReadAt (IsListOf V) (list_bytes e) bytes place found
   list_from_row code bytes place n count None a b = list_no_row bytes place n count a b
   list_from_row code bytes place n count (Some p) a b = list_read bytes place n count p.0 p.1 a b
+
+  -- a list of few items is read as a list, and one of more is not there
+  pub list_within : (most : ℕ) (bytes : List ℕ) (place n count : ℕ) (found : Option (List A × ℕ)) → IsCode V e → count ≤ most → IsReadAt FitsFour four_bytes bytes place (Some (count, n)) → IsReadAt (IsRow count) (flat_map e) bytes n found
+      → IsReadAt (IsListWithin most V) (list_bytes e) bytes place found
+  list_within most bytes place n count None code le a b = λ xs m v s. list_no_row bytes place n count a b xs m v.0 s
+  list_within most bytes place n count (Some p) code le a b =
+      let read = list_read bytes place n count p.0 p.1 a b in
+      ((read.0, omega (arith, b.0.0, le)), read.1)
+
+  pub list_too_long : (most : ℕ) (bytes : List ℕ) (place n count : ℕ) → IsReadAt FitsFour four_bytes bytes place (Some (count, n)) → most < count → IsReadAt (IsListWithin most V) (list_bytes e) bytes place None
+  unfolding list_bytes
+  list_too_long most bytes place n count r lt = λ xs m v a.
+      let same = one_reading FitsFour four_bytes four_code bytes place count (length xs) n (place + length (four_bytes (length xs))) r.0 v.0.0 r.1 (begins_first bytes (four_bytes (length xs)) (flat_map e xs) place m a) in
+      omega (arith, same.0, v.1, lt)
+
+  pub within_no_count : (most : ℕ) (bytes : List ℕ) (place : ℕ) → IsReadAt FitsFour four_bytes bytes place None → IsReadAt (IsListWithin most V) (list_bytes e) bytes place None
+  within_no_count most bytes place none = λ xs m v a. list_no_count bytes place none xs m v.0 a
+
+  pub within_code : (most : ℕ) → IsCode V e → IsCode (IsListWithin most V) (list_bytes e)
+  within_code most code = narrow_code (IsListOf V) (list_bytes e) (list_code code) (IsListWithin most V) (λ xs v. v.0)
+
+-- a count that is read is the one that stands there
+pub counts_here : (most : ℕ) (bytes : List ℕ) (place n count : ℕ) → IsReadAt FitsFour four_bytes bytes place (Some (count, n)) → CountsMore most bytes place → most < count
+counts_here most bytes place n count r (other, next, fits, more, there) =
+    let same = one_reading FitsFour four_bytes four_code bytes place count other n next r.0 fits r.1 there in
+    omega (arith, same.0, more)

@@ -1,9 +1,10 @@
 -- The bytes of numbers, flags, texts, options and lists. Numbers have their greatest place first.
 -- An `Is..` or `Fits..` beside each says what has such bytes: numbers in their range, lists whose
 -- length fits four bytes.
-use Rattle.std.specs.Prelude.{ℕ, ◌<◌, ◌^◌, List, [], ◌∷◌, ◌++◌, length, Bool, cond, Option, Some, None, MatchOption, All}
+use Rattle.std.specs.Prelude.{ℕ, ◌<◌, ◌≤◌, ◌^◌, List, [], ◌∷◌, ◌++◌, length, Bool, cond, Option, Some, None, MatchOption, All}
 use Rattle.std.specs.List.{flat_map}
 use Rattle.std.specs.Int.{w32, w64, to_be_bytes}
+use Rattle.byte_fields.specs.Codes.{BeginsAt}
 
 -- one byte
 abbrev pub IsByte : ℕ → Type 0
@@ -51,5 +52,13 @@ option_bytes encode (Some x) = 1 ∷ encode x
 abbrev pub IsListOf : {A : Type 0} → (A → Type 0) → List A → Type 0
 IsListOf IsValid xs = (length xs < 2 ^ 32) × All IsValid xs
 
+-- a list of at most so many items
+abbrev pub IsListWithin : {A : Type 0} → ℕ → (A → Type 0) → List A → Type 0
+IsListWithin most IsValid xs = IsListOf IsValid xs × (length xs ≤ most)
+
 unfoldable pub list_bytes : {A : Type 0} → (A → List ℕ) → List A → List ℕ
 list_bytes encode xs = four_bytes (length xs) ++ flat_map encode xs
+
+-- the four bytes at the place count more items than that
+abbrev pub CountsMore : ℕ → List ℕ → ℕ → Type 0
+CountsMore most bytes place = (count : ℕ) × (next : ℕ) × FitsFour count × (most < count) × BeginsAt bytes place (four_bytes count) next

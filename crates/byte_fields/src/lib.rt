@@ -9,13 +9,15 @@
 #![tactic(auto)]
 
 mod laws;
+mod lists;
 mod scalars;
 #[cfg(test)]
 mod tests;
 mod texts;
 
 pub use laws::{fields_tell_their_ends, what_was_put_begins_there, what_was_put_is_read_again};
+pub use lists::{Element, Found, get_list, put_list};
 pub use scalars::{
     get_byte, get_eight, get_flag, get_four, put_byte, put_eight, put_flag, put_four,
 };
-pub use texts::{get_text, get_texts, put_text, put_texts};
+pub use texts::{Texts, get_text, get_texts, put_text, put_texts};

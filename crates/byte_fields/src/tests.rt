@@ -29,7 +29,7 @@ fn ends(
     place: usize,
 ) -> Result<(Option<usize>, Option<usize>), AllocError> {
     let text = get_text(alloc, bytes, place)?.map(|(_, next)| next);
-    let list = get_texts(alloc, bytes, place)?.map(|(_, next)| next);
+    let list = get_texts(alloc, bytes, place, 64)?.map(|(_, next)| next);
     Ok((text, list))
 }
 
@@ -42,7 +42,7 @@ fn fields_are_written_as_the_bytes_say(rt: HostRuntime) -> Result<(), Fail> {
     put_four(258, &mut out)?;
     put_eight(3, &mut out)?;
     put_text(b"ab", &mut out)?;
-    let Some((texts, _)) = get_texts(alloc, BYTES, 20)? else {
+    let Some((texts, _)) = get_texts(alloc, BYTES, 20, 64)? else {
         return Err("no list")?;
     };
     put_texts(texts.as_slice(), &mut out)?;
@@ -89,7 +89,7 @@ fn texts_and_lists_are_read_where_they_are_whole(rt: HostRuntime) -> Result<(), 
         assert_eq!(rt; ends(alloc, bytes, 0)?, want);
         assert_eq!(rt; ends(alloc, bytes, bytes.len() + 1)?, (None, None));
     }
-    let Some((texts, next)) = get_texts(alloc, BYTES, 20)? else {
+    let Some((texts, next)) = get_texts(alloc, BYTES, 20, 64)? else {
         return Err("no list")?;
     };
     assert_eq!(rt; next, BYTES.len());

@@ -6,13 +6,14 @@ use Rattle.std.specs.Int.{w32}
 use Rattle.std.proofs.lemmas.Bool.Decides.{nat_tests}
 use Rattle.std.proofs.lemmas.Int.{ints}
 use Rattle.std.proofs.lemmas.List.Elements.{All-nil, All-cons, All-weaker}
-use Rattle.byte_fields.specs.Encodings.{IsShort, IsOptionOf, IsListOf}
+use Rattle.byte_fields.specs.Encodings.{IsShort, IsOptionOf, IsListWithin}
 use Rattle.campaign.specs.declared.parts.FactParts.{FactParts}
 use Rattle.campaign.specs.declared.parts.FactFault.{FactFault}
 use Rattle.campaign.specs.declared.field.CampField.{CampField}
 use Rattle.campaign.specs.Faults.{fault_unless, is_text, text_faults, is_list, texts_faults, is_side, is_size, attr_faults, fact_faults}
-use Rattle.campaign.specs.Groups.{IsWhole, AreSides, AreNames, IsLook, IsMoney, IsCreative, names_of, look_of, money_of, creative_of, IsLoose}
-use Rattle.campaign.specs.Kept.{IsKept}
+use Rattle.campaign.specs.Groups.{IsWhole, AreSides, AreNames, IsLook, IsMoney, IsCreative, AreGroups, groups_of, names_of, look_of, money_of, creative_of, IsLoose}
+use Rattle.campaign.specs.Caps.{CapTerms}
+use Rattle.campaign.specs.Kept.{IsKept, IsEncodable, with_cap, without_cap}
 
 pub both_nil : {A : Type 0} (xs ys : List A) → xs ++ ys ≡ [] → (xs ≡ []) × (ys ≡ [])
 both_nil [] ys e = (refl, e)
@@ -122,8 +123,8 @@ rules_of p e9 =
 pub short_text : (t : List ℕ) → length t ≤ 255 → IsShort t
 short_text t h = omega arith
 
-pub short_texts : (ts : List (List ℕ)) → AreTexts ts → IsListOf IsShort ts
-short_texts ts r = (omega (arith, r.few), All-weaker (λ t. length t ≤ 255) IsShort short_text ts r.short)
+pub short_texts : (ts : List (List ℕ)) → AreTexts ts → IsListWithin 64 IsShort ts
+short_texts ts r = ((omega (arith, r.few), All-weaker (λ t. length t ≤ 255) IsShort short_text ts r.short), r.few)
 
 side_whole : (z : ℤ) → is_side z ≡ true → IsWhole z
 side_whole (pos n) e = (grind (arith, ints, nat_tests), grind (arith, ints, nat_tests))
@@ -149,15 +150,32 @@ optional_short : (t : Option (List ℕ)) → All (λ u. length u ≤ 255) (optio
 optional_short None a = tt
 optional_short (Some t) a = short_text t (a 0 t (omega arith))
 
-pub loose : (p : FactParts) → IsKept p → IsLoose p
-loose p kept =
+-- facts without fault have bytes, whatever their cap is
+pub groups_right : (p : FactParts) → IsKept p → AreGroups (groups_of p) × (is_some p.w ≡ is_some p.h)
+groups_right p kept =
     let r = rules_of p kept.faultless in
     let size = size_sides p.w p.h r.size_right in
     let names : AreNames (names_of p) = ((short_text p.seat r.seat_size, short_text p.adomain r.adomain_size), short_texts p.cat r.cat_texts) in
-    let look : IsLook (look_of p) = ((size.0, (omega (arith, r.attr_few), whole_ints p.attr r.attr_positive kept.in_range.attr_range)), tt) in
+    let look : IsLook (look_of p) = ((size.0, ((omega (arith, r.attr_few), whole_ints p.attr r.attr_positive kept.in_range.attr_range), r.attr_few)), tt) in
     let money : IsMoney (money_of p) = ((kept.in_range.bid_range, short_texts p.deals r.deals_texts), kept.in_range.budget_range) in
     let creative : IsCreative (creative_of p) = ((omega (arith, r.adm_size), short_text p.crid r.crid_size), optional_short p.adid r.adid_size) in
-    record { groups = (((names, look), money), creative); sides = size.1 }
+    ((((names, look), money), creative), size.1)
+
+pub loose : (p : FactParts) → IsEncodable p → IsLoose p
+loose p e =
+    let right = groups_right p e.kept in
+    record { groups = right.0; sides = right.1; uncapped = e.uncapped }
+
+-- a cap changes nothing of what is known of facts
+pub kept_capped : (p : FactParts) (cap : Option CapTerms) → IsKept p → IsKept (with_cap cap p)
+kept_capped p cap k = record {
+  faultless = k.faultless;
+  whole_micros = k.whole_micros;
+  in_range = record { bid_range = k.in_range.bid_range; budget_range = k.in_range.budget_range; attr_range = k.in_range.attr_range };
+}
+
+pub encodable : (p : FactParts) → IsKept p → IsEncodable (without_cap p)
+encodable p k = record { kept = kept_capped p None k; uncapped = refl }
 
 pub optional_size : (t : Option (List ℕ)) → All (λ u. length u ≤ 255) (option_to_list t) → sum_by length (option_to_list t) ≤ 255
 optional_size None a = omega arith

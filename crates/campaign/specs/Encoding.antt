@@ -6,7 +6,7 @@ use Rattle.byte_fields.specs.Encodings.{four_bytes, eight_bytes, flag_bytes, tex
 use Rattle.campaign.specs.declared.parts.FactParts.{FactParts}
 use Rattle.campaign.specs.declared.decode.FactBytes.{FactBytes}
 use Rattle.campaign.specs.declared.decode.FactBytes.TheVariants.{Torn, Memory}
-use Rattle.campaign.specs.Kept.{IsKept, size_of}
+use Rattle.campaign.specs.Kept.{IsEncodable, size_of}
 
 -- a whole number of 32 bits, in four bytes
 abbrev pub int_bytes : ℤ → List ℕ
@@ -16,8 +16,8 @@ int_bytes z = four_bytes (cast_unsigned w32 z)
 abbrev pub sides_bytes : ℤ × ℤ → List ℕ
 sides_bytes s = int_bytes s.0 ++ int_bytes s.1
 
--- the fields one behind the other: the size as one or none, the bid in micro-dollars, the budget in
--- nano-dollars
+-- the fields one behind the other but for the cap: the size as one or none, the bid in micro-dollars, the
+-- budget in nano-dollars
 unfoldable pub facts_bytes : FactParts → List ℕ
 facts_bytes p = text_bytes p.seat
     ++ text_bytes p.adomain
@@ -32,9 +32,9 @@ facts_bytes p = text_bytes p.seat
     ++ text_bytes p.crid
     ++ option_bytes text_bytes p.adid
 
--- what is decoded at a place: facts whose bytes begin there, with the place behind them; torn at that
--- place where the bytes of no facts begin there
+-- what is decoded at a place: facts without a cap whose bytes begin there, with the place behind them; torn
+-- at that place where the bytes of no facts begin there
 abbrev pub IsDecoded : List ℕ → ℕ → Result (FactParts × ℕ) FactBytes → Type 0
-IsDecoded bytes place (Ok p) = IsReadAt IsKept facts_bytes bytes place (Some p)
-IsDecoded bytes place (Err (Torn at)) = (at ≡ place) × IsReadAt IsKept facts_bytes bytes place None
+IsDecoded bytes place (Ok p) = IsReadAt IsEncodable facts_bytes bytes place (Some p)
+IsDecoded bytes place (Err (Torn at)) = (at ≡ place) × IsReadAt IsEncodable facts_bytes bytes place None
 IsDecoded bytes place (Err Memory) = Unit {0}

@@ -2,7 +2,6 @@
 use Rattle.std.specs.Prelude.{ℕ, nat_le, ◌&&◌, List, [], ◌∷◌, ◌++◌, length, Bool, true, false, cond, Option, Some, None, Result, Ok, Err, ℤ, pos, int_le}
 use Rattle.std.specs.Option.{option_to_list}
 use Rattle.std.specs.List.{flat_map, enumerate_from}
-use Rattle.campaign.specs.declared.TheConstants.{MOST_ITEMS, LONGEST_TEXT, LONGEST_MARKUP, LONGEST_SIDE}
 use Rattle.campaign.specs.declared.field.CampField.{CampField}
 use Rattle.campaign.specs.declared.field.CampField.TheVariants.{Seat, Adomain, Cat, CatItem, Attr, AttrItem, Deals, DealsItem, Adm, Crid, Adid}
 use Rattle.campaign.specs.declared.parts.FactParts.{FactParts}
@@ -14,14 +13,14 @@ fault_unless right fault = cond right [] (fault ∷ [])
 
 -- 1 to 255 bytes
 abbrev pub is_text : List ℕ → Bool
-is_text text = nat_le 1 (length text) && nat_le (length text) LONGEST_TEXT
+is_text text = nat_le 1 (length text) && nat_le (length text) 255
 
 abbrev pub text_faults : CampField → List ℕ → List FactFault
 text_faults field text = fault_unless (is_text text) (TextLength field)
 
 -- at most 64 items
 abbrev pub is_list : {A : Type 0} → List A → Bool
-is_list xs = nat_le (length xs) MOST_ITEMS
+is_list xs = nat_le (length xs) 64
 
 -- of a list of texts: its length, and then each text with its place
 abbrev pub texts_faults : CampField → (ℕ → CampField) → List (List ℕ) → List FactFault
@@ -30,7 +29,7 @@ texts_faults field item texts = fault_unless (is_list texts) (ListLength field)
 
 -- a side of 1 to 32767 pixels, and both sides or none
 abbrev pub is_side : ℤ → Bool
-is_side z = int_le (pos 1) z && int_le z LONGEST_SIDE
+is_side z = int_le (pos 1) z && int_le z (pos 32767)
 
 abbrev pub is_size : Option ℤ → Option ℤ → Bool
 is_size None None = true
@@ -52,7 +51,7 @@ fact_faults p = text_faults Seat p.seat
     ++ attr_faults p.attr
     ++ fault_unless (nat_le 1 p.bid) BidZero
     ++ texts_faults Deals DealsItem p.deals
-    ++ fault_unless (nat_le (length p.adm) LONGEST_MARKUP) (TextLength Adm)
+    ++ fault_unless (nat_le (length p.adm) 65536) (TextLength Adm)
     ++ text_faults Crid p.crid
     ++ flat_map (text_faults Adid) (option_to_list p.adid)
 

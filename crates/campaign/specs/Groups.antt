@@ -1,8 +1,8 @@
 -- Cited by private functions alone: the bytes of facts in four groups of three fields.
-use Rattle.std.specs.Prelude.{◌≡◌, ℕ, ◌^◌, ◌≤◌, List, Bool, ℤ, pos, ◌≤ℤ◌, FitsSigned, Option, is_some, option_map}
+use Rattle.std.specs.Prelude.{◌≡◌, ℕ, ◌^◌, ◌≤◌, List, Bool, ℤ, pos, ◌≤ℤ◌, FitsSigned, Option, None, is_some, option_map}
 use Rattle.std.specs.Int.{w32}
 use Rattle.byte_fields.specs.Codes.{BothValid, both_bytes}
-use Rattle.byte_fields.specs.Encodings.{eight_bytes, IsFlag, flag_bytes, IsShort, text_bytes, IsOptionOf, option_bytes, IsListOf, list_bytes}
+use Rattle.byte_fields.specs.Encodings.{eight_bytes, IsFlag, flag_bytes, IsShort, text_bytes, IsOptionOf, option_bytes, IsListWithin, list_bytes}
 use Rattle.campaign.specs.declared.parts.FactParts.{FactParts}
 use Rattle.campaign.specs.Encoding.{int_bytes, sides_bytes}
 use Rattle.campaign.specs.Kept.{size_of}
@@ -13,6 +13,13 @@ IsWhole z = (pos 0 ≤ℤ z) × FitsSigned w32 z
 
 abbrev pub AreSides : ℤ × ℤ → Type 0
 AreSides = BothValid IsWhole IsWhole
+
+-- at most 64 texts, and at most 64 whole numbers
+abbrev pub AreTexts : List (List ℕ) → Type 0
+AreTexts = IsListWithin 64 IsShort
+
+abbrev pub AreInts : List ℤ → Type 0
+AreInts = IsListWithin 64 IsWhole
 
 -- micro-dollars and nano-dollars
 abbrev pub IsMicros : ℕ → Type 0
@@ -26,7 +33,7 @@ abbrev pub Names : Type 0
 Names = (List ℕ × List ℕ) × List (List ℕ)
 
 abbrev pub AreNames : Names → Type 0
-AreNames = BothValid (BothValid IsShort IsShort) (IsListOf IsShort)
+AreNames = BothValid (BothValid IsShort IsShort) AreTexts
 
 abbrev pub names_bytes : Names → List ℕ
 names_bytes = both_bytes (both_bytes text_bytes text_bytes) (list_bytes text_bytes)
@@ -36,7 +43,7 @@ abbrev pub Look : Type 0
 Look = (Option (ℤ × ℤ) × List ℤ) × Bool
 
 abbrev pub IsLook : Look → Type 0
-IsLook = BothValid (BothValid (IsOptionOf AreSides) (IsListOf IsWhole)) IsFlag
+IsLook = BothValid (BothValid (IsOptionOf AreSides) AreInts) IsFlag
 
 abbrev pub look_bytes : Look → List ℕ
 look_bytes = both_bytes (both_bytes (option_bytes sides_bytes) (list_bytes int_bytes)) flag_bytes
@@ -46,7 +53,7 @@ abbrev pub Money : Type 0
 Money = (ℕ × List (List ℕ)) × ℕ
 
 abbrev pub IsMoney : Money → Type 0
-IsMoney = BothValid (BothValid IsMicros (IsListOf IsShort)) IsNanos
+IsMoney = BothValid (BothValid IsMicros AreTexts) IsNanos
 
 abbrev pub money_bytes : Money → List ℕ
 money_bytes = both_bytes (both_bytes eight_bytes (list_bytes text_bytes)) eight_bytes
@@ -86,7 +93,7 @@ creative_of p = ((p.adm, p.crid), p.adid)
 abbrev pub groups_of : FactParts → Groups
 groups_of p = (((names_of p, look_of p), money_of p), creative_of p)
 
--- the parts of which these are the groups
+-- the parts without a cap of which these are the groups
 abbrev pub parts_from : Groups → FactParts
 parts_from (((((seat, adomain), cat), ((size, attr), secure)), ((bid, deals), budget)), ((adm, crid), adid)) = record {
   seat = seat;
@@ -102,9 +109,11 @@ parts_from (((((seat, adomain), cat), ((size, attr), secure)), ((bid, deals), bu
   adm = adm;
   crid = crid;
   adid = adid;
+  cap = None;
 }
 
--- parts whose bytes can be read, within the limits or not
+-- parts whose bytes can be read, within the limits of their texts and numbers or not
 pub record IsLoose (p : FactParts) : Type 0 where
   pub groups : AreGroups (groups_of p)
   pub sides : is_some p.w ≡ is_some p.h
+  pub uncapped : p.cap ≡ None

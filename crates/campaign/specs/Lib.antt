@@ -1,3 +1,4 @@
+pub mod Caps
 pub mod Encoding
 pub mod Faults
 pub mod Groups

@@ -49,7 +49,7 @@ fn text_fault(field: CampField, text: &Txt) -> Option<FactFault>
 
 // Whether a list may have so many items.
 fn is_few(items: usize) -> bool
-    ensures { result ≡ nat_le items MOST_ITEMS }
+    ensures { result ≡ nat_le items 64 }
 {
     items <= MOST_ITEMS
 }

@@ -73,6 +73,7 @@ fn copy_parts(parts: &FactParts) -> Result<FactParts, AllocError>
         adm: parts.adm.copy()?,
         crid: parts.crid.copy()?,
         adid: copy_optional(&parts.adid)?,
+        cap: parts.cap,
     })
 }
 

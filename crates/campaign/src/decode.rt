@@ -4,17 +4,16 @@ ghost use Rattle.byte_fields.specs.Codes.{IsReadAt};
 ghost use Rattle.byte_fields.specs.Encodings.{IsListOf, IsOptionOf, IsShort, eight_bytes, list_bytes, option_bytes, text_bytes};
 ghost use Rattle.campaign.specs.declared.decode.FactBytes.TheVariants.{Memory};
 ghost use Rattle.campaign.specs.Encoding.{IsDecoded, facts_bytes, int_bytes, sides_bytes};
-ghost use Rattle.campaign.specs.Groups.{AreGroups, AreNames, AreSides, IsCreative, IsLook, IsLoose, IsMicros, IsMoney, IsNanos, IsWhole, creative_bytes, groups_bytes, look_bytes, money_bytes, names_bytes, parts_from};
-ghost use Rattle.campaign.specs.Kept.{IsKept};
+ghost use Rattle.campaign.specs.Groups.{AreGroups, AreInts, AreNames, AreSides, IsCreative, IsLook, IsLoose, IsMicros, IsMoney, IsNanos, IsWhole, creative_bytes, groups_bytes, look_bytes, money_bytes, names_bytes, parts_from};
+ghost use Rattle.campaign.specs.Kept.{IsEncodable};
 
+use crate::MOST_ITEMS;
 use crate::facts::Facts;
+use crate::ints::{Ints, get_int};
 use crate::parts::FactParts;
-use byte_fields::{get_eight, get_flag, get_four, get_text, get_texts};
+use byte_fields::{Found, get_eight, get_flag, get_list, get_text, get_texts};
 use rtb_num::{List, Micros, Nanos, Txt};
 use std::alloc::{AllocError, Global};
-
-// What is read of a part, with the place behind it.
-type Found<T> = Result<Option<(T, usize)>, AllocError>;
 
 // `seat`, `adomain`, `cat`.
 type Names = ((Txt, Txt), List<Txt>);
@@ -47,7 +46,9 @@ impl From<AllocError> for FactBytes {
 
 impl Facts {
     /// The facts whose bytes begin at the place, counted from 0 and allowed past the end, and the place
-    /// behind them.
+    /// behind them. They have no cap, which is no part of the bytes.
+    ///
+    /// A list that counts more items than its limit is refused before memory is taken for it.
     pub fn decode(alloc: Global, bytes: &[u8], place: usize) -> Result<(Facts, usize), FactBytes>
         ensures { IsDecoded bytes.now place result }
     {
@@ -60,7 +61,7 @@ impl Facts {
 
 // The facts at the place.
 fn get_facts(alloc: Global, bytes: &[u8], place: usize) -> Found<Facts>
-    ensures { IfOk result (IsReadAt IsKept facts_bytes bytes.now place) }
+    ensures { IfOk result (IsReadAt IsEncodable facts_bytes bytes.now place) }
 {
     let Some((parts, next)) = get_parts(alloc, bytes, place)? else {
         return Ok(None);
@@ -110,6 +111,7 @@ fn parts_of(names: Names, look: Look, money: Money, creative: Creative) -> FactP
         adm,
         crid,
         adid,
+        cap: None,
     }
 }
 
@@ -144,7 +146,7 @@ fn get_names(alloc: Global, bytes: &[u8], place: usize) -> Found<Names>
     let Some((adomain, next)) = get_text(alloc, bytes, next)? else {
         return Ok(None);
     };
-    let Some((cat, next)) = get_texts(alloc, bytes, next)? else {
+    let Some((cat, next)) = get_texts(alloc, bytes, next, MOST_ITEMS)? else {
         return Ok(None);
     };
     Ok(Some((((seat, adomain), cat), next)))
@@ -171,7 +173,7 @@ fn get_money(alloc: Global, bytes: &[u8], place: usize) -> Found<Money>
     let Some((bid, next)) = get_micros(bytes, place) else {
         return Ok(None);
     };
-    let Some((deals, next)) = get_texts(alloc, bytes, next)? else {
+    let Some((deals, next)) = get_texts(alloc, bytes, next, MOST_ITEMS)? else {
         return Ok(None);
     };
     let Some((budget, next)) = get_nanos(bytes, next) else {
@@ -231,41 +233,9 @@ fn get_sides(bytes: &[u8], place: usize) -> Option<((i32, i32), usize)>
 
 // The list of whole numbers at the place.
 fn get_ints(alloc: Global, bytes: &[u8], place: usize) -> Found<List<i32>>
-    ensures { IfOk result (IsReadAt (IsListOf IsWhole) (list_bytes int_bytes) bytes.now place) }
+    ensures { IfOk result (IsReadAt AreInts (list_bytes int_bytes) bytes.now place) }
 {
-    let Some((count, next)) = get_four(bytes, place) else {
-        return Ok(None);
-    };
-    get_row(alloc, bytes, next, count as usize)
-}
-
-// So many whole numbers in a row.
-fn get_row(alloc: Global, bytes: &[u8], place: usize, count: usize) -> Found<List<i32>>
-    requires { place ≤ length bytes.now }
-    ensures { IfOk result (IsReadAt (λ ints. (length ints ≡ count) × All IsWhole ints) (flat_map int_bytes) bytes.now place) }
-{
-    let mut ints = List::new(alloc);
-    ints.reserve(count.min((bytes.len() - place) / 4))?;
-    let mut next = place;
-    for _ in 0..count {
-        let Some((n, behind)) = get_int(bytes, next) else {
-            return Ok(None);
-        };
-        ints.push(n)?;
-        next = behind;
-    }
-    Ok(Some((ints, next)))
-}
-
-// A whole number that is not negative.
-fn get_int(bytes: &[u8], place: usize) -> Option<(i32, usize)>
-    ensures { IsReadAt IsWhole int_bytes bytes.now place result }
-{
-    let (n, next) = get_four(bytes, place)?;
-    if n > i32::MAX as u32 {
-        return None;
-    }
-    Some((n as i32, next))
+    get_list::<Ints>(alloc, bytes, place, MOST_ITEMS)
 }
 
 fn get_micros(bytes: &[u8], place: usize) -> Option<(Micros, usize)>

@@ -5,13 +5,14 @@ ghost use Rattle.campaign.specs.Groups.{AreNames, AreSides, IsCreative, IsLook, 
 ghost use Rattle.campaign.specs.Kept.{IsKept};
 
 use crate::facts::Facts;
+use crate::ints::{Ints, put_int};
 use crate::parts::{FactParts, size_of};
-use byte_fields::{put_eight, put_flag, put_four, put_text, put_texts};
+use byte_fields::{put_eight, put_flag, put_list, put_text, put_texts};
 use rtb_num::Txt;
 use std::alloc::AllocError;
 
 impl Facts {
-    /// Appends its bytes. Where memory is refused the text stays as it was.
+    /// Appends its bytes, which leave the cap out. Where memory is refused the text stays as it was.
     pub fn encode(&self, out: &mut Txt) -> Result<(), AllocError>
         ensures ok { OnOk result (out.new ≡ out.old ++ facts_bytes self.now) }
         ensures err { OnErr result (out.new ≡ out.old) }
@@ -56,7 +57,7 @@ fn put_look(parts: &FactParts, out: &mut Txt) -> Result<(), AllocError>
     ensures front { (more : List ℕ) × (out.new ≡ out.old ++ more) }
 {
     put_size(size_of(parts), out)?;
-    put_ints(parts.attr.as_slice(), out)?;
+    put_list::<Ints>(parts.attr.as_slice(), out)?;
     put_flag(parts.secure, out)?;
     Ok(())
 }
@@ -114,25 +115,4 @@ fn put_size(size: Option<(i32, i32)>, out: &mut Txt) -> Result<(), AllocError>
         }
     }
     Ok(())
-}
-
-// Appends a list of whole numbers, or a front of it.
-fn put_ints(ints: &[i32], out: &mut Txt) -> Result<(), AllocError>
-    requires { IsListOf IsWhole ints.now }
-    ensures ok { OnOk result (out.new ≡ out.old ++ list_bytes int_bytes ints.now) }
-    ensures front { (more : List ℕ) × (out.new ≡ out.old ++ more) }
-{
-    put_four(ints.len() as u32, out)?;
-    for n in ints {
-        put_int(*n, out)?;
-    }
-    Ok(())
-}
-
-fn put_int(n: i32, out: &mut Txt) -> Result<(), AllocError>
-    requires { IsWhole n }
-    ensures ok { OnOk result (out.new ≡ out.old ++ int_bytes n) }
-    ensures err { OnErr result (out.new ≡ out.old) }
-{
-    put_four(n as u32, out)
 }

@@ -1,8 +1,9 @@
 ghost use Rattle.std.specs.Prelude.{◌≡◌, ◌%◌, ◌<◌, ◌≤◌};
 ghost use Rattle.std.specs.Option.{option_copied};
 ghost use Rattle.campaign.specs.Faults.{checked, fact_faults};
-ghost use Rattle.campaign.specs.Kept.{IsKept, size_of};
+ghost use Rattle.campaign.specs.Kept.{IsKept, size_of, with_cap};
 
+use crate::cap::Cap;
 use crate::check::first_fault;
 use crate::parts::{FactFault, FactParts, size_of};
 use rtb_num::{List, Micros, Nanos, Txt};
@@ -141,5 +142,21 @@ impl Facts {
         ensures { option_copied result ≡ self.now.adid }
     {
         self.parts.adid.as_ref()
+    }
+
+    /// How often one user is shown the campaign, or none where that is not bounded.
+    pub fn cap(&self) -> Option<Cap>
+        ensures { result ≡ self.now.cap }
+    {
+        self.parts.cap
+    }
+
+    /// The same facts with that cap.
+    pub fn with_cap(self, cap: Option<Cap>) -> Facts
+        ensures { result ≡ with_cap cap self }
+    {
+        let mut parts = self.parts;
+        parts.cap = cap;
+        Facts { parts }
     }
 }

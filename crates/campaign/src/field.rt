@@ -19,6 +19,9 @@ pub enum CampField {
     Adm,
     Crid,
     Adid,
+    Cap,
+    CapCount,
+    CapSeconds,
     Target,
     /// A conjunction of the target.
     Conjunction(usize),

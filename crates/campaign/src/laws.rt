@@ -2,17 +2,18 @@ ghost use Rattle.std.specs.Prelude.{◌≡◌, ℕ, ◌+◌, List, ◌++◌, len
 ghost use Rattle.byte_fields.specs.Codes.{IsCode, IsReadAt};
 ghost use Rattle.campaign.specs.declared.parts.FactParts.{FactParts};
 ghost use Rattle.campaign.specs.Encoding.{facts_bytes};
-ghost use Rattle.campaign.specs.Kept.{IsKept};
+ghost use Rattle.campaign.specs.Kept.{IsEncodable, IsKept, without_cap};
 
 /// The law of the ends, with nothing to run: no facts' bytes are a front of another's, so bytes that
-/// begin with facts have one reading.
+/// begin with facts have one reading, but for the cap, which they leave out.
 pub fn facts_tell_their_ends()
-    ensures { IsCode IsKept facts_bytes }
+    ensures uncapped { IsCode IsEncodable facts_bytes }
+    ensures capped { (p q : FactParts) (s t : List ℕ) → IsKept p → IsKept q → facts_bytes p ++ s ≡ facts_bytes q ++ t → (without_cap p ≡ without_cap q) × (s ≡ t) }
 {}
 
 /// The law of reading again, with nothing to run: whatever is read at the place where facts were put,
-/// between any bytes, is these facts, and the place behind them.
+/// between any bytes, is these facts but for their cap, and the place behind them.
 pub fn encoded_facts_are_read_again()
     ensures { (front back : List ℕ) (p : FactParts) (found : Option (FactParts × ℕ)) → IsKept p
-        → IsReadAt IsKept facts_bytes ((front ++ facts_bytes p) ++ back) (length front) found → found ≡ Some (p, length front + length (facts_bytes p)) }
+        → IsReadAt IsEncodable facts_bytes ((front ++ facts_bytes p) ++ back) (length front) found → found ≡ Some (without_cap p, length front + length (facts_bytes p)) }
 {}

@@ -1,21 +1,25 @@
 //! What an advertiser states of a campaign: facts within limits, and their bytes.
 //!
 //! `specs/Faults.antt` has the faults in the order of the fields, `specs/Kept.antt` what is known of all
-//! facts, `specs/Encoding.antt` their bytes, and `specs/Paths.antt` how the path of a field is written.
+//! facts, `specs/Caps.antt` how often one user is shown a campaign, `specs/Encoding.antt` the bytes of
+//! facts, and `specs/Paths.antt` how the path of a field is written.
 #![tactic(auto)]
 
+mod cap;
 mod check;
 mod copy;
 mod decode;
 mod encode;
 mod facts;
 mod field;
+mod ints;
 mod laws;
 mod parts;
 mod path;
 #[cfg(test)]
 mod tests;
 
+pub use cap::{Cap, MOST_SECONDS, MOST_TIMES};
 pub use decode::FactBytes;
 pub use facts::Facts;
 pub use field::CampField;

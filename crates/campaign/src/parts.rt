@@ -1,6 +1,7 @@
 ghost use Rattle.std.specs.Prelude.{◌≡◌};
 ghost use Rattle.campaign.specs.Kept.{size_of};
 
+use crate::cap::Cap;
 use crate::field::CampField;
 use rtb_num::{List, Micros, Nanos, Txt};
 
@@ -32,6 +33,8 @@ pub struct FactParts {
     pub crid: Txt,
     /// Identifier of the preloaded ad.
     pub adid: Option<Txt>,
+    /// How often one user is shown the campaign.
+    pub cap: Option<Cap>,
 }
 
 /// Why parts are no facts. The first in the order of the fields is answered.

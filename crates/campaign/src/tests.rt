@@ -99,6 +99,7 @@ fn bare(alloc: Global, bid: Micros, budget: Nanos) -> FactParts {
         adm: Txt::new(alloc),
         crid: Txt::new(alloc),
         adid: None,
+        cap: None,
     }
 }
 

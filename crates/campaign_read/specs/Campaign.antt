@@ -12,6 +12,7 @@ use Rattle.target_expr.specs.declared.pred.Pred.{Pred}
 use Rattle.target_expr.specs.Kept.{faults, kept}
 use Rattle.campaign_read.specs.declared.fault.CampFault.{CampFault}
 use Rattle.campaign_read.specs.declared.lists.ListField.{ListField}
+use Rattle.campaign_read.specs.Cap.{cap_faults, cap_from}
 use Rattle.campaign_read.specs.Parts.{amount_faults, amount_from, attr_bounds, faults_at, list_faults, list_from, side_faults, side_from, text_faults, text_from}
 use Rattle.campaign_read.specs.Target.{target_faults, target_from}
 
@@ -30,6 +31,7 @@ parts_faults t = text_faults CampField.Seat (codes "seat") t
     ++ text_faults CampField.Adm (codes "adm") t
     ++ text_faults CampField.Crid (codes "crid") t
     ++ faults_at CampField.Adid (optional as_text (present (codes "adid") t))
+    ++ cap_faults t
 
 -- the fields; the budget in nano-dollars
 unfoldable pub parts_from : Tree → FactParts
@@ -47,6 +49,7 @@ parts_from t = record {
   adm = text_from (codes "adm") t;
   crid = text_from (codes "crid") t;
   adid = value_or None (optional as_text (present (codes "adid") t));
+  cap = cap_from t;
 }
 
 -- the fault that an expression's is, which private clauses cite

@@ -1,3 +1,4 @@
 pub mod Parts
+pub mod Cap
 pub mod Target
 pub mod Campaign

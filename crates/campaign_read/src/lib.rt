@@ -6,6 +6,7 @@
 #![tactic(auto)]
 
 mod body;
+mod cap;
 mod fault;
 mod lists;
 mod parts;

@@ -7,6 +7,7 @@ ghost use Rattle.json_fields.specs.Fields.{as_flag, as_text, optional, or_absent
 ghost use Rattle.campaign_read.specs.Campaign.{parts_faults, parts_from};
 ghost use Rattle.campaign_read.specs.Parts.{amount_faults, amount_from, fault_of, faults_at, side_faults, side_from, text_faults, text_from};
 
+use crate::cap::cap_field;
 use crate::fault::CampFault;
 use crate::lists::{ListField, attr_field, texts_field};
 use campaign::{CampField, FactParts};
@@ -44,7 +45,7 @@ pub(crate) fn text_field(object: &Value, name: &[u8], field: CampField) -> Resul
     }
 }
 
-fn copied(text: Option<&Txt>) -> Result<Option<Txt>, AllocError>
+fn copy_of(text: Option<&Txt>) -> Result<Option<Txt>, AllocError>
     ensures { IfOk result (λ t. t ≡ option_map (λ s. s.now) text.entry) }
 {
     match text {
@@ -57,7 +58,7 @@ fn adid_field(body: &Value) -> Result<Option<Txt>, CampFault>
     ensures { Answers CampFault.Memory (faults_at CampField.Adid (optional as_text (present (codes "adid") (tree_of body.now)))) (value_or None (optional as_text (present (codes "adid") (tree_of body.now)))) result }
 {
     match fields::text(body, b"adid") {
-        Ok(found) => Ok(copied(found)?),
+        Ok(found) => Ok(copy_of(found)?),
         Err(flaw) => Err(fault(CampField::Adid, flaw)),
     }
 }
@@ -116,6 +117,7 @@ pub(crate) fn parts_in(alloc: Global, body: &Value) -> Result<FactParts, CampFau
     let adm = text_field(body, b"adm", CampField::Adm)?;
     let crid = text_field(body, b"crid", CampField::Crid)?;
     let adid = adid_field(body)?;
+    let cap = cap_field(body)?;
     Ok(FactParts {
         seat,
         adomain,
@@ -130,5 +132,6 @@ pub(crate) fn parts_in(alloc: Global, body: &Value) -> Result<FactParts, CampFau
         adm,
         crid,
         adid,
+        cap,
     })
 }

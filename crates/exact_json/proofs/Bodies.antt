@@ -61,11 +61,13 @@ unfolding body_at pieces_at
 body_quote high s c rest e ec = ap (body_at high) (e ∙ ap (λ k. k ∷ rest) ec)
 
 -- a piece and the rest of the body
-body_turn : (high : Option ℕ) (c : ℕ) (s : List ℕ) → c ≢ 34 → body_at high (c ∷ s) ≡ mapped (text_behind high) (mapped (λ (r : Piece × List Piece). r.0 ∷ r.1) (piece_at (c ∷ s) >>= λ x rest. with_first x (pieces_at (length (c ∷ s)) rest)))
+body_turn : (high : Option ℕ) (c : ℕ) (s : List ℕ) → c ≢ 34
+    → body_at high (c ∷ s) ≡ mapped (text_behind high) (mapped (λ (r : Piece × List Piece). r.0 ∷ r.1) (piece_at (c ∷ s) >>= λ x rest. with_first x (pieces_at (length (c ∷ s)) rest)))
 unfolding body_at pieces_at
 body_turn high c s ne = ap (mapped (text_behind high)) (off (c == 34) _ _ (is_other c 34 ne))
 
-pub body_step : (high : Option ℕ) (c : ℕ) (s : List ℕ) (p : Piece) (rest : List ℕ) → c ≢ 34 → piece_at (c ∷ s) ≡ done p rest → body_at high (c ∷ s) ≡ mapped (λ ps. text_behind high (p ∷ ps)) (pieces_at (suc (length rest)) rest)
+pub body_step : (high : Option ℕ) (c : ℕ) (s : List ℕ) (p : Piece) (rest : List ℕ) → c ≢ 34 → piece_at (c ∷ s) ≡ done p rest
+    → body_at high (c ∷ s) ≡ mapped (λ ps. text_behind high (p ∷ ps)) (pieces_at (suc (length rest)) rest)
 body_step high c s p rest ne e =
     let lt : length rest < length (c ∷ s) = piece_shorter (c ∷ s) p rest e in
     body_turn high c s ne
@@ -76,7 +78,8 @@ body_step high c s p rest ne e =
 
 pub body_fails : (high : Option ℕ) (c : ℕ) (s : List ℕ) (e : Stop) → c ≢ 34 → Fails e (piece_at (c ∷ s)) → Fails e (body_at high (c ∷ s))
 body_fails high c s e ne f =
-    fails_along e _ _ (body_turn high c s ne) (mapped_fails (text_behind high) e _ (mapped_fails (λ (r : Piece × List Piece). r.0 ∷ r.1) e _ (bound_fails (λ x rest. with_first x (pieces_at (length (c ∷ s)) rest)) e _ f)))
+    fails_along e _ _ (body_turn high c s ne) (mapped_fails (text_behind high) e _ (mapped_fails (λ (r : Piece × List Piece). r.0 ∷ r.1) e _ (bound_fails
+    (λ x rest. with_first x (pieces_at (length (c ∷ s)) rest)) e _ f)))
 
 -- an unescaped character
 special_not : (c : ℕ) → is_special c ≡ false → (c ≢ 34) × (c ≢ 92)
@@ -131,7 +134,8 @@ char_read c s rest ne e =
     let (word, (l, ew), eb, sole) = subst (Right Any (λ x w. IsCharacter w × (x ≡ w)) (c ∷ s)) es (follow_right c s) in
     at c s rest ne w word l ew eb es
   where
-    at : (c : ℕ) (s rest : List ℕ) → c ≢ 92 → (w word : List ℕ) → IsCharacter word → w ≡ word → c ∷ s ≡ word ++ rest → follow_at (followers c) c s ≡ done w rest → (x : List ℕ) × (c ∷ s ≡ (c ∷ x) ++ rest) × (piece_at (c ∷ s) ≡ done (character (c ∷ x)) rest)
+    at : (c : ℕ) (s rest : List ℕ) → c ≢ 92 → (w word : List ℕ) → IsCharacter word → w ≡ word → c ∷ s ≡ word ++ rest → follow_at (followers c) c s ≡ done w rest
+        → (x : List ℕ) × (c ∷ s ≡ (c ∷ x) ++ rest) × (piece_at (c ∷ s) ≡ done (character (c ∷ x)) rest)
     at c s rest ne w [] l ew eb es = absurd l
     at c s rest ne w (d ∷ x) l ew eb es =
         let same : d ≡ c = sym (first c d s (x ++ rest) eb) in
@@ -147,7 +151,8 @@ Ran bytes left = (w : List ℕ) × (bytes ≡ w ++ left) × ((high : Option ℕ)
 pub ran_none : (bytes : List ℕ) → Ran bytes bytes
 ran_none bytes = ([], refl, λ high. refl)
 
-body_char : (high : Option ℕ) (c : ℕ) (s x rest : List ℕ) → c ≢ 34 → piece_at (c ∷ s) ≡ done (character (c ∷ x)) rest → body_at high (c ∷ s) ≡ mapped (λ t. alone high ++ (c ∷ x ++ t)) (body_at None rest)
+body_char : (high : Option ℕ) (c : ℕ) (s x rest : List ℕ) → c ≢ 34 → piece_at (c ∷ s) ≡ done (character (c ∷ x)) rest
+    → body_at high (c ∷ s) ≡ mapped (λ t. alone high ++ (c ∷ x ++ t)) (body_at None rest)
 unfolding body_at
 body_char high c s x rest ne e = body_step high c s (character (c ∷ x)) rest ne e ∙ sym (fused (λ t. alone high ++ (c ∷ x ++ t)) (text_behind None) (pieces_at (suc (length rest)) rest))
 
@@ -212,7 +217,8 @@ kept total old new high h left run rest same er pushed = same ∙ ap (mapped (λ
 pub kept_short : (total : Outcome (List ℕ)) (new : List ℕ) (h : Option ℕ) (rest : List ℕ) → total ≡ mapped (λ t. new ++ t) (body_at h rest) → rest ≡ [] → total ≡ short
 kept_short total new h rest same e = same ∙ ap (mapped (λ t. new ++ t)) (body_short h rest e)
 
-pub kept_quote : (total : Outcome (List ℕ)) (new last : List ℕ) (h : Option ℕ) (rest : List ℕ) (c : ℕ) (after : List ℕ) → total ≡ mapped (λ t. new ++ t) (body_at h rest) → rest ≡ c ∷ after → c ≡ 34 → last ≡ new ++ alone h → total ≡ done last after
+pub kept_quote : (total : Outcome (List ℕ)) (new last : List ℕ) (h : Option ℕ) (rest : List ℕ) (c : ℕ) (after : List ℕ)
+    → total ≡ mapped (λ t. new ++ t) (body_at h rest) → rest ≡ c ∷ after → c ≡ 34 → last ≡ new ++ alone h → total ≡ done last after
 kept_quote total new last h rest c after same e ec el = same ∙ ap (mapped (λ t. new ++ t)) (body_quote h rest c after e ec) ∙ ap (λ k. done k after) (sym el)
 
 backslash_of : (c : ℕ) → is_special c ≡ true → c ≢ 34 → c ≡ 92
@@ -226,12 +232,14 @@ escape_piece : (c : ℕ) (s : List ℕ) → c ≡ 92 → piece_at (c ∷ s) ≡ 
 unfolding piece_at
 escape_piece c s e = ap (λ k. piece_at (k ∷ s)) e
 
-pub kept_fails : (total : Outcome (List ℕ)) (new : List ℕ) (h : Option ℕ) (rest : List ℕ) (c : ℕ) (after : List ℕ) (e : Stop) → total ≡ mapped (λ t. new ++ t) (body_at h rest) → rest ≡ c ∷ after → EndsRun rest → c ≢ 34 → Fails e (escape_at after) → Fails e total
+pub kept_fails : (total : Outcome (List ℕ)) (new : List ℕ) (h : Option ℕ) (rest : List ℕ) (c : ℕ) (after : List ℕ) (e : Stop)
+    → total ≡ mapped (λ t. new ++ t) (body_at h rest) → rest ≡ c ∷ after → EndsRun rest → c ≢ 34 → Fails e (escape_at after) → Fails e total
 kept_fails total new h rest c after e same er ends ne f =
     fails_along e _ _ (same ∙ ap (λ k. mapped (λ t. new ++ t) (body_at h k)) er)
     (mapped_fails (λ t. new ++ t) e _ (body_fails h c after e ne (fails_along e _ _ (escape_piece c after (backslash rest c after er ends ne)) f)))
 
-pub kept_more : (total : Outcome (List ℕ)) (new later : List ℕ) (h g : Option ℕ) (rest : List ℕ) (c : ℕ) (after again : List ℕ) (p : Piece) → total ≡ mapped (λ t. new ++ t) (body_at h rest) → rest ≡ c ∷ after → EndsRun rest → c ≢ 34
+pub kept_more : (total : Outcome (List ℕ)) (new later : List ℕ) (h g : Option ℕ) (rest : List ℕ) (c : ℕ) (after again : List ℕ) (p : Piece)
+    → total ≡ mapped (λ t. new ++ t) (body_at h rest) → rest ≡ c ∷ after → EndsRun rest → c ≢ 34
     → escape_at after ≡ done p again → ((ps : List Piece) → later ++ text_behind g ps ≡ new ++ text_behind h (p ∷ ps)) → total ≡ mapped (λ t. later ++ t) (body_at g again)
 unfolding body_at
 kept_more total new later h g rest c after again p same er ends ne ee pushed =
@@ -249,14 +257,17 @@ escape_two c s e = off (c == 117) _ _ (no_unit c e) ∙ on (is_escape c) _ _ e
     no_unit c e = grind (arith, nat_tests)
 
 -- an escape of two bytes
-pub two_more : (new old later left bytes : List ℕ) (d : ℕ) (after : List ℕ) (c : ℕ) (rest : List ℕ) → mapped (λ t. new ++ t) (body_at None left) ≡ mapped (λ t. old ++ t) (body_at None bytes) → left ≡ d ∷ after → d ≡ 92 → after ≡ c ∷ rest → is_escape c ≡ true → later ≡ new ++ escaped c ∷ []
+pub two_more : (new old later left bytes : List ℕ) (d : ℕ) (after : List ℕ) (c : ℕ) (rest : List ℕ)
+    → mapped (λ t. new ++ t) (body_at None left) ≡ mapped (λ t. old ++ t) (body_at None bytes) → left ≡ d ∷ after → d ≡ 92 → after ≡ c ∷ rest → is_escape c ≡ true
+    → later ≡ new ++ escaped c ∷ []
     → mapped (λ t. later ++ t) (body_at None rest) ≡ mapped (λ t. old ++ t) (body_at None bytes)
 unfolding body_at
 two_more new old later left bytes d after c rest same ed e92 ea ee et =
     let el : left ≡ 92 ∷ c ∷ rest = ed ∙ ap (λ k. k ∷ after) e92 ∙ ap (λ k. 92 ∷ k) ea in
     ap (λ k. mapped (λ t. k ++ t) (body_at None rest)) et
     ∙ fused (λ t. (new ++ escaped c ∷ []) ++ t) (text_behind None) (pieces_at (suc (length rest)) rest)
-    ∙ alike (λ ps. (new ++ escaped c ∷ []) ++ text_behind None ps) (λ ps. new ++ text_behind None (escape c ∷ ps)) (λ ps. append_assoc new (escaped c ∷ []) (text_behind None ps)) (pieces_at (suc (length rest)) rest)
+    ∙ alike (λ ps. (new ++ escaped c ∷ []) ++ text_behind None ps) (λ ps. new ++ text_behind None (escape c ∷ ps))
+    (λ ps. append_assoc new (escaped c ∷ []) (text_behind None ps)) (pieces_at (suc (length rest)) rest)
     ∙ sym (fused (λ t. new ++ t) (λ ps. text_behind None (escape c ∷ ps)) (pieces_at (suc (length rest)) rest))
     ∙ ap (mapped (λ t. new ++ t)) (sym (body_step None 92 (c ∷ rest) (escape c) rest no_quote (escape_piece 92 (c ∷ rest) refl ∙ escape_two c rest ee)))
     ∙ ap (λ k. mapped (λ t. new ++ t) (body_at None k)) (sym el)

@@ -3,13 +3,12 @@ use Rattle.std.proofs.Common.{◌≡◌, ℕ, zero, suc, List, [], ◌∷◌, Bo
 use Rattle.std.specs.List.{All}
 use Rattle.std.specs.Str.{bytes_eq}
 use Rattle.std.proofs.lemmas.List.Elements.{All-nil, All-cons}
-use Rattle.exact_json.specs.Numbers.{is_number}
+use Rattle.rtb_num.specs.Numbers.{is_number}
 use Rattle.exact_json.specs.Tree.{Tree, null, boolean, number, string, array, object, Trees, no_trees, tree, Pairs, no_pairs, pair, later_or, get_pair, get}
 use Rattle.exact_json.specs.View.{trees_from, pairs_from, tree_of}
 use Rattle.exact_json.specs.declared.value.Value.{Value}
 use Rattle.exact_json.specs.Grammar.{Spells, SpellsItems, SpellsMoreItems, SpellsMembers, SpellsMoreMembers, IsTextWithin}
 use Rattle.exact_json.specs.Forms.{numbers_formed, all_formed, members_formed, HasForms, nests, all_nest, members_nest, NestsWithin}
-use Rattle.exact_json.proofs.NumberForm.{number_passes}
 
 both : (a b : Bool) → a ≡ true → b ≡ true → (a && b) ≡ true
 both true b p q = q
@@ -30,7 +29,7 @@ mutual
   pub forms : (t : Tree) (d : ℕ) (w : List ℕ) → Spells d t w → HasForms t
   forms null d w h = refl
   forms (boolean b) d w h = refl
-  forms (number x) d w (h, e) = ap is_number e ∙ number_passes w h
+  forms (number x) d w (h, e) = ap is_number e ∙ h
   forms (string s) d w h = refl
   forms (array ts) zero w h = absurd h
   forms (array ts) (suc d) w (b, (sp, r, p, h, es), e) = items_formed ts d r h
@@ -102,7 +101,8 @@ if_some false t h = tt
 pair_formed : (name : List ℕ) (ps : Pairs) → members_formed ps ≡ true → IfSome (get_pair name ps) HasForms
 pair_formed name no_pairs h = tt
 pair_formed name (pair k t ps) h =
-    later_formed (get_pair name ps) (cond (bytes_eq k name) (Some t) None) (pair_formed name ps (second (numbers_formed t) (members_formed ps) h)) (if_some (bytes_eq k name) t (first (numbers_formed t) (members_formed ps) h))
+    later_formed (get_pair name ps) (cond (bytes_eq k name) (Some t) None) (pair_formed name ps (second (numbers_formed t) (members_formed ps) h)) (if_some
+    (bytes_eq k name) t (first (numbers_formed t) (members_formed ps) h))
 
 pub get_formed : (name : List ℕ) (t : Tree) → HasForms t → IfSome (get name t) HasForms
 get_formed name null h = tt

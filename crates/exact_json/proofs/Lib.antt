@@ -16,3 +16,4 @@ pub mod Bodies
 pub mod Loop
 pub mod Known
 pub mod OneFault
+pub mod PlaceLaws

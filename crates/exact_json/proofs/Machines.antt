@@ -28,7 +28,8 @@ completed : (D : ℕ → Type 0) {Q : Type 0} (next : Q → ℕ → Option Q) (e
 completed D next ends m q = let (w, e) = m.completes q in (w, w, (e, refl))
 
 -- a word that begins with a byte that leads on
-led : (D : ℕ → Type 0) {Q : Type 0} (next : Q → ℕ → Option Q) (ends : Q → Bool) → IsMachine D next ends → (q r : Q) (c : ℕ) (b m t : List ℕ) → next q c ≡ Some r → accepts next ends q b ≡ true → Fits D t → c ∷ m ≡ b ++ t
+led : (D : ℕ → Type 0) {Q : Type 0} (next : Q → ℕ → Option Q) (ends : Q → Bool) → IsMachine D next ends → (q r : Q) (c : ℕ) (b m t : List ℕ) → next q c ≡ Some r
+    → accepts next ends q b ≡ true → Fits D t → c ∷ m ≡ b ++ t
     → (b' : List ℕ) × (b ≡ c ∷ b') × (accepts next ends r b' ≡ true) × (m ≡ b' ++ t)
 led D next ends h q r c [] m [] en eb fit e = no_cons c m (sym e)
 led D next ends h q r c [] m (d ∷ t) en eb fit e = some_none (next q c) r en (ap (next q) (heads c d m t e) ∙ h.delimited q d eb fit)
@@ -87,7 +88,8 @@ scan_right D next ends h [] q =
     nothing (c ∷ b) t e = no_cons c (b ++ t) e
 scan_right D next ends h (c ∷ s) q = at D next ends h c s q (next q c) refl (λ r. scan_right D next ends h s r)
   where
-    at : (D : ℕ → Type 0) {Q : Type 0} (next : Q → ℕ → Option Q) (ends : Q → Bool) → IsMachine D next ends → (c : ℕ) (s : List ℕ) (q : Q) (o : Option Q) → next q c ≡ o → ((r : Q) → Right D (Accepted next ends r) s (scan next ends r s))
+    at : (D : ℕ → Type 0) {Q : Type 0} (next : Q → ℕ → Option Q) (ends : Q → Bool) → IsMachine D next ends → (c : ℕ) (s : List ℕ) (q : Q) (o : Option Q)
+        → next q c ≡ o → ((r : Q) → Right D (Accepted next ends r) s (scan next ends r s))
         → Right D (Accepted next ends q) (c ∷ s) (elim o [ None ↦ cond (ends q) (done [] (c ∷ s)) (stops (c ∷ s)) | Some r ↦ mapped (λ w. c ∷ w) (scan next ends r s) ])
     at D next ends h c s q (Some r) en k = stepped D next ends h q r c s en (scan next ends r s) (k r)
     at D next ends h c s q None en k =

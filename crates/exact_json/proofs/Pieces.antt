@@ -20,7 +20,8 @@ passing [] h = ([], [], (refl, refl))
 passing (p ∷ ps) (c, e, h) = let (w, x, (l, ex)) = passing ps h in (c ∷ w, c ∷ w, ((e, l), refl))
 
 -- a word is one byte and a word of the other tests
-passing_cons : (p : ℕ → Bool) (ps : List (ℕ → Bool)) (c : ℕ) (m y b t : List ℕ) → Passing (p ∷ ps) y b → c ∷ m ≡ b ++ t → (p c ≡ true) × (b' : List ℕ) × (y ≡ c ∷ b') × (b ≡ c ∷ b') × Passes ps b' × (m ≡ b' ++ t)
+passing_cons : (p : ℕ → Bool) (ps : List (ℕ → Bool)) (c : ℕ) (m y b t : List ℕ) → Passing (p ∷ ps) y b → c ∷ m ≡ b ++ t
+    → (p c ≡ true) × (b' : List ℕ) × (y ≡ c ∷ b') × (b ≡ c ∷ b') × Passes ps b' × (m ≡ b' ++ t)
 passing_cons p ps c m y [] t (h, ey) e = absurd h
 passing_cons p ps c m y (d ∷ b) t (h, ey) e =
     let same = heads c d m (b ++ t) e in
@@ -39,7 +40,8 @@ passes_right (p ∷ ps) h [] = ended_right Any (Passing (p ∷ ps)) (passing (p 
     filled p ps x (c ∷ w) (l, e) = (c, w, refl)
 passes_right (p ∷ ps) h (c ∷ s) =
     by_test (Right Any (Passing (p ∷ ps)) (c ∷ s)) (p c) (mapped (λ w. c ∷ w) (passes_at ps s)) (stops (c ∷ s))
-    (λ e. mapped_right Any (λ x. After c (Passing ps x)) (Passing (p ∷ ps)) (λ w. c ∷ w) c s (into p ps c e) (back p ps c) (passes_at ps s) (after_right Any (Passing ps) c s (passes_at ps s) (passes_right ps h.2 s)))
+    (λ e. mapped_right Any (λ x. After c (Passing ps x)) (Passing (p ∷ ps))
+    (λ w. c ∷ w) c s (into p ps c e) (back p ps c) (passes_at ps s) (after_right Any (Passing ps) c s (passes_at ps s) (passes_right ps h.2 s)))
     (λ e. wrong_right Any (Passing (p ∷ ps)) c s (passing (p ∷ ps) h) (λ y w more rest l eq. not_both (p c) (passing_cons p ps c more y w rest l eq).0 e))
   where
     into : (p : ℕ → Bool) (ps : List (ℕ → Bool)) (c : ℕ) → p c ≡ true → (x w : List ℕ) → After c (Passing ps x) w → Passing (p ∷ ps) (c ∷ x) w
@@ -203,7 +205,9 @@ pieces_right (suc n) (c ∷ s) lt =
     (λ e. one_right Any SpellsPieces [] c s (ap (λ k. k ∷ []) (is_true c 34 e)) (quote c (is_true c 34 e)))
     (λ ne. mapped_right Any (Both SpellsPiece SpellsPieces) SpellsPieces (λ (p : Piece × List Piece). p.0 ∷ p.1) c s (λ p w l. l) (split c ne)
     (in_turn piece_at (pieces_at n) (c ∷ s))
-    (in_turn_right_of Any Any SpellsPiece SpellsPieces (λ ps w l. let (d, b, e) = pieces_filled ps w l in (d, b, e, tt)) [] (34 ∷ []) refl (c ∷ s) piece_at (pieces_at n) (piece_right (c ∷ s)) (λ x word r l e. pieces_right n r (fewer x word r (c ∷ s) n l e lt))))
+    (in_turn_right_of Any Any SpellsPiece SpellsPieces
+    (λ ps w l. let (d, b, e) = pieces_filled ps w l in (d, b, e, tt)) [] (34 ∷ []) refl (c ∷ s) piece_at (pieces_at n) (piece_right (c ∷ s))
+    (λ x word r l e. pieces_right n r (fewer x word r (c ∷ s) n l e lt))))
   where
     quote : (c : ℕ) → c ≡ 34 → (ps : List Piece) (w more rest : List ℕ) → SpellsPieces ps w → c ∷ more ≡ w ++ rest → ◌≡◌ {A = List Piece} ps [] × (w ≡ c ∷ [])
     quote c e [] w more rest l eq = (refl, l ∙ ap (λ k. k ∷ []) (sym e))
@@ -227,4 +231,5 @@ quoted_right [] = quoted [] (pieces_at 1 []) (pieces_right 1 [] (omega arith))
         nothing (d ∷ front) c after e = no_cons d (front ++ c ∷ after) e
     quoted s short ((more, ps, l), none) = ((more, text_of ps, (ps, refl, l)), λ y w rest (qs, ey, m) fit e. none qs w rest m fit e)
 quoted_right (c ∷ s) =
-    mapped_right Any SpellsPieces Quoted text_of c s (λ ps w l. (ps, refl, l)) (λ y w more rest (ps, ey, l) eq. (ps, l, ey)) (pieces_at (suc (length (c ∷ s))) (c ∷ s)) (pieces_right (suc (length (c ∷ s))) (c ∷ s) (omega arith))
+    mapped_right Any SpellsPieces Quoted text_of c s (λ ps w l. (ps, refl, l))
+    (λ y w more rest (ps, ey, l) eq. (ps, l, ey)) (pieces_at (suc (length (c ∷ s))) (c ∷ s)) (pieces_right (suc (length (c ∷ s))) (c ∷ s) (omega arith))

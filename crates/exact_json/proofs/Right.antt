@@ -59,7 +59,8 @@ fits_both : (D : ℕ → Type 0) {A : Type 0} (M : A → List ℕ → Type 0) �
 fits_both D M delimits x b t m = let (c, b', e, del) = delimits x b m in subst (Fits D) (ap (λ k. k ++ t) (sym e)) del
 
 -- after a whole first word
-after_first : (D E : ℕ → Type 0) {A B : Type 0} → (L : A → List ℕ → Type 0) (M : B → List ℕ → Type 0) → Delimits D M → (s : List ℕ) (x : A) (word rest : List ℕ) → L x word → s ≡ word ++ rest → Sole D L x word rest
+after_first : (D E : ℕ → Type 0) {A B : Type 0} → (L : A → List ℕ → Type 0) (M : B → List ℕ → Type 0) → Delimits D M → (s : List ℕ) (x : A) (word rest : List ℕ)
+    → L x word → s ≡ word ++ rest → Sole D L x word rest
     → (o : Outcome B) → Right E M rest o → Right E (Both L M) s (mapped (λ y. (x, y)) o)
 after_first D E L M delimits s x word rest l e sole (done y last) (w2, m, e2, sole2) =
     (word ++ w2, (word, w2, l, m, refl), e ∙ ap (λ t. word ++ t) e2 ∙ sym (append_assoc word w2 last), both D E L M delimits x y word rest l sole last w2 e2 sole2)
@@ -74,7 +75,8 @@ after_first D E L M delimits s x word rest l e sole (done y last) (w2, m, e2, so
         (pairs p x y same.0 later.0, ew ∙ joined a b word w2 same.1 later.1)
     both D E L M delimits x y word rest l sole (c ∷ after) w2 e2 sole2 = λ p w more t (a, b, la, mb, ew) fit eq.
         let split : word ++ (w2 ++ c ∷ more) ≡ a ++ (b ++ t) = sym (append_assoc word w2 (c ∷ more)) ∙ eq ∙ ap (λ k. k ++ t) ew ∙ append_assoc a b t in
-        let same = same_split D L x word rest sole p.0 a (w2 ++ c ∷ more) (b ++ t) la (fits_both D M delimits p.1 b t mb) split (λ h tail er. head_of w2 c after more h tail (sym e2 ∙ er)) (λ er. not_empty w2 c after (sym e2 ∙ er)) in
+        let same = same_split D L x word rest sole p.0 a (w2 ++ c ∷ more) (b ++ t) la (fits_both D M delimits p.1 b t mb) split
+        (λ h tail er. head_of w2 c after more h tail (sym e2 ∙ er)) (λ er. not_empty w2 c after (sym e2 ∙ er)) in
         let later = sole2 p.1 b more t mb fit same.2 in
         (pairs p x y same.0 later.0, ew ∙ joined a b word w2 same.1 later.1)
 after_first D E L M delimits s x word rest l e sole (stops from) (front, c, after, e2, ef, (more, y, m), clash) = (
@@ -85,7 +87,8 @@ after_first D E L M delimits s x word rest l e sole (stops from) (front, c, afte
   ef,
   (more, (x, y), (word, front ++ more, l, m, append_assoc word front more)),
   λ p w more' rest' (a, b, la, mb, ew) fit eq.
-      let split : word ++ ((front ++ c ∷ []) ++ more') ≡ a ++ (b ++ rest') = sym (append_assoc word (front ++ c ∷ []) more') ∙ ap (λ t. t ++ more') (sym (append_assoc word front (c ∷ []))) ∙ eq ∙ ap (λ t. t ++ rest') ew ∙ append_assoc a b rest' in
+      let split : word ++ ((front ++ c ∷ []) ++ more') ≡ a ++ (b ++ rest') = sym (append_assoc word (front ++ c ∷ []) more')
+      ∙ ap (λ t. t ++ more') (sym (append_assoc word front (c ∷ []))) ∙ eq ∙ ap (λ t. t ++ rest') ew ∙ append_assoc a b rest' in
       let same = same_split D L x word rest sole p.0 a ((front ++ c ∷ []) ++ more') (b ++ rest') la (fits_both D M delimits p.1 b rest' mb) split
       (λ h tail er. head_kept h tail front c after more' (sym er ∙ e2)) (λ er. not_empty front c after (sym e2 ∙ er)) in
       clash p.1 b more' rest' mb fit same.2,
@@ -102,7 +105,8 @@ pub shorter : (D : ℕ → Type 0) {A : Type 0} → (L : A → List ℕ → Type
 shorter D L s x rest (word, l, e, sole) = omega (arith, ap length e, length-append word rest)
 
 -- readers in turn, where the second is right of what the first leaves
-pub in_turn_right_of : (D E : ℕ → Type 0) {A B : Type 0} → (L : A → List ℕ → Type 0) (M : B → List ℕ → Type 0) → Delimits D M → (y : B) (w : List ℕ) → M y w → (s : List ℕ) (f : Reader A) (g : Reader B)
+pub in_turn_right_of : (D E : ℕ → Type 0) {A B : Type 0} → (L : A → List ℕ → Type 0) (M : B → List ℕ → Type 0) → Delimits D M → (y : B) (w : List ℕ) → M y w
+    → (s : List ℕ) (f : Reader A) (g : Reader B)
     → Right D L s (f s) → ((x : A) (word r : List ℕ) → L x word → s ≡ word ++ r → Right E M r (g r)) → Right E (Both L M) s (in_turn f g s)
 in_turn_right_of D E L M delimits y w m s f g h k = turn D E L M delimits y w m s (f s) g h k
   where
@@ -208,7 +212,8 @@ weaker D E h L s short (some, none) = (some, λ y w rest m fit eq. none y w rest
     fits D E h (c ∷ t) f = h c f
 
 -- no word begins with this byte
-pub wrong_right : (D : ℕ → Type 0) {A : Type 0} → (L : A → List ℕ → Type 0) (c : ℕ) (s : List ℕ) → Completes L [] → ((y : A) (w more rest : List ℕ) → L y w → c ∷ more ≡ w ++ rest → ⊥) → Right D L (c ∷ s) (stops (c ∷ s))
+pub wrong_right : (D : ℕ → Type 0) {A : Type 0} → (L : A → List ℕ → Type 0) (c : ℕ) (s : List ℕ) → Completes L [] → ((y : A) (w more rest : List ℕ) → L y w
+    → c ∷ more ≡ w ++ rest → ⊥) → Right D L (c ∷ s) (stops (c ∷ s))
 wrong_right D L c s some none = ([], c, s, refl, refl, some, λ y w more rest l fit e. none y w more rest l e)
 
 -- each word has a byte
@@ -224,12 +229,14 @@ pub one_right : (D : ℕ → Type 0) {A : Type 0} → (L : A → List ℕ → Ty
     → ((y : A) (w more rest : List ℕ) → L y w → c ∷ more ≡ w ++ rest → (y ≡ x) × (w ≡ c ∷ [])) → Right D L (c ∷ s) (done x s)
 one_right D L x c s l alone = (c ∷ [], l, refl, sole D L x c s alone)
   where
-    sole : (D : ℕ → Type 0) {A : Type 0} → (L : A → List ℕ → Type 0) (x : A) (c : ℕ) (s : List ℕ) → ((y : A) (w more rest : List ℕ) → L y w → c ∷ more ≡ w ++ rest → (y ≡ x) × (w ≡ c ∷ [])) → Sole D L x (c ∷ []) s
+    sole : (D : ℕ → Type 0) {A : Type 0} → (L : A → List ℕ → Type 0) (x : A) (c : ℕ) (s : List ℕ) → ((y : A) (w more rest : List ℕ) → L y w → c ∷ more ≡ w ++ rest
+        → (y ≡ x) × (w ≡ c ∷ [])) → Sole D L x (c ∷ []) s
     sole D L x c [] alone = λ y b t m fit e. alone y b [] t m e
     sole D L x c (d ∷ s) alone = λ y b more t m fit e. alone y b (d ∷ more) t m e
 
 -- a byte and then a word
-pub byte_then_right : (D : ℕ → Type 0) {A : Type 0} → (k : ℕ) (L : A → List ℕ → Type 0) (f : Reader A) → Completes L [] → ((s : List ℕ) → Right D L s (f s)) → (s : List ℕ) → Right D (λ x. After k (L x)) s (byte_then k f s)
+pub byte_then_right : (D : ℕ → Type 0) {A : Type 0} → (k : ℕ) (L : A → List ℕ → Type 0) (f : Reader A) → Completes L [] → ((s : List ℕ) → Right D L s (f s))
+    → (s : List ℕ) → Right D (λ x. After k (L x)) s (byte_then k f s)
 byte_then_right D k L f (w, x, l) h [] = ended_right D (λ x. After k (L x)) (k ∷ w, x, (w, l, refl)) (λ y w (b, l, e). (k, b, e))
 byte_then_right D k L f (w, x, l) h (c ∷ s) =
     by_test (Right D (λ x. After k (L x)) (c ∷ s)) (c == k) (f s) (stops (c ∷ s))

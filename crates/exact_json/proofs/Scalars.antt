@@ -3,7 +3,9 @@ use Rattle.std.proofs.Common.{◌≡◌, ℕ, zero, suc, ◌≤◌, ◌<◌, ◌
 use Rattle.std.specs.Prelude.{codes}
 use Rattle.std.proofs.lemmas.Bool.Decides.{nat_tests}
 use Rattle.exact_json.specs.Shapes.{After, IsSpace}
-use Rattle.exact_json.specs.Numbers.{IsNumber, IsUnsigned, Phase, start, minus, leading_zero, whole, point, fraction, exponent, sign, power, is_digit, to_exponent, to_point, next_phase, ends_number, accepts}
+use Rattle.rtb_num.specs.Amounts.{is_digit, is_point}
+use Rattle.rtb_num.specs.Numbers.{is_exponent_mark, is_number}
+use Rattle.exact_json.specs.Numbers.{Phase, start, minus, leading_zero, whole, point, fraction, exponent, sign, power, to_exponent, to_point, next_phase, ends_number, accepts}
 use Rattle.exact_json.specs.Strings.{Quoted}
 use Rattle.exact_json.specs.Tree.{Tree, null, boolean, number, string, array, object}
 use Rattle.exact_json.specs.Grammar.{Spells}
@@ -11,7 +13,7 @@ use Rattle.exact_json.specs.Reading.{stops, mapped, is_space, word_at, number_at
 use Rattle.exact_json.proofs.Fronts.{by_test, not_both, is_true, is_false, first_is}
 use Rattle.exact_json.proofs.Right.{Any, Completes, Sole, Right, AreFilled, ComesFrom, after_right, mapped_right, weaker, wrong_right, ended_right}
 use Rattle.exact_json.proofs.Machines.{Accepted, scan_right}
-use Rattle.exact_json.proofs.NumberForm.{on, off, is_a_digit, number_passes, passes_number}
+use Rattle.exact_json.proofs.NumberForm.{on, off, accepts_numbers, number_begins}
 use Rattle.exact_json.proofs.Pieces.{quoted_right}
 use Rattle.exact_json.proofs.Spaces.{AreBare, passes_space}
 use Rattle.exact_json.proofs.Entries.{IsDelimiter}
@@ -40,17 +42,17 @@ word_right (k ∷ ks) (c ∷ s) =
 no_digit : (c : ℕ) → IsDelimiter c → is_digit c ≡ false
 no_digit c d = grind (arith, nat_tests)
 
-no_point : (c : ℕ) → IsDelimiter c → (c == 46) ≡ false
+no_point : (c : ℕ) → IsDelimiter c → is_point c ≡ false
 no_point c d = grind (arith, nat_tests)
 
-no_exponent : (c : ℕ) → IsDelimiter c → ((c == 101) || (c == 69)) ≡ false
+no_exponent : (c : ℕ) → IsDelimiter c → is_exponent_mark c ≡ false
 no_exponent c d = grind (arith, nat_tests)
 
 exponent_none : (c : ℕ) → IsDelimiter c → to_exponent c ≡ None
-exponent_none c d = off ((c == 101) || (c == 69)) (Some exponent) None (no_exponent c d)
+exponent_none c d = off (is_exponent_mark c) (Some exponent) None (no_exponent c d)
 
 point_none : (c : ℕ) → IsDelimiter c → to_point c ≡ None
-point_none c d = off (c == 46) (Some point) (to_exponent c) (no_point c d) ∙ exponent_none c d
+point_none c d = off (is_point c) (Some point) (to_exponent c) (no_point c d) ∙ exponent_none c d
 
 number_completes : (q : Phase) → (w : List ℕ) × (accepts next_phase ends_number q w ≡ true)
 number_completes start = (48 ∷ [], refl)
@@ -106,21 +108,12 @@ number_tag c e = off (c == 34) 4 _ (no_quote c e) ∙ on ((c == 45) || is_digit 
     no_quote : (c : ℕ) → ((c == 45) || is_digit c) ≡ true → (c == 34) ≡ false
     no_quote c e = grind (arith, nat_tests)
 
-unsigned_begins : (w : List ℕ) → IsUnsigned w → (c : ℕ) × (b : List ℕ) × (w ≡ c ∷ b) × (is_digit c ≡ true)
-unsigned_begins w ([], b, h, k, e) = absurd h
-unsigned_begins w (c ∷ a, b, inl (z, n), k, e) = (c, a ++ b, e, is_a_digit c (omega (arith, z)) (omega (arith, z)))
-unsigned_begins w (c ∷ a, b, inr (low, high, h), k, e) = (c, a ++ b, e, is_a_digit c (omega (arith, low)) high)
-
-digit_or : (c : ℕ) → is_digit c ≡ true → ((c == 45) || is_digit c) ≡ true
-digit_or c e = grind (arith, nat_tests)
-
 -- a value's first byte tells what it is
 begins : (d : ℕ) (t : Tree) (w : List ℕ) → Spells d t w → (c : ℕ) × (b : List ℕ) × (w ≡ c ∷ b) × (tag_of c ≡ tag t)
 begins d null w h = (110, codes "ull", h, refl)
 begins d (boolean true) w h = (116, codes "rue", h, refl)
 begins d (boolean false) w h = (102, codes "alse", h, refl)
-begins d (number x) w (inl h, e) = let (c, b, ew, dc) = unsigned_begins w h in (c, b, ew, number_tag c (digit_or c dc))
-begins d (number x) w (inr (b, h, ew), e) = (45, b, ew, refl)
+begins d (number x) w (h, e) = let (c, b, ew, first) = number_begins w h in (c, b, ew, number_tag c first)
 begins d (string x) w (b, h, e) = (34, b, e, refl)
 begins zero (array ts) w h = absurd h
 begins (suc d) (array ts) w (b, h, e) = (91, b, e, refl)
@@ -149,11 +142,8 @@ value_bare d t w h = let (c, b, e, et) = begins d t w h in (c, b, e, at c (is_sp
 pub value_filled : (d : ℕ) → AreFilled (Spells d)
 value_filled d t w h = let (c, b, e, et) = begins d t w h in (c, b, e)
 
-pub zero_number : IsNumber (48 ∷ [])
-zero_number = inl (48 ∷ [], [], inl (refl, refl), ([], [], inl refl, inl refl, refl), refl)
-
 pub some_value : (d : ℕ) → Completes (Spells d) []
-some_value d = (48 ∷ [], number (48 ∷ []), (zero_number, refl))
+some_value d = (48 ∷ [], number (48 ∷ []), (refl, refl))
 
 -- neither an array nor an object begins with this byte
 abbrev pub NoNest : ℕ → ℕ → Type 0
@@ -166,7 +156,7 @@ string_back d c e ec (boolean false) w more rest l eq = absurd (omega (arith, ta
 string_back d c e ec t w more rest l eq = absurd (omega (arith, tag_is d t c w more rest l eq, e))
 
 number_back : (d c : ℕ) → tag_of c ≡ 3 → ComesFrom (Accepted next_phase ends_number start) (Spells d) number c
-number_back d c e (number x) w more rest (h, ex) eq = (x, (number_passes w h, ex), refl)
+number_back d c e (number x) w more rest (h, ex) eq = (x, (accepts_numbers w ∙ h, ex), refl)
 number_back d c e (boolean true) w more rest l eq = absurd (omega (arith, tag_is d (boolean true) c w more rest l eq, e))
 number_back d c e (boolean false) w more rest l eq = absurd (omega (arith, tag_is d (boolean false) c w more rest l eq, e))
 number_back d c e t w more rest l eq = absurd (omega (arith, tag_is d t c w more rest l eq, e))
@@ -185,7 +175,8 @@ false_back : (d c : ℕ) → tag_of c ≡ 2 → c ≡ 102 → ComesFrom (λ x. A
 false_back d c e ec (boolean false) w more rest l eq = (codes "alse", (codes "alse", (refl, refl), l ∙ ap (λ k. k ∷ codes "alse") (sym ec)), refl)
 false_back d c e ec t w more rest l eq = absurd (omega (arith, tag_is d t c w more rest l eq, e))
 
-literal_right : (d c k : ℕ) (ks s : List ℕ) (t : Tree) → ((w : List ℕ) → w ≡ k ∷ ks → Spells d t w) → c ≡ k → ComesFrom (λ x. After c (Word ks x)) (Spells d) (λ w. t) c → Right IsDelimiter (Spells d) (c ∷ s) (mapped (λ w. t) (word_at ks s))
+literal_right : (d c k : ℕ) (ks s : List ℕ) (t : Tree) → ((w : List ℕ) → w ≡ k ∷ ks → Spells d t w) → c ≡ k
+    → ComesFrom (λ x. After c (Word ks x)) (Spells d) (λ w. t) c → Right IsDelimiter (Spells d) (c ∷ s) (mapped (λ w. t) (word_at ks s))
 literal_right d c k ks s t into e back =
     mapped_right IsDelimiter (λ x. After c (Word ks x)) (Spells d) (λ w. t) c s (λ x w (b, (ex, eb), ew). into w (ew ∙ ap (λ l. c ∷ l) eb ∙ ap (λ n. n ∷ ks) e)) back (word_at ks s)
     (weaker Any IsDelimiter (λ c h. tt) (λ x. After c (Word ks x)) (c ∷ s) (word_at ks s) (after_right Any (Word ks) c s (word_at ks s) (word_right ks s)))
@@ -200,7 +191,11 @@ scalar_right d c s low =
     (quoted_at s)
     (weaker Any IsDelimiter (λ c h. tt) (λ x. After c (Quoted x)) (c ∷ s) (quoted_at s) (after_right Any Quoted c s (quoted_at s) (quoted_right s))))
     (λ n1. by_test (Right IsDelimiter (Spells d) (c ∷ s)) ((c == 45) || is_digit c) (mapped number (number_at (c ∷ s))) _
-    (λ e. mapped_right IsDelimiter (Accepted next_phase ends_number start) (Spells d) number c s (λ x w (l, ex). (passes_number w l, ex)) (number_back d c (number_tag c e)) (number_at (c ∷ s)) (number_right (c ∷ s)))
+    (λ e. mapped_right IsDelimiter (Accepted next_phase ends_number start) (Spells d) number c s (λ x w (l, ex). (
+      sym (accepts_numbers w)
+          ∙ l,
+      ex,
+    )) (number_back d c (number_tag c e)) (number_at (c ∷ s)) (number_right (c ∷ s)))
     (λ n2. by_test (Right IsDelimiter (Spells d) (c ∷ s)) (c == 110) (mapped (λ w. null) (word_at (codes "ull") s)) _
     (λ e. literal_right d c 110 (codes "ull") s null (λ w ew. ew) (is_true c 110 e) (null_back d c (ap tag_of (is_true c 110 e)) (is_true c 110 e)))
     (λ n3. by_test (Right IsDelimiter (Spells d) (c ∷ s)) (c == 116) (mapped (λ w. boolean true) (word_at (codes "rue") s)) _
@@ -211,5 +206,6 @@ scalar_right d c s low =
   where
     high : (c : ℕ) → (c == 34) ≡ false → ((c == 45) || is_digit c) ≡ false → (c == 110) ≡ false → (c == 116) ≡ false → (c == 102) ≡ false → 5 ≤ tag_of c
     high c n1 n2 n3 n4 n5 =
-        let same : tag_of c ≡ cond (c == 91) 5 (cond (c == 123) 6 7) = off (c == 34) 4 _ n1 ∙ off ((c == 45) || is_digit c) 3 _ n2 ∙ off (c == 110) 0 _ n3 ∙ off (c == 116) 1 _ n4 ∙ off (c == 102) 2 _ n5 in
+        let same : tag_of c ≡ cond (c == 91) 5 (cond (c == 123) 6 7) = off (c == 34) 4 _ n1 ∙ off ((c == 45) || is_digit c) 3 _ n2 ∙ off (c == 110) 0 _ n3
+        ∙ off (c == 116) 1 _ n4 ∙ off (c == 102) 2 _ n5 in
         subst (λ k. 5 ≤ k) (sym same) (by_test (λ k. 5 ≤ k) (c == 91) 5 _ (λ e. omega arith) (λ e. by_test (λ k. 5 ≤ k) (c == 123) 6 7 (λ e. omega arith) (λ e. omega arith)))

@@ -1,11 +1,13 @@
 -- Reading a number byte by byte, as a loop does.
 use Rattle.std.proofs.Common.{◌≡◌, ℕ, ◌≤◌, ◌-◌, cond, List, [], ◌∷◌, ◌++◌, length, take, true, false, Option, Some, None, refl, sym, ap, ◌∙◌, ◌==◌, subst, append_assoc, append-nil, arith, length-append}
 use Rattle.std.proofs.Math.Seq.{take-append_seam}
-use Rattle.exact_json.specs.Numbers.{Phase, start, minus, leading_zero, whole, next_phase, ends_number, is_digit, digit_to, to_int, to_point}
+use Rattle.rtb_num.specs.Amounts.{is_digit}
+use Rattle.rtb_num.specs.Numbers.{is_minus}
+use Rattle.exact_json.specs.Numbers.{Phase, start, minus, leading_zero, whole, next_phase, ends_number, digit_to, to_int, to_point}
 use Rattle.exact_json.specs.Reading.{Outcome, done, stops, short, mapped, scan, number_at, skip_digits, before}
 use Rattle.std.proofs.lemmas.Bool.Decides.{nat_tests}
 use Rattle.exact_json.proofs.Fronts.{by_test}
-use Rattle.exact_json.proofs.NumberForm.{on, off}
+use Rattle.exact_json.proofs.NumberForm.{on, off, digit_no_minus}
 use Rattle.exact_json.proofs.Right.{unchanged}
 
 -- what stands before the rest
@@ -59,19 +61,23 @@ scanned_more bytes q r c left rest (w, e, same) el en = (
 )
 
 -- a word, where nothing leads on from an end
-finished : (bytes : List ℕ) (q : Phase) (left : List ℕ) → Scanned bytes q left → scan next_phase ends_number q left ≡ done [] left → (number_at bytes ≡ done (before left bytes) left) × (length left ≤ length bytes)
+finished : (bytes : List ℕ) (q : Phase) (left : List ℕ) → Scanned bytes q left → scan next_phase ends_number q left ≡ done [] left
+    → (number_at bytes ≡ done (before left bytes) left) × (length left ≤ length bytes)
 finished bytes q left (w, e, same) es =
     (same ∙ ap (mapped (λ x. w ++ x)) es ∙ ap (λ k. done k left) (append-nil w ∙ sym (before_is w left bytes e)), within w left bytes e)
 
-pub ends_before : (bytes : List ℕ) (q : Phase) (c : ℕ) (left rest : List ℕ) → Scanned bytes q left → left ≡ c ∷ rest → None ≡ next_phase q c → ends_number q ≡ true → (number_at bytes ≡ done (before left bytes) left) × (length left ≤ length bytes)
+pub ends_before : (bytes : List ℕ) (q : Phase) (c : ℕ) (left rest : List ℕ) → Scanned bytes q left → left ≡ c ∷ rest → None ≡ next_phase q c
+    → ends_number q ≡ true → (number_at bytes ≡ done (before left bytes) left) × (length left ≤ length bytes)
 ends_before bytes q c left rest sc el en et =
     finished bytes q left sc (ap (scan next_phase ends_number q) el ∙ last_scan q c rest (sym en) ∙ on (ends_number q) (done [] (c ∷ rest)) (stops (c ∷ rest)) et ∙ ap (done []) (sym el))
 
-pub ends_last : (bytes : List ℕ) (q : Phase) (left : List ℕ) → Scanned bytes q left → left ≡ [] → ends_number q ≡ true → (number_at bytes ≡ done (before left bytes) left) × (length left ≤ length bytes)
+pub ends_last : (bytes : List ℕ) (q : Phase) (left : List ℕ) → Scanned bytes q left → left ≡ [] → ends_number q ≡ true
+    → (number_at bytes ≡ done (before left bytes) left) × (length left ≤ length bytes)
 ends_last bytes q left sc el et =
     finished bytes q left sc (ap (scan next_phase ends_number q) el ∙ nil_scan q ∙ on (ends_number q) (done [] []) short et ∙ ap (done []) (sym el))
 
-pub stops_before : (bytes : List ℕ) (q : Phase) (c : ℕ) (left rest : List ℕ) → Scanned bytes q left → left ≡ c ∷ rest → None ≡ next_phase q c → ends_number q ≡ false → (from : List ℕ) × (number_at bytes ≡ stops from) × (length from ≡ length left)
+pub stops_before : (bytes : List ℕ) (q : Phase) (c : ℕ) (left rest : List ℕ) → Scanned bytes q left → left ≡ c ∷ rest → None ≡ next_phase q c
+    → ends_number q ≡ false → (from : List ℕ) × (number_at bytes ≡ stops from) × (length from ≡ length left)
 stops_before bytes q c left rest (w, e, same) el en et = (
   c ∷ rest,
   same ∙ ap (λ k. mapped (λ x. w ++ x) (scan next_phase ends_number q k)) el ∙ ap (mapped (λ x. w ++ x)) (last_scan q c rest (sym en) ∙ off (ends_number q) (done [] (c ∷ rest)) (stops (c ∷ rest)) et),
@@ -97,7 +103,8 @@ skipped_next [] rest c e = absurd (no c rest e)
   where
     no : (c : ℕ) (rest : List ℕ) → ◌≡◌ {A = List ℕ} [] (c ∷ rest) → ⊥
     no c rest e = cc
-skipped_next (d ∷ s) rest c e = by_test (λ k. k ≡ c ∷ rest → is_digit c ≡ false) (is_digit d) (skip_digits s) (d ∷ s) (λ t k. skipped_next s rest c k) (λ f k. subst (λ b. is_digit b ≡ false) (first d c s rest k) f) e
+skipped_next (d ∷ s) rest c e = by_test (λ k. k ≡ c ∷ rest
+    → is_digit c ≡ false) (is_digit d) (skip_digits s) (d ∷ s) (λ t k. skipped_next s rest c k) (λ f k. subst (λ b. is_digit b ≡ false) (first d c s rest k) f) e
   where
     first : (d c : ℕ) (s rest : List ℕ) → d ∷ s ≡ c ∷ rest → d ≡ c
     first d c s rest e = cc
@@ -105,18 +112,18 @@ skipped_next (d ∷ s) rest c e = by_test (λ k. k ≡ c ∷ rest → is_digit c
 -- a number of digits alone, with bytes behind it, and at the end
 scanned_whole : (bytes : List ℕ) (d : ℕ) (rest left : List ℕ) → bytes ≡ d ∷ rest → (d == 48) ≡ false → is_digit d ≡ true → left ≡ skip_digits rest → Scanned bytes whole left
 scanned_whole bytes d rest left eb nz dd es =
-    let begins : next_phase start d ≡ Some whole = off (d == 45) (Some minus) (to_int d) (no_minus d dd) ∙ off (d == 48) (Some leading_zero) (digit_to whole d) nz ∙ on (is_digit d) (Some whole) None dd in
+    let begins : next_phase start d ≡ Some whole = off (is_minus d) (Some minus) (to_int d) (digit_no_minus d dd)
+    ∙ off (d == 48) (Some leading_zero) (digit_to whole d) nz ∙ on (is_digit d) (Some whole) None dd in
     let one : Scanned bytes whole rest = scanned_more bytes start whole d bytes rest (begun bytes) eb (sym begins) in
     subst (Scanned bytes whole) (sym es) (scanned_digits bytes rest one)
-  where
-    no_minus : (d : ℕ) → is_digit d ≡ true → (d == 45) ≡ false
-    no_minus d e = grind (arith, nat_tests)
 
-pub digits_before : (bytes : List ℕ) (d : ℕ) (rest left : List ℕ) (c : ℕ) (after : List ℕ) → bytes ≡ d ∷ rest → (d == 48) ≡ false → is_digit d ≡ true → left ≡ skip_digits rest → left ≡ c ∷ after → to_point c ≡ None
+pub digits_before : (bytes : List ℕ) (d : ℕ) (rest left : List ℕ) (c : ℕ) (after : List ℕ) → bytes ≡ d ∷ rest → (d == 48) ≡ false → is_digit d ≡ true
+    → left ≡ skip_digits rest → left ≡ c ∷ after → to_point c ≡ None
     → (number_at bytes ≡ done (before left bytes) left) × (length left ≤ length bytes)
 digits_before bytes d rest left c after eb nz dd es el np =
     let ends : next_phase whole c ≡ None = off (is_digit c) (Some whole) (to_point c) (skipped_next rest after c (sym es ∙ el)) ∙ np in
     ends_before bytes whole c left after (scanned_whole bytes d rest left eb nz dd es) el (sym ends) refl
 
-pub digits_last : (bytes : List ℕ) (d : ℕ) (rest left : List ℕ) → bytes ≡ d ∷ rest → (d == 48) ≡ false → is_digit d ≡ true → left ≡ skip_digits rest → left ≡ [] → (number_at bytes ≡ done (before left bytes) left) × (length left ≤ length bytes)
+pub digits_last : (bytes : List ℕ) (d : ℕ) (rest left : List ℕ) → bytes ≡ d ∷ rest → (d == 48) ≡ false → is_digit d ≡ true → left ≡ skip_digits rest → left ≡ []
+    → (number_at bytes ≡ done (before left bytes) left) × (length left ≤ length bytes)
 digits_last bytes d rest left eb nz dd es el = ends_last bytes whole left (scanned_whole bytes d rest left eb nz dd es) el refl

@@ -57,11 +57,13 @@ front_bare : (front : List ℕ) (c : ℕ) (after more : List ℕ) → IsBare (fr
 front_bare [] c after more h = h
 front_bare (d ∷ front) c after more h = h
 
-behind_spaces : (D : ℕ → Type 0) {A : Type 0} (L : A → List ℕ → Type 0) → AreBare L → (sp : List ℕ) → AreSpaces sp → (r : List ℕ) → IsBare r → (o : Outcome A) → Right D L r o → Right D (λ x. Spaced (L x)) (sp ++ r) o
+behind_spaces : (D : ℕ → Type 0) {A : Type 0} (L : A → List ℕ → Type 0) → AreBare L → (sp : List ℕ) → AreSpaces sp → (r : List ℕ) → IsBare r → (o : Outcome A)
+    → Right D L r o → Right D (λ x. Spaced (L x)) (sp ++ r) o
 behind_spaces D L bare sp p r br (done x rest) (word, l, e, sole) =
     (sp ++ word, (sp, word, p, l, refl), ap (λ k. sp ++ k) e ∙ sym (append_assoc sp word rest), longer D L bare sp p r br x word l rest e sole)
   where
-    longer : (D : ℕ → Type 0) {A : Type 0} (L : A → List ℕ → Type 0) → AreBare L → (sp : List ℕ) → AreSpaces sp → (r : List ℕ) → IsBare r → (x : A) (word : List ℕ) → L x word → (rest : List ℕ) → r ≡ word ++ rest
+    longer : (D : ℕ → Type 0) {A : Type 0} (L : A → List ℕ → Type 0) → AreBare L → (sp : List ℕ) → AreSpaces sp → (r : List ℕ) → IsBare r
+        → (x : A) (word : List ℕ) → L x word → (rest : List ℕ) → r ≡ word ++ rest
         → Sole D L x word rest → Sole D (λ x. Spaced (L x)) x (sp ++ word) rest
     longer D L bare sp p r br x word l [] e sole = λ y w t (sq, b, q, m, ew) fit eq.
         let split : sp ++ word ≡ sq ++ (b ++ t) = eq ∙ ap (λ k. k ++ t) ew ∙ append_assoc sq b t in
@@ -84,7 +86,8 @@ behind_spaces D L bare sp p r br (stops from) (front, c, after, e, ef, (more, x,
   ef,
   (more, x, (sp, front ++ more, p, l, append_assoc sp front more)),
   λ y w more' rest' (sq, b, q, m, ew) fit eq.
-      let split : sp ++ ((front ++ c ∷ []) ++ more') ≡ sq ++ (b ++ rest') = sym (append_assoc sp (front ++ c ∷ []) more') ∙ ap (λ k. k ++ more') (sym (append_assoc sp front (c ∷ []))) ∙ eq ∙ ap (λ k. k ++ rest') ew ∙ append_assoc sq b rest' in
+      let split : sp ++ ((front ++ c ∷ []) ++ more') ≡ sq ++ (b ++ rest') = sym (append_assoc sp (front ++ c ∷ []) more')
+      ∙ ap (λ k. k ++ more') (sym (append_assoc sp front (c ∷ []))) ∙ eq ∙ ap (λ k. k ++ rest') ew ∙ append_assoc sq b rest' in
       let same = spaces_same sp sq ((front ++ c ∷ []) ++ more') (b ++ rest') p q (front_bare front c after more' (subst IsBare e br)) (bare_word L bare y b rest' m) split in
       clash y b more' rest' m fit same.1,
 )

@@ -11,7 +11,7 @@ use Rattle.exact_json.proofs.Right.{Any, Right, ComesFrom, in_turn_right, after_
 use Rattle.exact_json.proofs.Pieces.{quoted_right}
 use Rattle.exact_json.proofs.Spaces.{spaced_right}
 use Rattle.exact_json.proofs.Entries.{IsDelimiter, More, Entries, AreEntries, entries_bare, entries_right}
-use Rattle.exact_json.proofs.Scalars.{tag_of, tag_is, no_tag, value_bare, value_filled, zero_number, some_value, NoNest, scalar_right}
+use Rattle.exact_json.proofs.Scalars.{tag_of, tag_is, no_tag, value_bare, value_filled, some_value, NoNest, scalar_right}
 
 -- the values of an array, as a list
 more_items_into : (d : ℕ) (ts : List Tree) (w : List ℕ) → More (Spells d) 93 ts w → SpellsMoreItems d (trees_from ts) w
@@ -81,10 +81,13 @@ Valued d t = After 58 (Spaced (Spells d t))
 pub member_right : (d : ℕ) (v : Reader Tree) → IsRightOf d v → (s : List ℕ) → Right IsDelimiter (Member d) s (member_at v s)
 unfolding member_at
 member_right d v h s =
-    in_turn_right Any IsDelimiter SpellsString (λ t. Spaced (Valued d t)) (λ t w l. filled d t w l) (number (48 ∷ [])) (58 ∷ 48 ∷ []) ([], 58 ∷ 48 ∷ [], tt, (48 ∷ [], ([], 48 ∷ [], tt, (zero_number, refl), refl), refl), refl) s (byte_then 34 quoted_at) (λ rest. byte_then 58 (λ after. v (skip after)) (skip rest))
+    in_turn_right Any IsDelimiter SpellsString (λ t. Spaced (Valued d t))
+    (λ t w l. filled d t w l) (number (48 ∷ [])) (58 ∷ 48 ∷ []) ([], 58 ∷ 48 ∷ [], tt, (48 ∷ [], ([], 48 ∷ [], tt, (refl, refl), refl), refl), refl) s
+    (byte_then 34 quoted_at) (λ rest. byte_then 58 (λ after. v (skip after)) (skip rest))
     (byte_then_right Any 34 Quoted quoted_at (34 ∷ [], [], ([], refl, refl)) quoted_right s)
     (λ r lr. spaced_right IsDelimiter (Valued d) (λ t w (b, l, e). (58, b, e, refl)) r (byte_then 58 (λ after. v (skip after)))
-    (byte_then_right IsDelimiter 58 (λ t. Spaced (Spells d t)) (λ after. v (skip after)) (48 ∷ [], number (48 ∷ []), ([], 48 ∷ [], tt, (zero_number, refl), refl)) (λ q. spaced_right IsDelimiter (Spells d) (value_bare d) q v (h (skip q))) (skip r)))
+    (byte_then_right IsDelimiter 58 (λ t. Spaced (Spells d t)) (λ after. v (skip after)) (48 ∷ [], number (48 ∷ []), ([], 48 ∷ [], tt, (refl, refl), refl))
+    (λ q. spaced_right IsDelimiter (Spells d) (value_bare d) q v (h (skip q))) (skip r)))
   where
     filled : (d : ℕ) (t : Tree) (w : List ℕ) → Spaced (Valued d t) w → (c : ℕ) × (b : List ℕ) × (w ≡ c ∷ b) × Any c
     filled d t w ([], r, p, (b, l, eb), e) = (58, b, e ∙ eb, tt)
@@ -95,7 +98,27 @@ member_entries d v h = record {
   closes = refl;
   bare = λ p w (a, b, (q, l, ea), k, e). (34, q ++ b, e ∙ ap (λ m. m ++ b) ea, refl);
   open_ = λ p c b' (a, b, (q, l, ea), k, e) ec. no_quote c (heads c 34 b' (q ++ b) (e ∙ ap (λ m. m ++ b) ea)) ec;
-  some = (34 ∷ 34 ∷ 58 ∷ 48 ∷ [], ([], number (48 ∷ [])), (34 ∷ 34 ∷ [], 58 ∷ 48 ∷ [], (34 ∷ [], ([], refl, refl), refl), ([], 58 ∷ 48 ∷ [], tt, (48 ∷ [], ([], 48 ∷ [], tt, (zero_number, refl), refl), refl), refl), refl));
+  some = (
+    34 ∷ 34 ∷ 58 ∷ 48 ∷ [],
+    ([], number (48 ∷ [])),
+    (
+      34 ∷ 34 ∷ [],
+      58 ∷ 48 ∷ [],
+      (34 ∷ [], ([], refl, refl), refl),
+      (
+        [],
+        58 ∷ 48 ∷ [],
+        tt,
+        (
+          48 ∷ [],
+          ([], 48 ∷ [], tt, (refl, refl), refl),
+          refl,
+        ),
+        refl,
+      ),
+      refl,
+    ),
+  );
   right = member_right d v h;
 }
   where
@@ -109,7 +132,16 @@ array_back d c e ec (boolean false) w more rest l eq = absurd (omega (arith, tag
 array_back d c e ec t w more rest l eq = absurd (omega (arith, tag_is (suc d) t c w more rest l eq, e))
 
 object_back : (d c : ℕ) → tag_of c ≡ 6 → c ≡ 123 → ComesFrom (λ ps. After c (Spaced (Entries (Member d) 125 ps))) (Spells (suc d)) (λ ps. object (pairs_from ps)) c
-object_back d c e ec (object ps) w more rest (b, (sp, r, p, l, es), ew) eq = (members_of ps, (b, (sp, r, p, members_outof d ps r l, es), ew ∙ ap (λ k. k ∷ b) (sym ec)), ap object (sym (pairs_again ps)))
+object_back d c e ec (object ps) w more rest (b, (sp, r, p, l, es), ew) eq = (
+  members_of ps,
+  (
+    b,
+    (sp, r, p, members_outof d ps r l, es),
+    ew
+        ∙ ap (λ k. k ∷ b) (sym ec),
+  ),
+  ap object (sym (pairs_again ps)),
+)
 object_back d c e ec (boolean true) w more rest l eq = absurd (omega (arith, tag_is (suc d) (boolean true) c w more rest l eq, e))
 object_back d c e ec (boolean false) w more rest l eq = absurd (omega (arith, tag_is (suc d) (boolean false) c w more rest l eq, e))
 object_back d c e ec t w more rest l eq = absurd (omega (arith, tag_is (suc d) t c w more rest l eq, e))
@@ -147,7 +179,8 @@ value_right (suc d) (c ∷ s) =
     (items (skip s))
     (weaker Any IsDelimiter (λ c h. tt) (λ ts. After c (Spaced (Entries (Spells d) 93 ts))) (c ∷ s) (items (skip s))
     (after_right Any (λ ts. Spaced (Entries (Spells d) 93 ts)) c s (items (skip s))
-    (spaced_right Any (Entries (Spells d) 93) (entries_bare (Spells d) 93 refl (value_bare d)) s items (entries_right (Spells d) 93 (value_at d) (item_entries d (value_at d) (value_right d)) (skip s))))))
+    (spaced_right Any (Entries (Spells d) 93) (entries_bare (Spells d) 93 refl (value_bare d)) s items (entries_right (Spells d) 93 (value_at d) (item_entries d
+    (value_at d) (value_right d)) (skip s))))))
     (λ ne. by_test (Right IsDelimiter (Spells (suc d)) (c ∷ s)) (c == 123) (mapped (λ ps. object (pairs_from ps)) (members (skip s))) (scalar_at c s)
     (λ e. mapped_right IsDelimiter (λ ps. After c (Spaced (Entries (Member d) 125 ps))) (Spells (suc d)) (λ ps. object (pairs_from ps)) c s
     (λ ps w (b, (sp, r, p, l, es), ew). (b, (sp, r, p, members_into d ps r l, es), ew ∙ ap (λ k. k ∷ b) (is_true c 123 e)))
@@ -155,5 +188,6 @@ value_right (suc d) (c ∷ s) =
     (members (skip s))
     (weaker Any IsDelimiter (λ c h. tt) (λ ps. After c (Spaced (Entries (Member d) 125 ps))) (c ∷ s) (members (skip s))
     (after_right Any (λ ps. Spaced (Entries (Member d) 125 ps)) c s (members (skip s))
-    (spaced_right Any (Entries (Member d) 125) (entries_bare (Member d) 125 refl (member_entries d (value_at d) (value_right d)).bare) s members (entries_right (Member d) 125 (member_at (value_at d)) (member_entries d (value_at d) (value_right d)) (skip s))))))
+    (spaced_right Any (Entries (Member d) 125) (entries_bare (Member d) 125 refl (member_entries d (value_at d) (value_right d)).bare) s members (entries_right
+    (Member d) 125 (member_at (value_at d)) (member_entries d (value_at d) (value_right d)) (skip s))))))
     (λ nf. scalar_right (suc d) c s (flat d c ne nf)))

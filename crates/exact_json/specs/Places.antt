@@ -1,5 +1,6 @@
 -- Where in a text a place stands: outside a string, inside one, or behind a backslash inside one.
 use Rattle.std.specs.Prelude.{ℕ, ◌-◌, List, [], ◌∷◌, Bool, false, cond, not, ◌==◌, ◌||◌, nat_le}
+use Rattle.std.specs.List.{list_all}
 
 -- inside a string, with how many bytes of a UTF-8 sequence are due
 pub data Place : Type 0 where
@@ -29,6 +30,10 @@ abbrev pub breaks_utf8 : Place → ℕ → Bool
 breaks_utf8 outside c = false
 breaks_utf8 (inside due) c = nat_le 128 c || not (due == 0)
 breaks_utf8 escaped c = nat_le 128 c
+
+-- no quotation mark
+abbrev pub has_no_quote : List ℕ → Bool
+has_no_quote s = list_all (λ c. not (c == 34)) s
 
 -- [ or {
 abbrev pub opens : ℕ → Bool

@@ -1,6 +1,7 @@
 -- Reading as functions on lists, which the crate's private clauses cite.
 use Rattle.std.specs.Prelude.{◌≡◌, ℕ, zero, suc, ◌+◌, ◌-◌, ◌*◌, List, [], ◌∷◌, ◌++◌, length, take, Bool, true, false, cond, ◌==◌, ◌||◌, Option, None, Some, codes}
-use Rattle.exact_json.specs.Numbers.{is_digit, start, next_phase, ends_number}
+use Rattle.rtb_num.specs.Amounts.{is_digit}
+use Rattle.exact_json.specs.Numbers.{start, next_phase, ends_number}
 use Rattle.exact_json.specs.Strings.{Piece, character, escape, code_unit, followers, is_plain, is_escape, four_hex, hex_onto, is_hex, hex_digit, is_tail, text_behind, alone}
 use Rattle.exact_json.specs.Tree.{Tree, null, boolean, number, string, array, object}
 use Rattle.exact_json.specs.View.{trees_from, pairs_from}

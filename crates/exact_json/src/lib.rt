@@ -12,12 +12,10 @@ mod place;
 mod reader;
 mod stop;
 mod string;
-#[cfg(test)]
-mod tests;
 mod value;
 mod whole;
 
 pub use doc::Doc;
 pub use fault::JsonFault;
 pub use value::{Items, Members, Value, get};
-pub use whole::{bytes_have_one_fault, read, text_has_one_tree};
+pub use whole::{bytes_have_one_fault, places_follow_the_grammar, read, text_has_one_tree};

@@ -1,6 +1,7 @@
 ghost use Rattle.std.specs.Prelude.{◌≡◌, ◌≤◌, Ok, IfSome, length, option_map, if◌then◌else◌};
+ghost use Rattle.rtb_num.specs.Amounts.{is_digit};
 ghost use Rattle.exact_json.specs.Gives.{Cuts};
-ghost use Rattle.exact_json.specs.Numbers.{digit_to, ends_number, is_digit, next_phase, to_exponent, to_int, to_point};
+ghost use Rattle.exact_json.specs.Numbers.{digit_to, ends_number, next_phase, to_exponent, to_int, to_point};
 ghost use Rattle.exact_json.specs.Phases.{phase_of};
 ghost use Rattle.exact_json.specs.Reading.{number_at, skip_digits};
 
@@ -77,7 +78,7 @@ fn next_phase(phase: Phase, byte: u8) -> Option<Phase>
         Phase::Whole => or_digit(Phase::Whole, byte, to_point(byte)),
         Phase::Point => digit_to(Phase::Fraction, byte),
         Phase::Fraction => or_digit(Phase::Fraction, byte, to_exponent(byte)),
-        Phase::Exponent if byte == b'-' || byte == b'+' => Some(Phase::Sign),
+        Phase::Exponent if byte == b'+' || byte == b'-' => Some(Phase::Sign),
         Phase::Exponent | Phase::Sign | Phase::Power => digit_to(Phase::Power, byte),
     }
 }

@@ -1,4 +1,4 @@
-ghost use Rattle.std.specs.Prelude.{◌≡◌, ◌<◌, ◌≤◌, ◌++◌, length, map, IfOk};
+ghost use Rattle.std.specs.Prelude.{◌≡◌, ◌<◌, ◌≤◌, ◌++◌, ◌⊎◌, length, map, IfOk};
 ghost use Rattle.exact_json.specs.Gives.{Gives, Leaves, Reads};
 ghost use Rattle.exact_json.specs.Reading.{byte_then, entries_at, flat_at, is_space, mapped, member_at, more_at, quoted_at, skip, text_at, value_at, word_at};
 ghost use Rattle.exact_json.specs.Reading as reading;
@@ -11,8 +11,8 @@ use crate::value::{Items, Members, Value};
 use rtb_num::Txt;
 use std::alloc::{AllocError, Global};
 
-// How many members an object has room for before it grows, and how many values an array: most objects
-// of a bid request have two to six members, and most arrays one or two values.
+// How many members an object with more than one has room for before it grows, and how many values an
+// array: most objects of a bid request have two to six members, and most arrays one or two values.
 const FIRST_MEMBERS: usize = 6;
 
 const FIRST_ITEMS: usize = 2;
@@ -65,6 +65,17 @@ fn text_before(alloc: Global, bytes: &[u8], rest: &[u8]) -> Result<Txt, AllocErr
     ensures { IfOk result (λ text. text ≡ reading.before rest.now bytes.now) }
 {
     Txt::from_front(alloc, bytes, bytes.len() - rest.len())
+}
+
+// The room to begin with behind a first entry: one where the closing byte follows.
+#[inline(always)]
+fn first_room(left: &[u8], close: u8, usual: usize) -> usize
+    ensures { (result ≡ 1) ⊎ (result ≡ usual) }
+{
+    match left.first() {
+        Some(next) if *next == close => 1,
+        _ => usual,
+    }
 }
 
 fn number_of(alloc: Global, bytes: &[u8]) -> Result<(Txt, &[u8]), Stop>
@@ -143,9 +154,10 @@ fn items_of(alloc: Global, bytes: &[u8], depth: usize) -> Result<(Items, &[u8]),
         return Ok((Items::from_vec(Vec::new(alloc)), rest));
     }
     let (value, rest) = value_of(alloc, bytes, depth)?;
-    let mut values = Vec::with_capacity(alloc, FIRST_ITEMS)?;
+    let rest = skip_spaces(rest);
+    let mut values = Vec::with_capacity(alloc, first_room(rest, b']', FIRST_ITEMS))?;
     values.push(value)?;
-    more_items_of(alloc, values, skip_spaces(rest), depth)
+    more_items_of(alloc, values, rest, depth)
 }
 
 // What follows the first items.
@@ -228,10 +240,11 @@ fn members_of(alloc: Global, bytes: &[u8], depth: usize) -> Result<(Members, &[u
     if *first == b'}' {
         return Ok((Members::from_vec(Vec::new(alloc)), rest));
     }
-    let mut pairs = Vec::with_capacity(alloc, FIRST_MEMBERS)?;
     let (pair, rest) = member_of(alloc, bytes, depth)?;
+    let rest = skip_spaces(rest);
+    let mut pairs = Vec::with_capacity(alloc, first_room(rest, b'}', FIRST_MEMBERS))?;
     pairs.push(pair)?;
-    more_members_of(alloc, pairs, skip_spaces(rest), depth)
+    more_members_of(alloc, pairs, rest, depth)
 }
 
 // What follows the first members.

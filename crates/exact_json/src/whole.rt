@@ -1,8 +1,9 @@
-ghost use Rattle.std.specs.Prelude.{◌≡◌, ◌≢◌, Some, true, false, IfOk, IfErr, MatchResult};
+ghost use Rattle.std.specs.Prelude.{◌≡◌, ◌≢◌, ◌<◌, ◌++◌, ◌∷◌, [], ℕ, List, length, Some, true, false, IfOk, IfErr, MatchResult};
 ghost use Rattle.exact_json.specs.Docs.{doc_tree};
 ghost use Rattle.exact_json.specs.Faults.{Explains};
-ghost use Rattle.exact_json.specs.Grammar.{Faulty, IsText, LiveWithin, one_deeper};
-ghost use Rattle.exact_json.specs.Places.{opens};
+ghost use Rattle.exact_json.specs.Grammar.{Faulty, IsText, Live, LiveWithin, one_deeper};
+ghost use Rattle.exact_json.specs.Places.{has_no_quote, inside, opens, outside, place_behind};
+ghost use Rattle.exact_json.specs.Strings.{IsCharacter};
 ghost use Rattle.exact_json.specs.Tree.{Tree};
 ghost use Rattle.exact_json.specs.declared.fault.JsonFault.{JsonFault};
 ghost use Rattle.exact_json.specs.declared.fault.JsonFault.TheVariants as fault;
@@ -80,4 +81,19 @@ pub fn text_has_one_tree(bytes: &[u8])
 pub fn bytes_have_one_fault(bytes: &[u8])
     ensures one { (e f : JsonFault) → e ≢ fault.Memory → f ≢ fault.Memory → Explains bytes.now e → Explains bytes.now f → e ≡ f }
     ensures none { (e : JsonFault) (t : Tree) → e ≢ fault.Memory → Explains bytes.now e → IsText t bytes.now → ⊥ }
+{}
+
+/// The place behind a front, which decides between `Utf8` and the other faults, is that of the
+/// grammar.
+///
+/// A number sign stands in strings alone: where a front goes on without a quotation mark to one, it
+/// ends inside a string. Where it goes on so to a blank and a string, or to the end of a text, it
+/// ends outside. Behind the front of a character of UTF-8 as many bytes are due as the character has
+/// left, and where a byte below 0x80 goes on, none is.
+pub fn places_follow_the_grammar(front: &[u8])
+    ensures within { (w : List ℕ) → has_no_quote w ≡ true → Live ((front.now ++ w) ++ 35 ∷ []) → place_behind front.now ≢ outside }
+    ensures before { (w : List ℕ) → has_no_quote w ≡ true → Live ((front.now ++ w) ++ 32 ∷ 34 ∷ 35 ∷ []) → place_behind front.now ≡ outside }
+    ensures behind { (w : List ℕ) (t : Tree) → has_no_quote w ≡ true → IsText t (front.now ++ w) → place_behind front.now ≡ outside }
+    ensures due { (c : ℕ) (a b : List ℕ) → Live (front.now ++ 35 ∷ []) → IsCharacter (c ∷ a ++ b) → place_behind (front.now ++ c ∷ a) ≡ inside (length b) }
+    ensures none_due { (c due : ℕ) → Live (front.now ++ c ∷ []) → c < 128 → place_behind front.now ≡ inside due → due ≡ 0 }
 {}

@@ -28,6 +28,7 @@ facts_of n bid = record {
   adm = codes "ad " ++ decimal n;
   crid = codes "cr" ++ decimal n;
   adid = None;
+  cap = None;
 }
 
 -- `domain in [DOMAIN]`, or one conjunction without a predicate, which is true of everything

@@ -124,6 +124,7 @@ fn parts(alloc: Global, number: u32, bid: Micros) -> Result<FactParts, AllocErro
         adm: numbered_text(alloc, b"ad ", number)?,
         crid: numbered_text(alloc, b"cr", number)?,
         adid: None,
+        cap: None,
     })
 }
 

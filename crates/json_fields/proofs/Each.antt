@@ -31,7 +31,8 @@ each_split f xs ys x =
     from_append f 0 xs (x ∷ ys) ∙ ap (λ k. from f 0 xs ++ (f k x ++ from f (k + 1) ys)) (omega arith) ∙ sym (append_assoc (from f 0 xs) (f (length xs) x) (from f (length xs + 1) ys))
 
 -- the first of an element behind those that have none
-pub each_first : {A B : Type 0} (memory : B) (f : ℕ → A → List B) (xs ys : List A) (x : A) (e : B) → each_at f xs ≡ [] → IsFirst memory (f (length xs) x) e → IsFirst memory (each_at f (xs ++ x ∷ ys)) e
+pub each_first : {A B : Type 0} (memory : B) (f : ℕ → A → List B) (xs ys : List A) (x : A) (e : B) → each_at f xs ≡ [] → IsFirst memory (f (length xs) x) e
+    → IsFirst memory (each_at f (xs ++ x ∷ ys)) e
 each_first memory f xs ys x e none h =
     let found = in_front memory (each_at f xs ++ f (length xs) x) (from f (length xs + 1) ys) e (behind memory (each_at f xs) (f (length xs) x) e none h) in
     subst (λ k. IsFirst memory k e) (sym (each_split f xs ys x)) found

@@ -142,7 +142,8 @@ pub is_whole_value : (s : List ℕ) (b : Bool) → (IsTrue b ↔ ((m : ℕ) × I
 unfolding whole_of
 is_whole_value s b is = by b (is_exactly_units 0 (number_in s)) is refl
   where
-    by : (a e : Bool) → (IsTrue a ↔ ((m : ℕ) × IsWhole (number_in s) m)) → is_exactly_units 0 (number_in s) ≡ e → a ≡ is_some (cond e (Some (signed (is_below_zero (number_in s)) (units_in 0 (number_in s)))) None)
+    by : (a e : Bool) → (IsTrue a ↔ ((m : ℕ) × IsWhole (number_in s) m)) → is_exactly_units 0 (number_in s) ≡ e
+        → a ≡ is_some (cond e (Some (signed (is_below_zero (number_in s)) (units_in 0 (number_in s)))) None)
     by true true h g = refl
     by true false h g = (let found = h.0 refl in absurd (clash (whole_parts (number_in s) found.0 found.1).1 g))
     by false true h g = h.1 (_, parts_whole (number_in s) g)
@@ -175,11 +176,13 @@ pub floor_is : (s : List ℕ) (r : Result ℕ PriceFault) → IfOk r (λ m. IsWi
 unfolding floor_of
 floor_is s r enough least negative large never = by (is_below_zero (number_in s)) refl
   where
-    value : (q : Result ℕ PriceFault) → IfOk q (λ m. IsWithinMillionths (number_in s) m) → IfOk q (λ m. (k : ℕ) → IsWithinMillionths (number_in s) k → m ≤ k) → IfOk q (λ m. m ≡ units_up 6 (number_in s))
+    value : (q : Result ℕ PriceFault) → IfOk q (λ m. IsWithinMillionths (number_in s) m) → IfOk q (λ m. (k : ℕ) → IsWithinMillionths (number_in s) k → m ≤ k)
+        → IfOk q (λ m. m ≡ units_up 6 (number_in s))
     value (Ok m) e l = least_is m _ ((within_up (number_in s) m).0 e) (l _ ((within_up (number_in s) _).1 (omega arith)))
     value (Err f) e l = tt
 
-    by : (b : Bool) → is_below_zero (number_in s) ≡ b → r ≡ cond b (Err PriceFault.Negative) (cond (nat_le (units_up 6 (number_in s)) (10 ^ 12)) (Ok (units_up 6 (number_in s))) (Err PriceFault.TooLarge))
+    by : (b : Bool) → is_below_zero (number_in s) ≡ b
+        → r ≡ cond b (Err PriceFault.Negative) (cond (nat_le (units_up 6 (number_in s)) (10 ^ 12)) (Ok (units_up 6 (number_in s))) (Err PriceFault.TooLarge))
     by true e = negative.1 e
     by false e = floor_plain _ (units_up 6 (number_in s)) r refl (value r enough least) (λ g. clash (negative.0 g) e)
         (λ g h. (large.0 g).1 ((within_up (number_in s) (10 ^ 12)).1 h), λ h. large.1 (e, λ w. h ((within_up (number_in s) (10 ^ 12)).0 w))) never

@@ -1,7 +1,6 @@
 -- A member of an object as a field of some type, or its flaw.
 use Rattle.std.specs.Prelude.{ℕ, ℤ, pos, ◌&&◌, nat_le, int_le, List, length, Bool, true, false, cond, Option, Some, None, option_map, option_and_then, Result, Ok, Err}
 use Rattle.exact_json.specs.Tree.{Tree, null, boolean, number, string, array, object, list_of, get}
-use Rattle.rtb_num.specs.Numbers.{is_number}
 use Rattle.json_fields.specs.Amounts.{in_32_bits, floor_of, exact_of, is_between}
 use Rattle.json_fields.specs.Answers.{and_then, map_err, map_ok}
 use Rattle.json_fields.specs.declared.bounds.Bounds.{Bounds}
@@ -31,15 +30,11 @@ as_text (string s) = Ok s
 as_text (array ts) = Err Flaw.WrongType
 as_text (object ps) = Err Flaw.WrongType
 
--- a text that has the number form, which each number in a JSON text has
-abbrev pub if_formed : List ℕ → Result (List ℕ) Flaw
-if_formed x = cond (is_number x) (Ok x) (Err Flaw.WrongType)
-
 -- a number, by its text
 unfoldable pub as_number : Tree → Result (List ℕ) Flaw
 as_number null = Err Flaw.WrongType
 as_number (boolean b) = Err Flaw.WrongType
-as_number (number x) = if_formed x
+as_number (number x) = Ok x
 as_number (string s) = Err Flaw.WrongType
 as_number (array ts) = Err Flaw.WrongType
 as_number (object ps) = Err Flaw.WrongType

@@ -1,6 +1,8 @@
 #![tactic(auto, using(crate::proofs::Items::nothing_yet), unfolding(crate::specs::Items::list_flaws, crate::specs::Items::list_values))]
 
 ghost use Rattle.std.specs.Prelude.{◌≡◌, pos, [], map};
+ghost use Rattle.std.specs.List.{All};
+ghost use Rattle.exact_json.specs.Forms.{HasForms};
 ghost use Rattle.exact_json.specs.View.{tree_of};
 ghost use Rattle.json_fields.specs.Answers.{Answers, flaws_of, map_ok, value_or};
 ghost use Rattle.json_fields.specs.Fields.{as_text, as_whole, present as present_in};
@@ -45,6 +47,7 @@ pub fn texts(alloc: Global, object: &Value, name: &[u8]) -> Result<List<Txt>, Li
 }
 
 fn whole_at(place: usize, value: &Value, bounds: &Bounds) -> Result<i32, ListFlaw>
+    requires forms { HasForms (tree_of value.now) }
     ensures { Answers ListFlaw.Memory (map (ListFlaw.Item place) (flaws_of (as_whole bounds.now (tree_of value.now)))) (value_or (pos 0) (as_whole bounds.now (tree_of value.now))) result }
 {
     match whole_in(value, bounds) {
@@ -54,6 +57,7 @@ fn whole_at(place: usize, value: &Value, bounds: &Bounds) -> Result<i32, ListFla
 }
 
 fn all_whole_numbers(alloc: Global, values: &[Value], bounds: &Bounds) -> Result<Vec<i32>, ListFlaw>
+    requires forms { All (λ v. HasForms (tree_of v)) values.now }
     ensures { Answers ListFlaw.Memory (items_flaws (as_whole bounds.now) (map tree_of values.now)) (items_values (as_whole bounds.now) (map tree_of values.now)) (map_ok (λ v. v.items) result) }
 {
     let mut numbers = Vec::with_capacity(alloc, values.len())?;
@@ -70,6 +74,7 @@ pub fn whole_numbers(
     name: &[u8],
     bounds: &Bounds,
 ) -> Result<List<i32>, ListFlaw>
+    requires forms { HasForms (tree_of object.now) }
     ensures { Answers ListFlaw.Memory (list_flaws (as_whole bounds.now) (present_in name.now (tree_of object.now))) (list_values (as_whole bounds.now) (present_in name.now (tree_of object.now))) result }
 {
     match array(object, name) {

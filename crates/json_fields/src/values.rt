@@ -1,16 +1,18 @@
 #![tactic(auto, unfolding(crate::specs::Fields::as_text, crate::specs::Fields::as_number, crate::specs::Fields::as_array, crate::specs::Fields::as_object, crate::specs::Fields::as_text_within, crate::specs::Fields::as_whole, crate::specs::Fields::as_flag, crate::specs::Fields::as_floor, crate::specs::Fields::as_exact, crate::specs::Amounts::in_32_bits))]
 
 ghost use Rattle.std.specs.Prelude.{◌≡◌, ◌≤ℤ◌, pos, negsuc, map, IfOk, IsTrue};
+ghost use Rattle.std.specs.List.{All};
+ghost use Rattle.exact_json.specs.Forms.{HasForms};
 ghost use Rattle.exact_json.specs.View.{tree_of};
 ghost use Rattle.rtb_num.specs.Numbers.{is_number as has_number_form};
 ghost use Rattle.json_fields.specs.Answers.{map_ok};
-ghost use Rattle.json_fields.specs.Fields.{as_array, as_exact, as_flag, as_floor, as_number, as_object, as_text, as_text_within, as_whole, if_formed};
+ghost use Rattle.json_fields.specs.Fields.{as_array, as_exact, as_flag, as_floor, as_number, as_object, as_text, as_text_within, as_whole};
 
 use crate::amounts::{exact_amount, floor_amount, whole_i32};
 use crate::bounds::Bounds;
 use crate::flaw::Flaw;
 use exact_json::Value;
-use rtb_num::{Micros, Txt, is_number};
+use rtb_num::{Micros, Txt};
 
 /// The text.
 pub fn text_in(value: &Value) -> Result<&Txt, Flaw>
@@ -22,32 +24,22 @@ pub fn text_in(value: &Value) -> Result<&Txt, Flaw>
     }
 }
 
-// The text itself, where it has the number form.
-fn if_number(text: &Txt) -> Result<&Txt, Flaw>
-    ensures value { map_ok (λ t. t.now) result ≡ if_formed text.now }
-    ensures form { IfOk result (λ t. IsTrue (has_number_form t.now)) }
-{
-    if is_number(text.as_bytes()) {
-        Ok(text)
-    } else {
-        Err(Flaw::WrongType)
-    }
-}
-
 /// The text of a number.
 pub fn number_in(value: &Value) -> Result<&Txt, Flaw>
+    requires forms { HasForms (tree_of value.now) }
     ensures value { map_ok (λ t. t.now) result ≡ as_number (tree_of value.now) }
     ensures form { IfOk result (λ t. IsTrue (has_number_form t.now)) }
 {
     match value {
-        Value::Num(text) => if_number(text),
+        Value::Num(text) => Ok(text),
         _ => Err(Flaw::WrongType),
     }
 }
 
 /// The values of an array.
 pub fn array_in(value: &Value) -> Result<&[Value], Flaw>
-    ensures { map_ok (λ vs. map tree_of vs.now) result ≡ as_array (tree_of value.now) }
+    ensures values { map_ok (λ vs. map tree_of vs.now) result ≡ as_array (tree_of value.now) }
+    ensures forms { HasForms (tree_of value.now) → IfOk result (λ vs. All (λ v. HasForms (tree_of v)) vs.now) }
 {
     match value {
         Value::Arr(items) => Ok(items.as_slice()),
@@ -79,6 +71,7 @@ pub(crate) fn text_within(value: &Value, greatest: usize) -> Result<&Txt, Flaw>
 
 // A whole number within the bounds.
 pub(crate) fn whole_in(value: &Value, bounds: &Bounds) -> Result<i32, Flaw>
+    requires forms { HasForms (tree_of value.now) }
     ensures { result ≡ as_whole bounds.now (tree_of value.now) }
 {
     let text = number_in(value)?;
@@ -97,6 +90,7 @@ const ZERO_OR_ONE: Bounds = Bounds {
 };
 
 pub(crate) fn flag_in(value: &Value) -> Result<bool, Flaw>
+    requires forms { HasForms (tree_of value.now) }
     ensures { result ≡ as_flag (tree_of value.now) }
 {
     let n = whole_in(value, &ZERO_OR_ONE)?;
@@ -104,6 +98,7 @@ pub(crate) fn flag_in(value: &Value) -> Result<bool, Flaw>
 }
 
 pub(crate) fn floor_in(value: &Value) -> Result<Micros, Flaw>
+    requires forms { HasForms (tree_of value.now) }
     ensures { result ≡ as_floor (tree_of value.now) }
 {
     let text = number_in(value)?;
@@ -114,6 +109,7 @@ pub(crate) fn floor_in(value: &Value) -> Result<Micros, Flaw>
 }
 
 pub(crate) fn exact_in(value: &Value) -> Result<Micros, Flaw>
+    requires forms { HasForms (tree_of value.now) }
     ensures { result ≡ as_exact (tree_of value.now) }
 {
     let text = number_in(value)?;

@@ -6,8 +6,6 @@
 
 mod places;
 mod strings;
-#[cfg(test)]
-mod tests;
 mod writer;
 
 pub use places::Place;

@@ -85,8 +85,9 @@ pub(crate) fn push_name(out: &mut Txt, name: &[u8]) -> Result<(), AllocError>
     out.push(b':')
 }
 
-/// The law of the written strings, with nothing to run: each is a string of RFC 8259, section 7, that
-/// says the bytes that it was given, and a string says one thing.
+/// The law of the written strings, with nothing to run, byte by byte: each is a string by the rules of
+/// RFC 8259, section 7, that says the bytes that it was given, and a string says one thing. Bytes from
+/// 0x80 on stand for themselves, so what is written is a JSON string where the bytes are UTF-8.
 pub fn strings_read_back()
     ensures back { (s : List ℕ) → IsString s (quoted s) }
     ensures one { (s t bytes : List ℕ) → IsString s bytes → IsString t bytes → s ≡ t }

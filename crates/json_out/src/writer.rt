@@ -6,8 +6,7 @@ ghost use Rattle.json_out.specs.declared.places.Place.TheVariants.{Array, Object
 
 use crate::places::{Place, Places};
 use crate::strings::{push_name, push_string};
-use itoa::Buffer;
-use rtb_num::{Micros, Nanos, Txt, write_micros, write_nanos};
+use rtb_num::{Micros, Nanos, Txt, write_decimal, write_micros, write_nanos};
 use std::alloc::{AllocError, Global};
 use std::marker::Model;
 
@@ -140,8 +139,7 @@ impl Writer {
         ensures err { OnErr result (self.new ≡ self.old) }
     {
         let before = self.separate()?;
-        let mut buffer = Buffer::new();
-        let written = self.text.extend(buffer.format(n).as_bytes());
+        let written = write_decimal(n, &mut self.text);
         self.settle(before, written)?;
         self.places.fill();
         Ok(())
@@ -209,10 +207,7 @@ impl Writer {
         ensures ok { OnOk result (self.new ≡ self.old) }
         ensures err { OnErr result (self.new ≡ record { text = take before self.old.text; places = self.old.places }) }
     {
-        if written.is_err() {
-            self.text.truncate(before);
-        }
-        written
+        self.text.settle(before, written)
     }
 }
 

@@ -1,10 +1,10 @@
 //! All that a source has, and all of a text to a sink.
 #![tactic(auto)]
 
-ghost use Rattle.std.specs.Prelude.{◌≡◌, ◌≢◌, ◌<◌, ◌≤◌, ◌^◌, ◌⊎◌, Err, length, IfOk, OnErr, OnOk};
-ghost use Rattle.rtb_io.specs.Fronts.{AppendsFront};
+ghost use Rattle.std.specs.Prelude.{◌≡◌, ◌+◌, ◌<◌, ◌≤◌, ◌^◌, ◌⊎◌, Err, length, IfOk, OnErr, OnOk};
+ghost use Rattle.rtb_io.specs.Fronts.{AppendsFront, TakesAtMost};
 ghost use Rattle.std.specs.Io.KnownBytes.{Appends, Consumes, IsAtEnd};
-ghost use Rattle.rtb_base.specs.Faults.{CountsErrors, Rose};
+ghost use Rattle.rtb_base.specs.Faults.{CountsErrors, RisesOnlyWhere, RoseAtMost};
 ghost use Rattle.rtb_io.specs.declared.ReadFault.TheVariants.{Failed as failed, Memory as memory};
 
 use rtb_num::{Failed, Sink, Source, Txt};
@@ -35,14 +35,19 @@ impl From<AllocError> for ReadFault {
     }
 }
 
-/// Reads to the end, or until more than `limit` bytes have come: a few thousand more at most.
+/// Reads to the end, or until more than `limit` bytes have come: at most 4096 more.
 pub fn read_all<S: Source>(alloc: Global, source: &mut S, limit: usize) -> Result<Txt, ReadFault>
     requires { limit < 2 ^ 62 }
     ensures bytes { IfOk result (λ t. Consumes (S.left source.old) (S.left source.new) t) }
     ensures end { IfOk result (λ t. IsAtEnd (S.left source.new) ⊎ (limit < length t)) }
-    ensures failed { result ≡ Err ReadFault.Failed → Rose (S.faults source.old) (S.faults source.new) }
-    ensures counted { S.faults source.old ≤ S.faults source.new }
-    ensures quiet { result ≢ Err ReadFault.Failed → S.faults source.new ≡ S.faults source.old }
+
+    // No more is taken from the source, whatever the answer.
+    ensures most { IfOk result (λ t. length t ≤ limit + 4096) }
+    ensures taken { TakesAtMost (limit + 4096) (S.left source.old) (S.left source.new) }
+
+    // It fails where a read of the source did, the first that does.
+    ensures cause { RisesOnlyWhere (result ≡ Err ReadFault.Failed) (S.faults source.old) (S.faults source.new) }
+    ensures once { RoseAtMost 1 (S.faults source.old) (S.faults source.new) }
 {
     let mut all = Txt::new(alloc);
     let mut piece = [0u8; 4096];

@@ -1,5 +1,6 @@
 pub mod Fractions
 pub mod Moved
+pub mod Pieces
 pub mod Points
 pub mod Written
 pub mod Numbers

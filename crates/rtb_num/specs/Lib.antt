@@ -2,5 +2,8 @@ pub mod Amounts
 pub mod Bytes
 pub mod Fields
 pub mod Kept
+pub mod Lends
+pub mod Memory
 pub mod Numbers
 pub mod Parts
+pub mod Spare

@@ -6,23 +6,23 @@
 //! `specs/Amounts.antt` how an amount is written, and `specs/Fields.antt` what a field of bytes holds.
 #![tactic(auto)]
 
+mod calls;
 mod fields;
 mod lists;
 mod memory;
 mod money;
 mod number_form;
 mod number_parts;
-#[cfg(test)]
-mod number_tests;
 mod read_amounts;
 mod real;
 mod short;
+mod spare;
 mod streams;
-#[cfg(test)]
-mod tests;
 mod text;
 mod write_amounts;
+mod write_whole;
 
+pub use calls::Calls;
 pub use fields::{fields_are_read_again, get_u32, get_u64, put_u32, put_u64};
 pub use lists::List;
 pub use memory::{MemSink, MemSource};
@@ -30,6 +30,8 @@ pub use money::{Micros, Nanos};
 pub use number_form::{is_decimal, is_number};
 pub use read_amounts::{PriceFault, exact_micros, floor_micros, is_whole, whole};
 pub use real::{StdSink, StdSource};
+pub use spare::{SpareList, SpareTxt};
 pub use streams::{Failed, Sink, Source};
 pub use text::Txt;
 pub use write_amounts::{write_micros, write_nanos, written_amounts_are_exact};
+pub use write_whole::{write_decimal, write_signed};

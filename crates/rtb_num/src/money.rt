@@ -86,3 +86,13 @@ impl Nanos {
         self.nanos
     }
 }
+
+impl From<Micros> for Nanos {
+    ghost from_gives = { λ price cost. cost ≡ price };
+
+    /// What one impression costs at the price: a thousandth of so many micro-dollars, which is as many
+    /// nano-dollars.
+    fn from(price: Micros) -> Nanos {
+        Nanos { nanos: price.get() }
+    }
+}

@@ -1,7 +1,9 @@
-ghost use Rattle.std.specs.Prelude.{◌≡◌};
+ghost use Rattle.std.specs.Prelude.{◌≡◌, ◌≤◌, ◌==◌, ◌&&◌, ◌||◌, not, length, if◌then◌else◌, IfOk, Ok};
+ghost use Rattle.std.specs.Result.{is_err, result_unwrap_or};
+ghost use Rattle.rtb_base.specs.Faults.{one_more};
 
 use crate::streams::{Failed, Sink, Source};
-use std::io::{Read, Write};
+use std::io::{self, Read, Write};
 
 /// A source over a reader of `std`, such as standard input.
 #[derive(Drop)]
@@ -26,13 +28,8 @@ impl<R: Read> Source for StdSource<R> {
     ghost faults = { λ s. s.faults };
 
     fn read(&mut self, out: &mut [u8]) -> Result<usize, Failed> {
-        match self.reader.read(out) {
-            Ok(n) => Ok(n),
-            Err(_) => {
-                self.faults = self.faults.saturating_add(1);
-                Err(Failed)
-            }
-        }
+        let answer = self.reader.read(out);
+        settle(answer, true, &mut self.faults)
     }
 }
 
@@ -61,18 +58,24 @@ impl<W: Write> Sink for StdSink<W> {
     ghost faults = { λ s. s.faults };
 
     fn write(&mut self, bytes: &[u8]) -> Result<usize, Failed> {
-        match self.writer.write(bytes) {
-            Ok(n) => {
-                if n > 0 || bytes.is_empty() {
-                    return Ok(n);
-                }
-                self.faults = self.faults.saturating_add(1);
-                Err(Failed)
-            }
-            Err(_) => {
-                self.faults = self.faults.saturating_add(1);
-                Err(Failed)
-            }
+        let answer = self.writer.write(bytes);
+        settle(answer, bytes.is_empty(), &mut self.faults)
+    }
+}
+
+// What an answer of the system comes to. It is a fault where it is an error, or where no byte was moved
+// and none is no answer; a fault is counted, and nothing else is.
+fn settle(answer: io::Result<usize>, may_be_none: bool, faults: &mut u64) -> Result<usize, Failed>
+    ensures fault { is_err result ≡ (is_err answer || (result_unwrap_or answer 0 == 0 && not may_be_none)) }
+    ensures moved { IfOk result (λ n. answer ≡ Ok n) }
+    ensures counted { faults.new ≡ (if is_err result then one_more faults.old else faults.old) }
+    ensures kept { faults.old ≤ faults.new }
+{
+    match answer {
+        Ok(n) if n > 0 || may_be_none => Ok(n),
+        _ => {
+            *faults = faults.saturating_add(1);
+            Err(Failed)
         }
     }
 }

@@ -1,5 +1,6 @@
 ghost use Rattle.rtb_num.specs.Bytes.{IsBytes};
-ghost use Rattle.std.specs.Prelude.{◌≡◌, nat_eq, Some, [], ◌∷◌, ◌++◌, ◌↔◌, length, take, IsTrue, IfOk, OnOk, OnErr, slice_get};
+ghost use Rattle.std.specs.Prelude.{◌≡◌, ℕ, nat_eq, List, Some, [], ◌∷◌, ◌++◌, ◌↔◌, length, map, take, IsTrue, IfOk, OnOk, OnErr, slice_get};
+ghost use Rattle.std.specs.List.{concat};
 ghost use Rattle.std.specs.Option.{option_copied};
 ghost use Rattle.std.specs.Ordering.{nat_cmp};
 ghost use Rattle.std.specs.Cmp;
@@ -167,6 +168,29 @@ impl Txt {
         Ok(())
     }
 
+    /// Appends these pieces one after the other, all or none.
+    pub fn extend_all(&mut self, pieces: &[&[u8]]) -> Result<(), AllocError>
+        ensures ok { OnOk result (self.new ≡ self.old ++ concat (map (λ p. p.now) pieces.now)) }
+        ensures err { OnErr result (self.new ≡ self.old) }
+    {
+        let before = self.len();
+        let done = append_pieces(pieces, self);
+        self.settle(before, done)
+    }
+
+    /// Where what was done to the text was refused, takes it back: the first `before` bytes stay. Gives
+    /// the answer back as it was.
+    pub fn settle(&mut self, before: usize, done: Result<(), AllocError>) -> Result<(), AllocError>
+        ensures same { result ≡ done }
+        ensures ok { OnOk result (self.new ≡ self.old) }
+        ensures err { OnErr result (self.new ≡ take before self.old) }
+    {
+        if done.is_err() {
+            self.truncate(before);
+        }
+        done
+    }
+
     /// Keeps the first `n` bytes, or all where there are fewer.
     pub fn truncate(&mut self, n: usize)
         ensures { self.new ≡ take n self.old }
@@ -177,7 +201,8 @@ impl Txt {
         }
     }
 
-    /// Makes room for so many bytes more.
+    /// Takes the memory for so many bytes more, for speed alone: no contract sees room. Where a later
+    /// step must not be refused memory, use a `SpareTxt`.
     pub fn reserve(&mut self, more: usize) -> Result<(), AllocError>
         ensures { self.new ≡ self.old }
     {
@@ -204,6 +229,17 @@ impl Txt {
             Kept::Long(bytes) => Txt::from_slice(*bytes.allocator(), bytes.as_slice()),
         }
     }
+}
+
+// Appends these pieces one after the other; where memory is refused, the first of them may stay.
+fn append_pieces(pieces: &[&[u8]], out: &mut Txt) -> Result<(), AllocError>
+    ensures ok { OnOk result (out.new ≡ out.old ++ concat (map (λ p. p.now) pieces.now)) }
+    ensures front { (more : List ℕ) × (out.new ≡ out.old ++ more) }
+{
+    for piece in pieces {
+        out.extend(piece)?;
+    }
+    Ok(())
 }
 
 impl fmt::Debug for Txt {

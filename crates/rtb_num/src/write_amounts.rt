@@ -3,7 +3,7 @@ ghost use Rattle.rtb_num.specs.Amounts.{micros_text, nanos_text, amount_text, fr
 
 use crate::money::{Micros, Nanos};
 use crate::text::Txt;
-use itoa::Buffer;
+use crate::write_whole::write_decimal;
 use std::alloc::AllocError;
 
 /// Appends a price in US dollars per thousand impressions: the whole part, then, where the rest is
@@ -31,10 +31,7 @@ fn write_amount(n: u64, places: u32, out: &mut Txt) -> Result<(), AllocError>
 {
     let before = out.len();
     let written = push_amount(n, places, out);
-    if written.is_err() {
-        out.truncate(before);
-    }
-    written
+    out.settle(before, written)
 }
 
 // Appends n / 10 ^ places; where memory is refused, its front may stay.
@@ -44,8 +41,7 @@ fn push_amount(n: u64, places: u32, out: &mut Txt) -> Result<(), AllocError>
     ensures front { (more : List ℕ) × (out.new ≡ out.old ++ more) }
 {
     let unit = 10u64.pow(places);
-    let mut buffer = Buffer::new();
-    out.extend(buffer.format(n / unit).as_bytes())?;
+    write_decimal(n / unit, out)?;
     let rest = n % unit;
     if rest == 0 {
         return Ok(());

@@ -2,6 +2,8 @@
 
 ghost use Rattle.std.specs.Prelude.{◌≡◌, ◌++◌, codes, map, OnOk};
 ghost use Rattle.std.specs.Option.{option_to_list};
+ghost use Rattle.std.specs.List.{All};
+ghost use Rattle.exact_json.specs.Forms.{HasForms};
 ghost use Rattle.exact_json.specs.View.{tree_of};
 ghost use Rattle.json_fields.specs.Answers.{Answers, map_ok};
 ghost use Rattle.json_fields.specs.Fields.{as_object, optional, present};
@@ -30,6 +32,7 @@ fn size(w: Option<i32>, h: Option<i32>) -> Option<Size>
 
 // The size in an entry of `format`.
 fn format_in(imp: usize, place: usize, format: &Value) -> Result<Option<Size>, ReqFault>
+    requires forms { HasForms (tree_of format.now) }
     ensures { Answers ReqFault.Memory (format_faults imp place (tree_of format.now)) (size_in (tree_of format.now)) result }
 {
     let w = integer_field(format, b"w", Field::Format(imp, place, SizeField::W))?;
@@ -38,6 +41,7 @@ fn format_in(imp: usize, place: usize, format: &Value) -> Result<Option<Size>, R
 }
 
 fn format_entry(imp: usize, place: usize, value: &Value) -> Result<Option<Size>, ReqFault>
+    requires forms { HasForms (tree_of value.now) }
     ensures { Answers ReqFault.Memory (format_at imp place (tree_of value.now)) (size_in (tree_of value.now)) result }
 {
     match fields::object_in(value) {
@@ -62,6 +66,7 @@ fn all_sizes(
     imp: usize,
     values: &[Value],
 ) -> Result<Vec<Size>, ReqFault>
+    requires forms { All (λ v. HasForms (tree_of v)) values.now }
     ensures { Answers ReqFault.Memory (each_at (format_at imp) (map tree_of values.now)) (sizes_of own (map tree_of values.now)) (map_ok (λ v. v.items) result) }
 {
     let mut sizes = Vec::with_capacity(alloc, values.len())?;
@@ -79,6 +84,7 @@ fn sizes_field(
     imp: usize,
     banner: &Value,
 ) -> Result<List<Size>, ReqFault>
+    requires forms { HasForms (tree_of banner.now) }
     ensures { Answers ReqFault.Memory (formats_faults imp (tree_of banner.now)) (sizes_of own (elements (formats_in (tree_of banner.now)))) result }
 {
     match fields::array(banner, b"format") {
@@ -101,6 +107,7 @@ fn battr_fault(imp: usize, flaw: ListFlaw) -> ReqFault
 }
 
 fn battr_field(alloc: Global, imp: usize, banner: &Value) -> Result<List<i32>, ReqFault>
+    requires forms { HasForms (tree_of banner.now) }
     ensures { Answers ReqFault.Memory (battr_faults imp (tree_of banner.now)) (list_values as_i32 (present (codes "battr") (tree_of banner.now))) result }
 {
     match fields::whole_numbers(alloc, banner, b"battr", &ANY_I32) {
@@ -110,6 +117,7 @@ fn battr_field(alloc: Global, imp: usize, banner: &Value) -> Result<List<i32>, R
 }
 
 fn banner_in(alloc: Global, imp: usize, banner: &Value) -> Result<Banner, ReqFault>
+    requires forms { HasForms (tree_of banner.now) }
     ensures { Answers ReqFault.Memory (banner_faults imp (tree_of banner.now)) (banner_from (tree_of banner.now)) result }
 {
     let w = integer_field(banner, b"w", Field::Banner(imp, BannerField::W))?;
@@ -125,6 +133,7 @@ pub(crate) fn banner_field(
     imp: usize,
     parent: &Value,
 ) -> Result<Option<Banner>, ReqFault>
+    requires forms { HasForms (tree_of parent.now) }
     ensures { Answers ReqFault.Memory (inside_faults (Field.Imp imp ImpField.Banner) (banner_faults imp) (optional as_object (present (codes "banner") (tree_of parent.now)))) (inside_from banner_from (optional as_object (present (codes "banner") (tree_of parent.now)))) result }
 {
     match fields::object(parent, b"banner") {

@@ -1,6 +1,7 @@
 #![tactic(auto, using(json_fields::proofs::First::in_front, json_fields::proofs::First::behind, json_fields::proofs::First::neither), unfolding(crate::specs::Context::publisher_faults, crate::specs::Context::publisher_from, crate::specs::Context::site_faults, crate::specs::Context::site_from, crate::specs::Context::app_faults, crate::specs::Context::app_from, crate::specs::Context::geo_faults, crate::specs::Context::geo_from, crate::specs::Context::device_faults, crate::specs::Context::device_from, crate::specs::Context::user_faults, crate::specs::Context::user_from, crate::specs::Parts::inside_faults, crate::specs::Parts::inside_from))]
 
 ghost use Rattle.std.specs.Prelude.{codes};
+ghost use Rattle.exact_json.specs.Forms.{HasForms};
 ghost use Rattle.exact_json.specs.View.{tree_of};
 ghost use Rattle.json_fields.specs.Answers.{Answers};
 ghost use Rattle.json_fields.specs.Fields.{as_object, optional, present};
@@ -90,6 +91,7 @@ fn geo_field(device: &Value) -> Result<Option<Geo>, ReqFault>
 }
 
 fn device_in(device: &Value) -> Result<Device, ReqFault>
+    requires forms { HasForms (tree_of device.now) }
     ensures { Answers ReqFault.Memory (device_faults (tree_of device.now)) (device_from (tree_of device.now)) result }
 {
     let geo = geo_field(device)?;
@@ -123,6 +125,7 @@ fn device_in(device: &Value) -> Result<Device, ReqFault>
 }
 
 fn user_in(user: &Value) -> Result<User, ReqFault>
+    requires forms { HasForms (tree_of user.now) }
     ensures { Answers ReqFault.Memory (user_faults (tree_of user.now)) (user_from (tree_of user.now)) result }
 {
     let id = text_field(user, b"id", Field::User(UserField::Id))?;
@@ -152,6 +155,7 @@ pub(crate) fn app_field(request: &Value) -> Result<Option<App>, ReqFault>
 }
 
 pub(crate) fn device_field(request: &Value) -> Result<Option<Device>, ReqFault>
+    requires forms { HasForms (tree_of request.now) }
     ensures { Answers ReqFault.Memory (inside_faults (Field.Request RequestField.Device) device_faults (optional as_object (present (codes "device") (tree_of request.now)))) (inside_from device_from (optional as_object (present (codes "device") (tree_of request.now)))) result }
 {
     match fields::object(request, b"device") {
@@ -162,6 +166,7 @@ pub(crate) fn device_field(request: &Value) -> Result<Option<Device>, ReqFault>
 }
 
 pub(crate) fn user_field(request: &Value) -> Result<Option<User>, ReqFault>
+    requires forms { HasForms (tree_of request.now) }
     ensures { Answers ReqFault.Memory (inside_faults (Field.Request RequestField.User) user_faults (optional as_object (present (codes "user") (tree_of request.now)))) (inside_from user_from (optional as_object (present (codes "user") (tree_of request.now)))) result }
 {
     match fields::object(request, b"user") {

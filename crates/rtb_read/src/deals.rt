@@ -1,6 +1,8 @@
 #![tactic(auto, using(json_fields::proofs::First::in_front, json_fields::proofs::First::behind, json_fields::proofs::First::neither, json_fields::proofs::First::mapped, json_fields::proofs::First::mapped_none, crate::proofs::Loops::no_deals), unfolding(crate::specs::Imps::deal_texts_faults, crate::specs::Imps::deal_texts_from, crate::specs::Imps::deal_faults, crate::specs::Imps::deal_from, crate::specs::Imps::deals_faults, crate::specs::Imps::deals_in, crate::specs::Imps::pmp_faults, crate::specs::Imps::pmp_from, crate::specs::Parts::element_faults, crate::specs::Parts::inside_faults, crate::specs::Parts::inside_from, crate::specs::Parts::list_faults))]
 
 ghost use Rattle.std.specs.Prelude.{◌≡◌, [], codes, map};
+ghost use Rattle.std.specs.List.{All};
+ghost use Rattle.exact_json.specs.Forms.{HasForms};
 ghost use Rattle.exact_json.specs.View.{tree_of};
 ghost use Rattle.json_fields.specs.Answers.{Answers, map_ok, value_or};
 ghost use Rattle.json_fields.specs.Fields.{as_object, as_text, optional, present, required};
@@ -59,6 +61,7 @@ fn id_field(imp: usize, place: usize, deal: &Value) -> Result<Txt, ReqFault>
 
 // A deal, by the request's auction type and by the places of its impression and of its own.
 fn deal_in(alloc: Global, at: u8, imp: usize, place: usize, deal: &Value) -> Result<Deal, ReqFault>
+    requires forms { HasForms (tree_of deal.now) }
     ensures { Answers ReqFault.Memory (deal_faults imp place (tree_of deal.now)) (deal_from at (tree_of deal.now)) result }
 {
     let id = id_field(imp, place, deal)?;
@@ -93,6 +96,7 @@ fn deal_entry(
     place: usize,
     value: &Value,
 ) -> Result<Deal, ReqFault>
+    requires forms { HasForms (tree_of value.now) }
     ensures { Answers ReqFault.Memory (deal_at imp place (tree_of value.now)) (deal_from at (tree_of value.now)) result }
 {
     match fields::object_in(value) {
@@ -102,6 +106,7 @@ fn deal_entry(
 }
 
 fn all_deals(alloc: Global, at: u8, imp: usize, values: &[Value]) -> Result<Vec<Deal>, ReqFault>
+    requires forms { All (λ v. HasForms (tree_of v)) values.now }
     ensures { Answers ReqFault.Memory (each_at (deal_at imp) (map tree_of values.now)) (deals_from at (map tree_of values.now)) (map_ok (λ v. v.items) result) }
 {
     let mut deals = Vec::with_capacity(alloc, values.len())?;
@@ -112,6 +117,7 @@ fn all_deals(alloc: Global, at: u8, imp: usize, values: &[Value]) -> Result<Vec<
 }
 
 fn deals_field(alloc: Global, at: u8, imp: usize, pmp: &Value) -> Result<List<Deal>, ReqFault>
+    requires forms { HasForms (tree_of pmp.now) }
     ensures { Answers ReqFault.Memory (deals_faults imp (tree_of pmp.now)) (deals_from at (elements (deals_in (tree_of pmp.now)))) result }
 {
     match fields::array(pmp, b"deals") {
@@ -122,6 +128,7 @@ fn deals_field(alloc: Global, at: u8, imp: usize, pmp: &Value) -> Result<List<De
 }
 
 fn pmp_in(alloc: Global, at: u8, imp: usize, pmp: &Value) -> Result<Pmp, ReqFault>
+    requires forms { HasForms (tree_of pmp.now) }
     ensures { Answers ReqFault.Memory (pmp_faults imp (tree_of pmp.now)) (pmp_from at (tree_of pmp.now)) result }
 {
     let private_auction = flag_field(
@@ -147,6 +154,7 @@ fn open_to_all(alloc: Global) -> Pmp
 }
 
 pub(crate) fn pmp_field(alloc: Global, at: u8, imp: usize, parent: &Value) -> Result<Pmp, ReqFault>
+    requires forms { HasForms (tree_of parent.now) }
     ensures { Answers ReqFault.Memory (inside_faults (Field.Imp imp ImpField.Pmp) (pmp_faults imp) (optional as_object (present (codes "pmp") (tree_of parent.now)))) (pmp_or_none (inside_from (pmp_from at) (optional as_object (present (codes "pmp") (tree_of parent.now))))) result }
 {
     match fields::object(parent, b"pmp") {

@@ -2,6 +2,8 @@
 
 ghost use Rattle.std.specs.Prelude.{◌≡◌, [], ◌∷◌, map, position, IfErr, OnOk};
 ghost use Rattle.std.specs.Str.{bytes_eq};
+ghost use Rattle.std.specs.List.{All};
+ghost use Rattle.exact_json.specs.Forms.{HasForms};
 ghost use Rattle.exact_json.specs.View.{tree_of};
 ghost use Rattle.json_fields.specs.Answers.{Answers, IsFirst, map_ok};
 ghost use Rattle.json_fields.specs.Items.{each_at};
@@ -19,6 +21,7 @@ use std::alloc::Global;
 
 // An impression, by the request's auction type and by its place.
 fn imp_in(alloc: Global, at: u8, place: usize, imp: &Value) -> Result<Imp, ReqFault>
+    requires forms { HasForms (tree_of imp.now) }
     ensures { Answers ReqFault.Memory (imp_faults place (tree_of imp.now)) (imp_from at (tree_of imp.now)) result }
 {
     let id = id_field(imp, Field::Imp(place, ImpField::Id))?;
@@ -40,6 +43,7 @@ fn imp_in(alloc: Global, at: u8, place: usize, imp: &Value) -> Result<Imp, ReqFa
 }
 
 fn imp_entry(alloc: Global, at: u8, place: usize, value: &Value) -> Result<Imp, ReqFault>
+    requires forms { HasForms (tree_of value.now) }
     ensures { Answers ReqFault.Memory (imp_at place (tree_of value.now)) (imp_from at (tree_of value.now)) result }
 {
     match fields::object_in(value) {
@@ -49,6 +53,7 @@ fn imp_entry(alloc: Global, at: u8, place: usize, value: &Value) -> Result<Imp, 
 }
 
 fn all_imps(alloc: Global, at: u8, values: &[Value]) -> Result<Vec<Imp>, ReqFault>
+    requires forms { All (λ v. HasForms (tree_of v)) values.now }
     ensures { Answers ReqFault.Memory (each_at imp_at (map tree_of values.now)) (imps_from at (map tree_of values.now)) (map_ok (λ v. v.items) result) }
 {
     let mut imps = Vec::with_capacity(alloc, values.len())?;
@@ -94,6 +99,7 @@ fn check_ids(imps: &[Imp]) -> Result<(), ReqFault>
 
 // The impressions in the values of an array.
 pub(crate) fn imps_in(alloc: Global, at: u8, values: &[Value]) -> Result<List<Imp>, ReqFault>
+    requires forms { All (λ v. HasForms (tree_of v)) values.now }
     ensures { Answers ReqFault.Memory (imps_faults (map tree_of values.now)) (imps_from at (map tree_of values.now)) result }
 {
     check_count(values.len())?;

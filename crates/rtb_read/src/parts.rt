@@ -1,6 +1,7 @@
 #![tactic(auto, using(json_fields::proofs::First::in_front, json_fields::proofs::First::behind, json_fields::proofs::First::neither), unfolding(crate::specs::Parts::faults_at, crate::specs::Parts::text_faults, crate::specs::Parts::text_from, crate::specs::Parts::integer_faults, crate::specs::Parts::integer_from, crate::specs::Parts::list_faults, crate::specs::Parts::type_faults, crate::specs::Parts::type_from))]
 
 ghost use Rattle.std.specs.Prelude.{◌≡◌, [], false, option_map, codes, IfOk};
+ghost use Rattle.exact_json.specs.Forms.{HasForms};
 ghost use Rattle.exact_json.specs.View.{tree_of};
 ghost use Rattle.json_fields.specs.Answers.{Answers, value_or};
 ghost use Rattle.json_fields.specs.Fields.{as_flag, or_absent, present};
@@ -61,6 +62,7 @@ pub(crate) fn integer_field(
     name: &[u8],
     field: Field,
 ) -> Result<Option<i32>, ReqFault>
+    requires forms { HasForms (tree_of object.now) }
     ensures { Answers ReqFault.Memory (integer_faults field name.now (tree_of object.now)) (integer_from name.now (tree_of object.now)) result }
 {
     match fields::whole_number(object, name, &ANY_I32) {
@@ -71,6 +73,7 @@ pub(crate) fn integer_field(
 
 // A 0 or a 1, and 0 where it is absent.
 pub(crate) fn flag_field(object: &Value, name: &[u8], field: Field) -> Result<bool, ReqFault>
+    requires forms { HasForms (tree_of object.now) }
     ensures { Answers ReqFault.Memory (faults_at field (or_absent false as_flag (present name.now (tree_of object.now)))) (value_or false (or_absent false as_flag (present name.now (tree_of object.now)))) result }
 {
     match fields::flag(object, name) {
@@ -91,6 +94,7 @@ pub(crate) fn id_field(object: &Value, field: Field) -> Result<Txt, ReqFault>
 
 // A floor in US dollars, and 0 where it is absent.
 pub(crate) fn floor_field(object: &Value, field: Field) -> Result<Micros, ReqFault>
+    requires forms { HasForms (tree_of object.now) }
     ensures { Answers ReqFault.Memory (faults_at field (floor_in (tree_of object.now))) (value_or 0 (floor_in (tree_of object.now))) result }
 {
     match fields::floor_price(object, b"bidfloor") {

@@ -2,6 +2,7 @@
 
 ghost use Rattle.std.specs.Prelude.{◌≡◌, [], IfOk, IsTrue};
 ghost use Rattle.exact_json.specs.Docs.{doc_tree};
+ghost use Rattle.exact_json.specs.Forms.{HasForms};
 ghost use Rattle.exact_json.specs.View.{tree_of};
 ghost use Rattle.json_fields.specs.Answers.{Answers, value_or};
 ghost use Rattle.rtb_types.specs.Valid.{is_valid};
@@ -48,6 +49,7 @@ fn texts_field(alloc: Global, request: &Value, field: RequestField) -> Result<Li
 }
 
 fn imps_field(alloc: Global, at: u8, request: &Value) -> Result<List<Imp>, ReqFault>
+    requires forms { HasForms (tree_of request.now) }
     ensures { Answers ReqFault.Memory (all_imps_faults (imp_in (tree_of request.now))) (imps_from at (value_or [] (imp_in (tree_of request.now)))) result }
 {
     match fields::required_array(request, b"imp") {
@@ -59,6 +61,7 @@ fn imps_field(alloc: Global, at: u8, request: &Value) -> Result<List<Imp>, ReqFa
 // The fields of a request, in the order in which they are read.
 #[tactic(auto, using(json_fields::proofs::First::in_front, json_fields::proofs::First::behind, json_fields::proofs::First::neither), unfolding(crate::specs::Request::fields_faults, crate::specs::Request::request_from))]
 fn request_in(alloc: Global, request: &Value) -> Result<BidRequest, ReqFault>
+    requires forms { HasForms (tree_of request.now) }
     ensures { Answers ReqFault.Memory (fields_faults (tree_of request.now)) (request_from (tree_of request.now)) result }
 {
     let id = id_field(request, Field::Request(RequestField::Id))?;

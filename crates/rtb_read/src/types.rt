@@ -1,6 +1,7 @@
 #![tactic(auto, unfolding(crate::specs::Parts::as_type, crate::specs::Parts::type_faults, crate::specs::Parts::type_from, json_fields::specs::Fields::or_absent))]
 
 ghost use Rattle.std.specs.Prelude.{◌≡◌, ◌≤◌, codes, IfOk, IsTrue};
+ghost use Rattle.exact_json.specs.Forms.{HasForms};
 ghost use Rattle.exact_json.specs.View.{tree_of};
 ghost use Rattle.json_fields.specs.Amounts.{whole_of};
 ghost use Rattle.json_fields.specs.Answers.{Answers};
@@ -48,6 +49,7 @@ fn unnamed(is_whole: bool) -> TypeFlaw
 }
 
 fn type_in(value: &Value, greatest: u8) -> Result<u8, TypeFlaw>
+    requires forms { HasForms (tree_of value.now) }
     ensures { result ≡ as_type greatest (tree_of value.now) }
 {
     match fields::number_in(value) {
@@ -72,6 +74,7 @@ pub(crate) fn type_field(
     greatest: u8,
     default: u8,
 ) -> Result<u8, ReqFault>
+    requires forms { HasForms (tree_of object.now) }
     ensures { Answers ReqFault.Memory (type_faults field greatest (present (codes "at") (tree_of object.now))) (type_from greatest default (present (codes "at") (tree_of object.now))) result }
 {
     match fields::present(object, b"at") {

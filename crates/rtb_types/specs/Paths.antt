@@ -96,6 +96,37 @@ deal_name DealField.At = codes "at"
 deal_name DealField.Wseat = codes "wseat"
 deal_name DealField.Wadomain = codes "wadomain"
 
+-- the name of the member that is `site.publisher.id` or the like
+abbrev pub site_member : SiteField → List ℕ
+site_member SiteField.Id = site_name SiteField.Id
+site_member SiteField.Domain = site_name SiteField.Domain
+site_member SiteField.Publisher = site_name SiteField.Publisher
+site_member SiteField.PublisherId = codes "id"
+
+abbrev pub app_member : AppField → List ℕ
+app_member AppField.Id = app_name AppField.Id
+app_member AppField.Bundle = app_name AppField.Bundle
+app_member AppField.Publisher = app_name AppField.Publisher
+app_member AppField.PublisherId = codes "id"
+
+-- the name that a field has as a member of its object; an entry of a list has that of the list
+abbrev pub member_name : Field → List ℕ
+member_name (Field.Request f) = request_name f
+member_name (Field.RequestItem f k) = request_name f
+member_name (Field.Site f) = site_member f
+member_name (Field.App f) = app_member f
+member_name (Field.Device f) = device_name f
+member_name (Field.Geo f) = geo_name f
+member_name (Field.User f) = user_name f
+member_name (Field.Imp i f) = imp_name f
+member_name (Field.Banner i f) = banner_name f
+member_name (Field.BannerItem i f k) = banner_name f
+member_name (Field.Format i k f) = size_name f
+member_name (Field.Pmp i f) = pmp_name f
+member_name (Field.Deal i j) = pmp_name PmpField.Deals
+member_name (Field.OfDeal i j f) = deal_name f
+member_name (Field.DealItem i j f k) = deal_name f
+
 -- a place in an array
 abbrev pub place : ℕ → List ℕ
 place k = codes "[" ++ decimal k ++ codes "]"

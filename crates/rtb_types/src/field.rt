@@ -1,5 +1,5 @@
 ghost use Rattle.std.specs.Prelude.{◌≡◌};
-ghost use Rattle.rtb_types.specs.Paths.{app_name, banner_name, deal_name, device_name, geo_name, imp_name, pmp_name, request_name, site_name, size_name, user_name};
+ghost use Rattle.rtb_types.specs.Paths.{app_member, app_name, banner_name, deal_name, device_name, geo_name, imp_name, member_name, pmp_name, request_name, site_member, site_name, size_name, user_name};
 
 /// A listed field of a bid request (OpenRTB 2.5, section 3.2), with its places in arrays.
 ///
@@ -150,6 +150,28 @@ pub enum DealField {
     Wadomain,
 }
 
+impl Field {
+    /// The name that it has as a member of its object; that of the list for an entry of a list.
+    pub fn member(self) -> &'static [u8]
+        ensures { result.now ≡ member_name self }
+    {
+        match self {
+            Field::Request(field) | Field::RequestItem(field, _) => field.name(),
+            Field::Site(field) => field.member(),
+            Field::App(field) => field.member(),
+            Field::Device(field) => field.name(),
+            Field::Geo(field) => field.name(),
+            Field::User(field) => field.name(),
+            Field::Imp(_, field) => field.name(),
+            Field::Banner(_, field) | Field::BannerItem(_, field, _) => field.name(),
+            Field::Format(_, _, field) => field.name(),
+            Field::Pmp(_, field) => field.name(),
+            Field::Deal(_, _) => PmpField::Deals.name(),
+            Field::OfDeal(_, _, field) | Field::DealItem(_, _, field, _) => field.name(),
+        }
+    }
+}
+
 impl RequestField {
     /// Its name in the standard.
     pub fn name(self) -> &'static [u8]
@@ -185,6 +207,16 @@ impl SiteField {
             SiteField::PublisherId => b"publisher.id",
         }
     }
+
+    // Its name in the object that it is a member of.
+    fn member(self) -> &'static [u8]
+        ensures { result.now ≡ site_member self }
+    {
+        match self {
+            SiteField::PublisherId => b"id",
+            field => field.name(),
+        }
+    }
 }
 
 impl AppField {
@@ -197,6 +229,16 @@ impl AppField {
             AppField::Bundle => b"bundle",
             AppField::Publisher => b"publisher",
             AppField::PublisherId => b"publisher.id",
+        }
+    }
+
+    // Its name in the object that it is a member of.
+    fn member(self) -> &'static [u8]
+        ensures { result.now ≡ app_member self }
+    {
+        match self {
+            AppField::PublisherId => b"id",
+            field => field.name(),
         }
     }
 }

@@ -7,8 +7,6 @@
 mod field;
 mod path;
 mod request;
-#[cfg(test)]
-mod tests;
 
 pub use field::{
     AppField, BannerField, DealField, DeviceField, Field, GeoField, ImpField, PmpField,

@@ -2,8 +2,7 @@ ghost use Rattle.std.specs.Prelude.{◌≡◌, ◌++◌, ◌∷◌, ℕ, List, O
 ghost use Rattle.rtb_types.specs.Paths.{banner_path, deal_path, imp_path, path, place, pmp_path};
 
 use crate::field::Field;
-use itoa::Buffer;
-use rtb_num::Txt;
+use rtb_num::{Txt, write_decimal};
 use std::alloc::AllocError;
 
 // Appends these bytes, or nothing.
@@ -19,9 +18,8 @@ fn put_place(index: usize, out: &mut Txt) -> Result<(), AllocError>
     ensures ok { OnOk result (out.new ≡ out.old ++ place index) }
     ensures grows { (more : List ℕ) × (out.new ≡ out.old ++ more) }
 {
-    let mut buffer = Buffer::new();
     put(b"[", out)?;
-    put(buffer.format(index).as_bytes(), out)?;
+    write_decimal(index as u64, out)?;
     put(b"]", out)?;
     Ok(())
 }
@@ -100,7 +98,7 @@ fn put_path(field: &Field, out: &mut Txt) -> Result<(), AllocError>
 {
     match *field {
         Field::Request(name) => put(name.name(), out)?,
-        Field::RequestItem(name, at) => put_item(name.name(), at, out)?,
+        Field::RequestItem(name, place) => put_item(name.name(), place, out)?,
         Field::Site(name) => put_name(b"site.", name.name(), out)?,
         Field::App(name) => put_name(b"app.", name.name(), out)?,
         Field::Device(name) => put_name(b"device.", name.name(), out)?,
@@ -114,14 +112,14 @@ fn put_path(field: &Field, out: &mut Txt) -> Result<(), AllocError>
             put_banner(imp, out)?;
             put_member(name.name(), out)?;
         }
-        Field::BannerItem(imp, name, at) => {
+        Field::BannerItem(imp, name, place) => {
             put_banner(imp, out)?;
             put_member(name.name(), out)?;
-            put_place(at, out)?;
+            put_place(place, out)?;
         }
-        Field::Format(imp, at, name) => {
+        Field::Format(imp, place, name) => {
             put_banner(imp, out)?;
-            put_item(b".format", at, out)?;
+            put_item(b".format", place, out)?;
             put_member(name.name(), out)?;
         }
         Field::Pmp(imp, name) => {
@@ -133,10 +131,10 @@ fn put_path(field: &Field, out: &mut Txt) -> Result<(), AllocError>
             put_deal(imp, deal, out)?;
             put_member(name.name(), out)?;
         }
-        Field::DealItem(imp, deal, name, at) => {
+        Field::DealItem(imp, deal, name, place) => {
             put_deal(imp, deal, out)?;
             put_member(name.name(), out)?;
-            put_place(at, out)?;
+            put_place(place, out)?;
         }
     }
     Ok(())
@@ -151,9 +149,6 @@ impl Field {
     {
         let before = out.len();
         let written = put_path(self, out);
-        if written.is_err() {
-            out.truncate(before);
-        }
-        written
+        out.settle(before, written)
     }
 }

@@ -54,7 +54,7 @@ Up (x ∷ xs) = ((z : Text) → Has z xs → order x z ≡ Less) × Up xs
 itself : (x : Text) → order x x ≡ Equal
 itself x = tied_itself nat_list_cmp_total x
 
-same_text : (x y : Text) → order x y ≡ Equal → x ≡ y
+pub same_text : (x y : Text) → order x y ≡ Equal → x ≡ y
 same_text = slice_cmp-IsAntisymmetric nat_cmp-IsAntisymmetric
 
 not_both : (x y : Text) → order x y ≡ Less → order y x ≡ Less → ⊥

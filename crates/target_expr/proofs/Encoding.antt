@@ -3,14 +3,14 @@ use Rattle.std.proofs.Common.{◌≡◌, ℕ, ◌<◌, ◌≤◌, List, ◌∷�
 use Rattle.std.specs.List.{list_all}
 use Rattle.std.proofs.lemmas.Bool.{and_parts, leb-true}
 use Rattle.byte_fields.specs.Codes.{IsReadAt, IsCode, BothValid, both_bytes}
-use Rattle.byte_fields.specs.Encodings.{IsByte, byte_bytes, IsFlag, flag_bytes, IsShort, text_bytes, IsListOf, list_bytes}
+use Rattle.byte_fields.specs.Encodings.{IsByte, byte_bytes, IsFlag, flag_bytes, IsShort, text_bytes, IsListWithin, list_bytes}
 use Rattle.byte_fields.proofs.Codes.{both_code, code_as, narrow_code, read_both, read_no_first, read_no_second, read_none_as}
-use Rattle.byte_fields.proofs.Rows.{text_code, list_code}
+use Rattle.byte_fields.proofs.Rows.{text_code, within_code}
 use Rattle.target_expr.specs.declared.attr.Attr.{Attr}
 use Rattle.target_expr.specs.declared.attr.Attr.TheVariants.{Domain, Site, Bundle, App, Publisher, Country, Region, Metro, City, Zip, DeviceType, Make, Model, Os, Osv, Language, Carrier, ConnectionType, Yob, Gender, TagId, Pos}
 use Rattle.target_expr.specs.declared.pred.Pred.{Pred}
 use Rattle.target_expr.specs.Attributes.{number_of, numbered}
-use Rattle.target_expr.specs.Bytes.{IsKept, attr_bytes, pred_bytes, conjunction_bytes, expr_bytes}
+use Rattle.target_expr.specs.Bytes.{IsEncodable, attr_bytes, pred_bytes, conjunction_bytes, expr_bytes}
 use Rattle.target_expr.specs.Kept.{is_kept_conjunction, is_kept_pred}
 use Rattle.target_expr.specs.Loose.{IsAttr, IsLoosePred, IsLooseConjunction, IsLoose}
 use Rattle.target_expr.proofs.Limits.{passes_at, pred_values, conjunction_length, conjunction_preds, expr_length, expr_conjunctions}
@@ -100,8 +100,11 @@ attr_no_byte bytes place none = λ a m v b. none (number_of a) m (number_fits a)
 abbrev pub Parts : Type 0
 Parts = Attr × (Bool × List (List ℕ))
 
+abbrev pub AreValueTexts : List (List ℕ) → Type 0
+AreValueTexts = IsListWithin 256 IsShort
+
 abbrev pub AreValues : Bool × List (List ℕ) → Type 0
-AreValues = BothValid IsFlag (IsListOf IsShort)
+AreValues = BothValid IsFlag AreValueTexts
 
 abbrev pub values_bytes : Bool × List (List ℕ) → List ℕ
 values_bytes = both_bytes flag_bytes (list_bytes text_bytes)
@@ -115,11 +118,11 @@ parts_bytes = both_bytes attr_bytes values_bytes
 abbrev pub parts_of : Pred → Attr × (Bool × List (List ℕ))
 parts_of p = (p.attr, (p.negated, p.values))
 
-texts_code : IsCode (IsListOf IsShort) (list_bytes text_bytes)
-texts_code = list_code IsShort text_bytes text_code
+texts_code : IsCode AreValueTexts (list_bytes text_bytes)
+texts_code = within_code IsShort text_bytes 256 text_code
 
 values_code : IsCode AreValues values_bytes
-values_code = both_code IsFlag flag_bytes (IsListOf IsShort) (list_bytes text_bytes) flag_code texts_code
+values_code = both_code IsFlag flag_bytes AreValueTexts (list_bytes text_bytes) flag_code texts_code
 
 parts_code : IsCode AreParts parts_bytes
 parts_code = both_code IsAttr attr_bytes AreValues values_bytes attr_code values_code
@@ -143,28 +146,28 @@ pred_no_attr bytes place none = none_of_parts bytes place (read_no_first IsAttr 
 pub pred_no_flag : (bytes : List ℕ) (place n : ℕ) (a : Attr) → IsReadAt IsAttr attr_bytes bytes place (Some (a, n)) → IsReadAt IsFlag flag_bytes bytes n None → IsReadAt IsLoosePred pred_bytes bytes place None
 pred_no_flag bytes place n a r none =
     none_of_parts bytes place (read_no_second IsAttr attr_bytes AreValues values_bytes attr_code bytes place a n r
-    (read_no_first IsFlag flag_bytes (IsListOf IsShort) (list_bytes text_bytes) bytes n none))
+    (read_no_first IsFlag flag_bytes AreValueTexts (list_bytes text_bytes) bytes n none))
 
 pub pred_no_values : (bytes : List ℕ) (place n m : ℕ) (a : Attr) (b : Bool) → IsReadAt IsAttr attr_bytes bytes place (Some (a, n)) → IsReadAt IsFlag flag_bytes bytes n (Some (b, m))
-    → IsReadAt (IsListOf IsShort) (list_bytes text_bytes) bytes m None → IsReadAt IsLoosePred pred_bytes bytes place None
+    → IsReadAt AreValueTexts (list_bytes text_bytes) bytes m None → IsReadAt IsLoosePred pred_bytes bytes place None
 pred_no_values bytes place n m a b r q none =
     none_of_parts bytes place (read_no_second IsAttr attr_bytes AreValues values_bytes attr_code bytes place a n r
-    (read_no_second IsFlag flag_bytes (IsListOf IsShort) (list_bytes text_bytes) flag_code bytes n b m q none))
+    (read_no_second IsFlag flag_bytes AreValueTexts (list_bytes text_bytes) flag_code bytes n b m q none))
 
 pub pred_there : (bytes : List ℕ) (place n m k : ℕ) (a : Attr) (b : Bool) (vs : List (List ℕ)) → IsReadAt IsAttr attr_bytes bytes place (Some (a, n)) → IsReadAt IsFlag flag_bytes bytes n (Some (b, m))
-    → IsReadAt (IsListOf IsShort) (list_bytes text_bytes) bytes m (Some (vs, k)) → IsReadAt IsLoosePred pred_bytes bytes place (Some (record { attr = a; negated = b; values = vs }, k))
+    → IsReadAt AreValueTexts (list_bytes text_bytes) bytes m (Some (vs, k)) → IsReadAt IsLoosePred pred_bytes bytes place (Some (record { attr = a; negated = b; values = vs }, k))
 pred_there bytes place n m k a b vs r q w =
-    let inner = read_both IsFlag flag_bytes (IsListOf IsShort) (list_bytes text_bytes) bytes n b m vs k q w in
+    let inner = read_both IsFlag flag_bytes AreValueTexts (list_bytes text_bytes) bytes n b m vs k q w in
     let outer = read_both IsAttr attr_bytes AreValues values_bytes bytes place a n (b, vs) k r inner in
     (w.0, outer.1)
 
 -- ---- conjunctions and expressions
 
 pub conjunction_code : IsCode IsLooseConjunction conjunction_bytes
-conjunction_code = list_code IsLoosePred pred_bytes pred_code
+conjunction_code = within_code IsLoosePred pred_bytes 16 pred_code
 
 pub loose_code : IsCode IsLoose expr_bytes
-loose_code = list_code IsLooseConjunction conjunction_bytes conjunction_code
+loose_code = within_code IsLooseConjunction conjunction_bytes 64 conjunction_code
 
 -- ---- what is kept has bytes
 
@@ -174,17 +177,18 @@ all_from_test p P each xs all = λ k d within. each (get_or xs k d) (passes_at p
 kept_pred_loose : (p : Pred) → is_kept_pred p ≡ true → IsLoosePred p
 kept_pred_loose p h =
     let most : length p.values ≤ 256 = pred_values p h in
-    (omega arith, all_from_test (λ (v : List ℕ). leb (length v) 255) IsShort (λ v e. let le : length v ≤ 255 = leb-true (length v) 255 e in omega arith) p.values (and_parts _ _ (and_parts _ _ h).0).1)
+    let short = all_from_test (λ (v : List ℕ). leb (length v) 255) IsShort (λ v e. let le : length v ≤ 255 = leb-true (length v) 255 e in omega arith) p.values (and_parts _ _ (and_parts _ _ h).0).1 in
+    ((omega arith, short), most)
 
 kept_conjunction_loose : (c : List Pred) → is_kept_conjunction c ≡ true → IsLooseConjunction c
 kept_conjunction_loose c h =
     let most : length c ≤ 16 = conjunction_length c h in
-    (omega arith, all_from_test is_kept_pred IsLoosePred kept_pred_loose c (conjunction_preds c h))
+    ((omega arith, all_from_test is_kept_pred IsLoosePred kept_pred_loose c (conjunction_preds c h)), most)
 
-pub kept_loose : (e : List (List Pred)) → IsKept e → IsLoose e
+pub kept_loose : (e : List (List Pred)) → IsEncodable e → IsLoose e
 kept_loose e h =
     let most : length e ≤ 64 = expr_length e h in
-    (omega arith, all_from_test is_kept_conjunction IsLooseConjunction kept_conjunction_loose e (expr_conjunctions e h))
+    ((omega arith, all_from_test is_kept_conjunction IsLooseConjunction kept_conjunction_loose e (expr_conjunctions e h)), most)
 
-pub expr_code : IsCode IsKept expr_bytes
-expr_code = narrow_code IsLoose expr_bytes loose_code IsKept kept_loose
+pub expr_code : IsCode IsEncodable expr_bytes
+expr_code = narrow_code IsLoose expr_bytes loose_code IsEncodable kept_loose

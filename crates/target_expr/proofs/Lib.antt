@@ -3,6 +3,7 @@ pub mod Encoding
 pub mod Enumerated
 pub mod Faults
 pub mod Finds
+pub mod Halves
 pub mod Keeping
 pub mod Limits
 pub mod Meaning

@@ -22,13 +22,13 @@ conjunction_bytes c = list_bytes pred_bytes c
 abbrev pub expr_bytes : List (List Pred) → List ℕ
 expr_bytes e = list_bytes conjunction_bytes e
 
--- it is in the order and within the limits that every expression is kept in
-abbrev pub IsKept : List (List Pred) → Type 0
-IsKept e = IsTrue (is_kept e)
+-- what can be encoded and read again: what is in the order and within the limits of every expression
+abbrev pub IsEncodable : List (List Pred) → Type 0
+IsEncodable e = IsTrue (is_kept e)
 
 -- what is decoded at a place: an expression whose bytes begin there, with the place behind them; torn
 -- at that place where the bytes of no expression begin there
 abbrev pub IsDecoded : List ℕ → ℕ → Result (List (List Pred) × ℕ) ExprBytes → Type 0
-IsDecoded bytes place (Ok p) = IsReadAt IsKept expr_bytes bytes place (Some p)
-IsDecoded bytes place (Err (Torn at)) = (at ≡ place) × IsReadAt IsKept expr_bytes bytes place None
+IsDecoded bytes place (Ok p) = IsReadAt IsEncodable expr_bytes bytes place (Some p)
+IsDecoded bytes place (Err (Torn at)) = (at ≡ place) × IsReadAt IsEncodable expr_bytes bytes place None
 IsDecoded bytes place (Err Memory) = Unit {0}

@@ -6,7 +6,6 @@ use Rattle.std.specs.Ordering.{nat_cmp, is_lt}
 use Rattle.std.specs.declared.cmp.Ordering.{Ordering}
 use Rattle.std.specs.declared.cmp.Ordering.TheVariants.{Less, Equal, Greater}
 use Rattle.std.specs.Cmp.Lexicographic.{slice_cmp}
-use Rattle.target_expr.specs.declared.TheConstants.{MOST_CONJUNCTIONS, MOST_PREDICATES, MOST_VALUES, LONGEST_VALUE}
 use Rattle.target_expr.specs.declared.attr.Attr.{Attr}
 use Rattle.target_expr.specs.declared.fault.ExprFault.{ExprFault}
 use Rattle.target_expr.specs.declared.fault.ExprFault.TheVariants.{NoConjunction, EmptyList, AttrTwice, TooMany, UnknownAttr, Memory}
@@ -21,7 +20,7 @@ fault_where b f = cond b (f ∷ []) []
 
 -- more values than the limit as they are written, or one that is too long
 abbrev pub is_too_much : RawPred → Bool
-is_too_much p = nat_lt MOST_VALUES (length p.values) || list_any (λ v. nat_lt LONGEST_VALUE (length v)) p.values
+is_too_much p = nat_lt 256 (length p.values) || list_any (λ v. nat_lt 255 (length v)) p.values
 
 -- of the predicate p at place j of the conjunction c, which stands at place i
 abbrev pub pred_faults : ℕ → List RawPred → ℕ × RawPred → List ExprFault
@@ -32,12 +31,12 @@ pred_faults i c (j, p) = fault_where (is_none (named p.attr)) (UnknownAttr i j)
 
 -- of the conjunction c at place i
 abbrev pub conjunction_faults : ℕ × List RawPred → List ExprFault
-conjunction_faults (i, c) = fault_where (nat_lt MOST_PREDICATES (length c)) (TooMany i 0)
+conjunction_faults (i, c) = fault_where (nat_lt 16 (length c)) (TooMany i 0)
     ++ flat_map (pred_faults i c) (enumerate_from 0 c)
 
 abbrev pub faults : List (List RawPred) → List ExprFault
 faults raw = fault_where (length raw == 0) NoConjunction
-    ++ fault_where (nat_lt MOST_CONJUNCTIONS (length raw)) (TooMany 0 0)
+    ++ fault_where (nat_lt 64 (length raw)) (TooMany 0 0)
     ++ flat_map conjunction_faults (enumerate_from 0 raw)
 
 abbrev pub first_of : List ExprFault → Option ExprFault
@@ -95,16 +94,16 @@ attr_below p q = nat_lt (number_of p.attr) (number_of q.attr)
 
 -- 1 to 256 values of at most 255 bytes, in byte order and each once
 abbrev pub is_kept_pred : Pred → Bool
-is_kept_pred p = nat_lt 0 (length p.values) && nat_le (length p.values) MOST_VALUES
-    && list_all (λ v. nat_le (length v) LONGEST_VALUE) p.values && rise text_below p.values
+is_kept_pred p = nat_lt 0 (length p.values) && nat_le (length p.values) 256
+    && list_all (λ v. nat_le (length v) 255) p.values && rise text_below p.values
 
 -- at most 16 predicates, in the order of their attributes, none twice
 abbrev pub is_kept_conjunction : List Pred → Bool
-is_kept_conjunction c = nat_le (length c) MOST_PREDICATES && list_all is_kept_pred c && rise attr_below c
+is_kept_conjunction c = nat_le (length c) 16 && list_all is_kept_pred c && rise attr_below c
 
 -- 1 to 64 conjunctions
 abbrev pub is_kept : List (List Pred) → Bool
-is_kept e = nat_lt 0 (length e) && nat_le (length e) MOST_CONJUNCTIONS && list_all is_kept_conjunction e
+is_kept e = nat_lt 0 (length e) && nat_le (length e) 64 && list_all is_kept_conjunction e
 
 -- the fault is the first of these, or want of memory
 abbrev pub IsFirstUnlessMemory : List ExprFault → ExprFault → Type 0

@@ -1,7 +1,7 @@
--- What has the bytes of an expression, in order and within the limits or not: which the crate's private
--- clauses cite.
+-- What has the bytes of an expression with no more conjunctions, predicates and values than the limits, in
+-- order or not: which the crate's private clauses cite.
 use Rattle.std.specs.Prelude.{List}
-use Rattle.byte_fields.specs.Encodings.{IsListOf, IsShort}
+use Rattle.byte_fields.specs.Encodings.{IsListWithin, IsShort}
 use Rattle.target_expr.specs.declared.attr.Attr.{Attr}
 use Rattle.target_expr.specs.declared.pred.Pred.{Pred}
 
@@ -9,10 +9,10 @@ abbrev pub IsAttr : Attr → Type 0
 IsAttr a = Unit {0}
 
 abbrev pub IsLoosePred : Pred → Type 0
-IsLoosePred p = IsListOf IsShort p.values
+IsLoosePred p = IsListWithin 256 IsShort p.values
 
 abbrev pub IsLooseConjunction : List Pred → Type 0
-IsLooseConjunction c = IsListOf IsLoosePred c
+IsLooseConjunction c = IsListWithin 16 IsLoosePred c
 
 abbrev pub IsLoose : List (List Pred) → Type 0
-IsLoose e = IsListOf IsLooseConjunction e
+IsLoose e = IsListWithin 64 IsLooseConjunction e

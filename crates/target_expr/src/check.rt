@@ -114,7 +114,7 @@ fn is_too_much(pred: &RawPred) -> bool
 
 // Whether a value is too long.
 fn has_long(values: &[Txt]) -> bool
-    ensures { result ≡ list_any (λ v. nat_lt LONGEST_VALUE (length v)) values.now }
+    ensures { result ≡ list_any (λ v. nat_lt 255 (length v)) values.now }
 {
     values.iter().any(|value| value.len() > LONGEST_VALUE)
 }

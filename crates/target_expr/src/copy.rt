@@ -24,12 +24,11 @@ impl Expr {
 fn copy_conjunction(alloc: Global, conjunction: &[Pred]) -> Result<List<Pred>, AllocError>
     ensures { IfOk result (λ preds. preds ≡ conjunction.now) }
 {
-    let mut preds = List::new(alloc);
-    preds.reserve(conjunction.len())?;
+    let mut preds = Vec::with_capacity(alloc, conjunction.len())?;
     for pred in conjunction {
         preds.push(copy_pred(alloc, pred)?)?;
     }
-    Ok(preds)
+    Ok(List::from_vec(preds))
 }
 
 // An equal predicate.

@@ -1,17 +1,18 @@
-ghost use Rattle.std.specs.Prelude.{◌≡◌, ◌≤◌, length, All, IfOk};
-ghost use Rattle.std.specs.List.{flat_map};
+ghost use Rattle.std.specs.Prelude.{◌≡◌, None, Ok, Err, IfOk};
 ghost use Rattle.byte_fields.specs.Codes.{IsReadAt};
-ghost use Rattle.target_expr.specs.Bytes.{IsDecoded, IsKept, attr_bytes, conjunction_bytes, expr_bytes, pred_bytes};
-ghost use Rattle.target_expr.specs.Loose.{IsAttr, IsLoose, IsLooseConjunction, IsLoosePred};
-ghost use Rattle.target_expr.specs.declared.decode.ExprBytes.TheVariants.{Memory as memory};
+ghost use Rattle.byte_fields.specs.Encodings.{CountsMore};
+ghost use Rattle.target_expr.specs.Bytes.{IsDecoded, IsEncodable, attr_bytes, conjunction_bytes, expr_bytes, pred_bytes};
+ghost use Rattle.target_expr.specs.Loose.{IsAttr, IsLooseConjunction, IsLoosePred};
+ghost use Rattle.target_expr.specs.declared.decode.ExprBytes.TheVariants.{Memory as memory, Torn};
 
 use crate::attr::Attr;
+use crate::encode::put_pred;
 use crate::expr::Expr;
 use crate::order::is_kept;
 use crate::pred::Pred;
-use crate::{MOST_CONJUNCTIONS, MOST_PREDICATES};
-use byte_fields::{get_byte, get_flag, get_four, get_texts};
-use rtb_num::List;
+use crate::{MOST_CONJUNCTIONS, MOST_PREDICATES, MOST_VALUES};
+use byte_fields::{Element, Found, get_byte, get_flag, get_list, get_texts, put_list};
+use rtb_num::{List, Txt};
 use std::alloc::{AllocError, Global};
 
 /// Why no expression is decoded.
@@ -31,17 +32,16 @@ impl From<AllocError> for ExprBytes {
     }
 }
 
-// What begins at a place, with the place behind it.
-type Found<T> = Result<Option<(T, usize)>, AllocError>;
-
 impl Expr {
     /// The expression whose bytes begin at the place, counted from 0 and allowed past the end, and the
     /// place behind them.
     ///
     /// Bytes that `encode` does not write are torn: also where predicates or values stand in another
-    /// order or twice, and where a limit is passed.
+    /// order or twice, and where a limit is passed. A count past its limit is refused before memory is
+    /// taken for it.
     pub fn decode(alloc: Global, bytes: &[u8], place: usize) -> Result<(Expr, usize), ExprBytes>
-        ensures { IsDecoded bytes.now place result }
+        ensures value { IsDecoded bytes.now place result }
+        ensures counted { CountsMore 64 bytes.now place → result ≡ Err (Torn place) }
     {
         match get_expr(alloc, bytes, place)? {
             Some(found) => Ok(found),
@@ -52,9 +52,11 @@ impl Expr {
 
 // The expression at the place.
 fn get_expr(alloc: Global, bytes: &[u8], place: usize) -> Found<Expr>
-    ensures { IfOk result (IsReadAt IsKept expr_bytes bytes.now place) }
+    ensures value { IfOk result (IsReadAt IsEncodable expr_bytes bytes.now place) }
+    ensures counted { CountsMore 64 bytes.now place → result ≡ Ok None }
 {
-    let Some((all, next)) = get_all(alloc, bytes, place)? else {
+    let found = get_list::<Conjunctions>(alloc, bytes, place, MOST_CONJUNCTIONS)?;
+    let Some((all, next)) = found else {
         return Ok(None);
     };
     if is_kept(all.as_slice()) {
@@ -64,65 +66,42 @@ fn get_expr(alloc: Global, bytes: &[u8], place: usize) -> Found<Expr>
     }
 }
 
-// The conjunctions at the place, in order and within the limits or not.
-fn get_all(alloc: Global, bytes: &[u8], place: usize) -> Found<List<List<Pred>>>
-    ensures { IfOk result (IsReadAt IsLoose expr_bytes bytes.now place) }
-{
-    let Some((count, next)) = get_four(bytes, place) else {
-        return Ok(None);
-    };
-    get_conjunctions(alloc, bytes, next, count as usize)
-}
+// The predicates of a conjunction, as the items of a list.
+pub(crate) struct Preds;
 
-// So many conjunctions in a row.
-fn get_conjunctions(
-    alloc: Global,
-    bytes: &[u8],
-    place: usize,
-    count: usize,
-) -> Found<List<List<Pred>>>
-    requires { place ≤ length bytes.now }
-    ensures { IfOk result (IsReadAt (λ all. (length all ≡ count) × All IsLooseConjunction all) (flat_map conjunction_bytes) bytes.now place) }
-{
-    let mut all = List::new(alloc);
-    all.reserve(count.min(MOST_CONJUNCTIONS))?;
-    let mut next = place;
-    for _ in 0..count {
-        let Some((conjunction, behind)) = get_conjunction(alloc, bytes, next)? else {
-            return Ok(None);
-        };
-        all.push(conjunction)?;
-        next = behind;
+impl Element for Preds {
+    type Item = Pred;
+
+    ghost IsValid = { IsLoosePred };
+
+    ghost encode = { pred_bytes };
+
+    fn put(item: &Pred, out: &mut Txt) -> Result<(), AllocError> {
+        put_pred(item, out)
     }
-    Ok(Some((all, next)))
-}
 
-// The conjunction at the place.
-fn get_conjunction(alloc: Global, bytes: &[u8], place: usize) -> Found<List<Pred>>
-    ensures { IfOk result (IsReadAt IsLooseConjunction conjunction_bytes bytes.now place) }
-{
-    let Some((count, next)) = get_four(bytes, place) else {
-        return Ok(None);
-    };
-    get_preds(alloc, bytes, next, count as usize)
-}
-
-// So many predicates in a row.
-fn get_preds(alloc: Global, bytes: &[u8], place: usize, count: usize) -> Found<List<Pred>>
-    requires { place ≤ length bytes.now }
-    ensures { IfOk result (IsReadAt (λ preds. (length preds ≡ count) × All IsLoosePred preds) (flat_map pred_bytes) bytes.now place) }
-{
-    let mut preds = List::new(alloc);
-    preds.reserve(count.min(MOST_PREDICATES))?;
-    let mut next = place;
-    for _ in 0..count {
-        let Some((pred, behind)) = get_pred(alloc, bytes, next)? else {
-            return Ok(None);
-        };
-        preds.push(pred)?;
-        next = behind;
+    fn get(alloc: Global, bytes: &[u8], place: usize) -> Found<Pred> {
+        get_pred(alloc, bytes, place)
     }
-    Ok(Some((preds, next)))
+}
+
+// The conjunctions of an expression, as the items of a list.
+pub(crate) struct Conjunctions;
+
+impl Element for Conjunctions {
+    type Item = List<Pred>;
+
+    ghost IsValid = { IsLooseConjunction };
+
+    ghost encode = { conjunction_bytes };
+
+    fn put(item: &List<Pred>, out: &mut Txt) -> Result<(), AllocError> {
+        put_list::<Preds>(item.as_slice(), out)
+    }
+
+    fn get(alloc: Global, bytes: &[u8], place: usize) -> Found<List<Pred>> {
+        get_list::<Preds>(alloc, bytes, place, MOST_PREDICATES)
+    }
 }
 
 // The predicate at the place.
@@ -135,7 +114,7 @@ fn get_pred(alloc: Global, bytes: &[u8], place: usize) -> Found<Pred>
     let Some((negated, place_of_values)) = get_flag(bytes, place_of_flag) else {
         return Ok(None);
     };
-    let Some((values, next)) = get_texts(alloc, bytes, place_of_values)? else {
+    let Some((values, next)) = get_texts(alloc, bytes, place_of_values, MOST_VALUES)? else {
         return Ok(None);
     };
     let pred = Pred {

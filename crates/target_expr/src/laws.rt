@@ -3,7 +3,7 @@ ghost use Rattle.byte_fields.specs.Codes.{IsCode, IsReadAt};
 ghost use Rattle.target_expr.specs.declared.attr.Attr.{Attr};
 ghost use Rattle.target_expr.specs.declared.pred.Pred.{Pred};
 ghost use Rattle.target_expr.specs.declared.pred.RawPred.{RawPred};
-ghost use Rattle.target_expr.specs.Bytes.{IsKept, expr_bytes};
+ghost use Rattle.target_expr.specs.Bytes.{IsEncodable, expr_bytes};
 ghost use Rattle.target_expr.specs.Kept.{faults, kept};
 ghost use Rattle.target_expr.specs.Truth.{holds};
 ghost use Rattle.target_expr.specs.Written.{written_holds};
@@ -11,14 +11,14 @@ ghost use Rattle.target_expr.specs.Written.{written_holds};
 /// The law of the ends, with nothing to run: no expression's bytes are a front of another's, so bytes
 /// that begin with an expression have one reading.
 pub fn expressions_tell_their_ends()
-    ensures { IsCode IsKept expr_bytes }
+    ensures { IsCode IsEncodable expr_bytes }
 {}
 
 /// The law of reading again, with nothing to run: whatever is read at the place where an expression was
 /// put, between any bytes, is this expression, and the place behind it.
 pub fn encoded_expressions_are_read_again()
-    ensures { (front back : List ℕ) (e : List (List Pred)) (found : Option (List (List Pred) × ℕ)) → IsKept e
-        → IsReadAt IsKept expr_bytes ((front ++ expr_bytes e) ++ back) (length front) found → found ≡ Some (e, length front + length (expr_bytes e)) }
+    ensures { (front back : List ℕ) (e : List (List Pred)) (found : Option (List (List Pred) × ℕ)) → IsEncodable e
+        → IsReadAt IsEncodable expr_bytes ((front ++ expr_bytes e) ++ back) (length front) found → found ≡ Some (e, length front + length (expr_bytes e)) }
 {}
 
 /// The law of meaning, with nothing to run: under every assignment what is kept is true exactly where

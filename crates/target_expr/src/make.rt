@@ -57,7 +57,7 @@ fn kept_conjunction(alloc: Global, conjunction: &[RawPred]) -> Result<List<Pred>
 fn kept_in(alloc: Global, conjunction: &[RawPred], attrs: &[Attr]) -> Result<List<Pred>, AllocError>
     ensures { IfOk result (λ preds. preds ≡ kept_in conjunction.now attrs.now) }
 {
-    let mut preds = List::new(alloc);
+    let mut preds = List::from_vec(Vec::with_capacity(alloc, conjunction.len())?);
     for attr in attrs {
         push_kept(alloc, conjunction, *attr, &mut preds)?;
     }

@@ -42,7 +42,7 @@ fn is_kept_pred(pred: &Pred) -> bool
 
 // Whether no value is too long.
 fn are_short(values: &[Txt]) -> bool
-    ensures { result ≡ list_all (λ v. nat_le (length v) LONGEST_VALUE) values.now }
+    ensures { result ≡ list_all (λ v. nat_le (length v) 255) values.now }
 {
     values.iter().all(|value| value.len() <= LONGEST_VALUE)
 }

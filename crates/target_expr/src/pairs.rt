@@ -13,7 +13,7 @@ impl Expr {
     pub fn sizes(&self) -> Result<List<u32>, AllocError>
         ensures { IfOk result (λ sizes. sizes ≡ sizes_of self.now) }
     {
-        let mut sizes = List::new(self.allocator());
+        let mut sizes = List::from_vec(Vec::with_capacity(self.allocator(), self.conjunctions())?);
         for conjunction in self.as_slice() {
             sizes.push(size(conjunction.as_slice()))?;
         }
@@ -29,7 +29,7 @@ impl Expr {
         ensures steps { OnOk result (steps.new ≡ steps.old + length (pairs_of self.now)) }
         ensures cost { steps.new ≤ steps.old + length (pairs_of self.now) }
     {
-        let mut pairs = List::new(self.allocator());
+        let mut pairs = List::from_vec(Vec::with_capacity(self.allocator(), self.values())?);
         for (n, conjunction) in self.as_slice().iter().enumerate() {
             push_conjunction(n as u32, conjunction.as_slice(), &mut pairs, steps)?;
         }

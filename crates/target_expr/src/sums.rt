@@ -1,4 +1,4 @@
-ghost use Rattle.std.specs.Prelude.{◌≡◌, IsTrue, length, sum_by};
+ghost use Rattle.std.specs.Prelude.{◌≡◌, ◌≤◌, ◌*◌, IsTrue, length, sum_by};
 ghost use Rattle.target_expr.specs.Kept.{is_kept_conjunction, is_kept_pred};
 ghost use Rattle.target_expr.specs.Pairs.{bytes_in, text_bytes_of, values_in, values_of};
 
@@ -6,9 +6,10 @@ use crate::expr::Expr;
 use crate::pred::Pred;
 
 impl Expr {
-    /// How many values its predicates list.
+    /// How many values its predicates list, at most 262,144.
     pub fn values(&self) -> usize
-        ensures { result ≡ values_of self.now }
+        ensures value { result ≡ values_of self.now }
+        ensures bound { result ≤ 64 * 16 * 256 }
     {
         let mut all = 0;
         for conjunction in self.as_slice() {
@@ -17,9 +18,10 @@ impl Expr {
         all
     }
 
-    /// How many bytes these values have.
+    /// How many bytes these values have, at most 66,846,720.
     pub fn text_bytes(&self) -> u64
-        ensures { result ≡ text_bytes_of self.now }
+        ensures value { result ≡ text_bytes_of self.now }
+        ensures bound { result ≤ 64 * 16 * 256 * 255 }
     {
         let mut all = 0;
         for conjunction in self.as_slice() {

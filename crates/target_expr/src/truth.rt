@@ -1,6 +1,7 @@
-ghost use Rattle.std.specs.Prelude.{◌≡◌, ◌+◌};
-ghost use Rattle.std.specs.List.{list_any};
+ghost use Rattle.std.specs.Prelude.{◌≡◌, ◌+◌, IsTrue};
+ghost use Rattle.std.specs.List.{list_all, list_any};
 ghost use Rattle.std.specs.Str.{bytes_eq};
+ghost use Rattle.target_expr.specs.Kept.{is_kept_pred, rise, text_below};
 ghost use Rattle.target_expr.specs.Truth.{conjunction_holds, holds, is_in, pred_holds, tested};
 
 use crate::assignment::Assignment;
@@ -31,13 +32,20 @@ impl Expr {
 
 // Whether all the predicates are true.
 fn conjunction_holds(conjunction: &[Pred], assignment: &Assignment) -> bool
+    requires { IsTrue (list_all is_kept_pred conjunction.now) }
     ensures { result ≡ conjunction_holds assignment.now conjunction.now }
 {
-    conjunction.iter().all(|pred| pred_holds(pred, assignment))
+    for pred in conjunction {
+        if !pred_holds(pred, assignment) {
+            return false;
+        }
+    }
+    true
 }
 
 // Whether the predicate is true. "Not in" is true of an attribute that is absent.
 fn pred_holds(pred: &Pred, assignment: &Assignment) -> bool
+    requires { IsTrue (is_kept_pred pred.now) }
     ensures { result ≡ pred_holds assignment.now pred.now }
 {
     if pred.negated {
@@ -49,6 +57,7 @@ fn pred_holds(pred: &Pred, assignment: &Assignment) -> bool
 
 // Whether the attribute is present, with a listed value.
 fn is_in(pred: &Pred, assignment: &Assignment) -> bool
+    requires { IsTrue (is_kept_pred pred.now) }
     ensures { result ≡ is_in assignment.now pred.now }
 {
     match assignment.get(pred.attr) {
@@ -57,9 +66,10 @@ fn is_in(pred: &Pred, assignment: &Assignment) -> bool
     }
 }
 
-// Whether the value is one of these.
+// Whether the value is one of these, which rise in byte order.
 fn is_listed(values: &[Txt], value: &Txt) -> bool
+    requires { IsTrue (rise text_below values.now) }
     ensures { result ≡ list_any (λ v. bytes_eq v value.now) values.now }
 {
-    values.iter().any(|listed| listed == value)
+    values.binary_search(value).is_ok()
 }

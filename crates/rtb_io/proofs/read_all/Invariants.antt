@@ -1,4 +1,4 @@
-use Rattle.std.proofs.Common.{◌≡◌, length, ◌-◌, ◌+◌}
+use Rattle.std.proofs.Common.{◌≡◌, ◌≤◌, length, ◌-◌, ◌+◌}
 use Rattle.std.specs.Io.KnownBytes.{Consumes}
 use Rattle.rtb_io.proofs.read_all.Given as goal
 
@@ -6,6 +6,7 @@ abbrev pub invariant-loop-piece : goal.invariant-loop-piece
 invariant-loop-piece g l =
     record {
       came : Consumes (g.S.Source.left l.fn.source) (g.S.Source.left l.source) l.all;
+      most : length l.all ≤ l.limit + 4096;
       counted : g.S.Source.faults l.source ≡ g.S.Source.faults l.fn.source;
     }
 

@@ -2,19 +2,19 @@ use Rattle.std.proofs.Common.{List, ℕ, ◌≡◌, ◌++◌, sym, ap, ◌∙◌
 use Rattle.campaign.specs.Groups.{creative_bytes, creative_of, look_bytes, look_of, money_bytes, money_of, names_bytes, names_of}
 use Rattle.campaign.proofs.encode.put_parts.Goals as goal
 use Rattle.campaign.proofs.Decoding.{facts_is}
-use Rattle.campaign.proofs.Rules.{loose}
+use Rattle.campaign.proofs.Rules.{groups_right}
 
 pub put_names-requires : goal.put_names-requires
-put_names-requires c = (loose c.args.parts.now c.requires).groups.0.0.0
+put_names-requires c = (groups_right c.args.parts.now c.requires).0.0.0.0
 
 pub put_look-requires : goal.put_look-requires
-put_look-requires c = (loose c.args.parts.now c.requires).groups.0.0.1
+put_look-requires c = (groups_right c.args.parts.now c.requires).0.0.0.1
 
 pub put_money-requires : goal.put_money-requires
-put_money-requires c = (loose c.args.parts.now c.requires).groups.0.1
+put_money-requires c = (groups_right c.args.parts.now c.requires).0.0.1
 
 pub put_creative-requires : goal.put_creative-requires
-put_creative-requires c = (loose c.args.parts.now c.requires).groups.1
+put_creative-requires c = (groups_right c.args.parts.now c.requires).0.1
 
 onto : (o a b c d : List ℕ) → (((o ++ a) ++ b) ++ c) ++ d ≡ o ++ (((a ++ b) ++ c) ++ d)
 onto o a b c d = simp append_assoc

@@ -36,16 +36,19 @@ more_items_of-loop-first-preserved t c =
 
 pub more_members_of-returns-in_default : goal.more_members_of-returns-in_default
 more_members_of-returns-in_default t c =
-    at_end (member_at (value_at c.args.depth)) 125 (map (λ p. (p.0, tree_of p.1)) c.loop-first.pairs.items) _ c.loop-first.left.now c.loop-first.invariant (nil_from_length _ c.in_default.ensures.cases)
+    at_end (member_at (value_at c.args.depth)) 125 (map
+    (λ p. (p.0, tree_of p.1)) c.loop-first.pairs.items) _ c.loop-first.left.now c.loop-first.invariant (nil_from_length _ c.in_default.ensures.cases)
 
 pub more_members_of-returns-then-first-eq125 : goal.more_members_of-returns-then-first-eq125
 more_members_of-returns-then-first-eq125 t c =
-    at_closing (member_at (value_at c.args.depth)) 125 (map (λ p. (p.0, tree_of p.1)) c.loop-first.pairs.items) _ c.loop-first.left.now _ _ c.loop-first.invariant c.in-Some.ensures.cases.0 c.if-first-eq125.true
+    at_closing (member_at (value_at c.args.depth)) 125 (map
+    (λ p. (p.0, tree_of p.1)) c.loop-first.pairs.items) _ c.loop-first.left.now _ _ c.loop-first.invariant c.in-Some.ensures.cases.0 c.if-first-eq125.true
     ∙ ap (λ k. done (map (λ p. (p.0, tree_of p.1)) k) c.in-Some.rest.now) (sym c.from_vec.ensures)
 
 pub more_members_of-returns-then-first-ne44 : goal.more_members_of-returns-then-first-ne44
 more_members_of-returns-then-first-ne44 t c =
-    at_other (member_at (value_at c.args.depth)) 125 (map (λ p. (p.0, tree_of p.1)) c.loop-first.pairs.items) _ c.loop-first.left.now _ _ c.loop-first.invariant c.in-Some.ensures.cases.0 c.if-first-eq125.false c.if-first-ne44.true
+    at_other (member_at (value_at c.args.depth)) 125 (map
+    (λ p. (p.0, tree_of p.1)) c.loop-first.pairs.items) _ c.loop-first.left.now _ _ c.loop-first.invariant c.in-Some.ensures.cases.0 c.if-first-eq125.false c.if-first-ne44.true
 
 pub more_members_of-returns-in_err-pair : goal.more_members_of-returns-in_err-pair
 more_members_of-returns-in_err-pair t c =
@@ -59,5 +62,6 @@ more_members_of-loop-first-smaller t c =
 pub more_members_of-loop-first-preserved : goal.more_members_of-loop-first-preserved
 more_members_of-loop-first-preserved t c =
     let front = map (λ p. (p.0, tree_of p.1)) c.loop-first.pairs.items in
-    let pushed : map (λ p. (p.0, tree_of p.1)) c.push.new.self.items ≡ front ++ (c.in_ok-pair.pair.0, tree_of c.in_ok-pair.pair.1) ∷ [] = rw c.in_ok-push.ensures.items (map_push _ c.loop-first.pairs.items c.in_ok-pair.pair) in
+    let pushed : map (λ p. (p.0, tree_of p.1)) c.push.new.self.items ≡ front ++
+    (c.in_ok-pair.pair.0, tree_of c.in_ok-pair.pair.1) ∷ [] = rw c.in_ok-push.ensures.items (map_push _ c.loop-first.pairs.items c.in_ok-pair.pair) in
     one_more (member_at (value_at c.args.depth)) 125 (member_shorter c.args.depth) front _ _ c.loop-first.left.now _ _ _ _ _ _ c.loop-first.invariant c.in-Some.ensures.cases.0 c.if-first-eq125.false c.if-first-ne44.false c.skip_spaces.ensures.value c.in_ok-pair.ensures c.skip_spaces-left.ensures.value pushed

@@ -27,7 +27,8 @@ decreases-more_members_of l = 5 * l.depth + 3
 -- the entries so far and what is still read are those of all the bytes
 abbrev pub invariant-more_items_of-loop-first : goal.invariant-more_items_of-loop-first
 invariant-more_items_of-loop-first l =
-    mapped (λ ts. map tree_of l.values.items ++ ts) (more_at (value_at l.depth) 93 (length l.left) l.left) ≡ mapped (λ ts. map tree_of l.fn.values.items ++ ts) (more_at (value_at l.depth) 93 (length l.bytes) l.bytes)
+    mapped (λ ts. map tree_of l.values.items ++ ts) (more_at (value_at l.depth) 93 (length l.left) l.left) ≡ mapped
+    (λ ts. map tree_of l.fn.values.items ++ ts) (more_at (value_at l.depth) 93 (length l.bytes) l.bytes)
 
 abbrev pub decreases-more_items_of-loop-first : goal.decreases-more_items_of-loop-first
 decreases-more_items_of-loop-first l = length l.left

@@ -8,5 +8,5 @@ use Rattle.rtb_read.proofs.parts.currency_field.Goals as goal
 pub returns-in-Err : goal.returns-in-Err
 unfolding faults_at or_absent
 returns-in-Err c =
-    let found = c.in-Err.ensures ∙ ap (or_absent (codes "USD") as_text) c.in-Some.ensures in
+    let found = c.in-Err.ensures ∙ ap (or_absent (codes "USD") as_text) c.in-Some.ensures.value in
     record { first = inr ([], ap (λ r. map (fault_of c.args.field) (flaws_of r)) (sym found) ∙ ap (λ f. f ∷ []) (sym c.fault.ensures)) }

@@ -2,9 +2,17 @@ use Rattle.std.proofs.Common.{sym, ◌∙◌, ap, arith}
 use Rattle.std.proofs.lemmas.List.{take_all}
 use Rattle.std.proofs.Common.{◌≡◌}
 use Rattle.std.specs.List.{position_or_len}
+use Rattle.target_expr.specs.Kept.{is_kept, is_kept_conjunction}
 use Rattle.target_expr.specs.Truth.{conjunction_holds, holds, tested}
 use Rattle.target_expr.proofs.Finds.{place_here, place_nowhere}
+use Rattle.target_expr.proofs.Limits.{conjunction_preds, expr_conjunctions, passes_at}
 use Rattle.target_expr.proofs.expr.Expr.holds.Goals as goal
+
+pub conjunction_holds-requires : goal.conjunction_holds-requires
+conjunction_holds-requires g c =
+    let xs = c.as_slice-conjunction-items.result.now in
+    let kept = ap is_kept c.as_slice-conjunction-items.ensures.value ∙ c.as_slice-conjunction-items.ensures.is_kept in
+    conjunction_preds c.as_slice.result.now (ap is_kept_conjunction (c.as_slice.ensures ∙ c.conjunction-item.is) ∙ passes_at is_kept_conjunction xs c.loop-conjunction.conjunction-index c.conjunction-item.result c.loop-conjunction-test.true (expr_conjunctions xs kept))
 
 pub returns-then-conjunction_holds-clause-steps : goal.returns-then-conjunction_holds-clause-steps
 returns-then-conjunction_holds-clause-steps g c =

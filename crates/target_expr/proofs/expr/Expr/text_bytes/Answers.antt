@@ -1,6 +1,7 @@
-use Rattle.std.proofs.Common.{◌∙◌, ap, arith}
+use Rattle.std.proofs.Common.{◌≡◌, take, ◌∙◌, ap, arith}
+use Rattle.std.proofs.lemmas.List.{take_all}
 use Rattle.std.proofs.lemmas.List.Sums.{sum_by_more_le}
-use Rattle.target_expr.specs.Pairs.{bytes_in}
+use Rattle.target_expr.specs.Pairs.{bytes_in, text_bytes_of}
 use Rattle.target_expr.specs.Kept.{is_kept, is_kept_conjunction}
 use Rattle.target_expr.proofs.Limits.{expr_bytes, expr_conjunctions, passes_at}
 use Rattle.target_expr.proofs.expr.Expr.text_bytes.Goals as goal
@@ -25,3 +26,10 @@ bytes_in-all-requires c =
     let kept = ap is_kept c.as_slice-conjunction-items.ensures.value ∙ c.as_slice-conjunction-items.ensures.is_kept in
     ap is_kept_conjunction (c.as_slice.ensures ∙ c.conjunction-item.is)
     ∙ passes_at is_kept_conjunction xs c.loop-conjunction.conjunction-index c.conjunction-item.result c.loop-conjunction-test.true (expr_conjunctions xs kept)
+
+pub returns-clause-bound : goal.returns-clause-bound
+returns-clause-bound c =
+    let xs = c.as_slice-conjunction-items.result.now in
+    let kept = ap is_kept c.as_slice-conjunction-items.ensures.value ∙ c.as_slice-conjunction-items.ensures.is_kept in
+    let all : take c.loop-conjunction.conjunction-index xs ≡ xs = take_all c.loop-conjunction.conjunction-index xs c.loop-conjunction-test.false in
+    omega (arith, expr_bytes xs kept, ap text_bytes_of all, c.loop-conjunction.invariant)
