@@ -137,6 +137,7 @@ module _ {S O E : Type 0} (stands : O → S → List E → Type 0) (worker : E �
     known = known;
     named = named;
     each_ended = λ k p e. let d = r.each_ended k p e in (d.0, ended p d, (d.2.0, set_else s.views id (r.f.seat_of_worker p.0) w (apart s.views id (r.f.seat_of_worker p.0) v d.2.0 at d.2.1 one d.2.2) ∙ d.2.1, d.2.2));
+    once = r.once;
   }
 
   -- who knew the whole list still does, where the one seat that moves knows no less

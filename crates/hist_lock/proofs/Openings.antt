@@ -101,6 +101,7 @@ module _ {S O E : Type 0} (stands : O → S → List E → Type 0) (worker : E �
         known = (0, first_view o, refl, refl, refl);
         named = λ _ _. refl;
         each_ended = λ k p e. absurd (some-ne-none p (sym e));
+        once = λ i j d e at at' same. absurd (some-ne-none d (sym at));
       }
 
   pub begins : (slots id : ℕ) (me : M) (o : O) (x : S) → me ≡ (staged Filling fresh, (0, Some x) ∷ []) → stands o x [] → Allows Rule slots id me 2 (λ y. y) (begun o (step slots 2 0 0 none) me)

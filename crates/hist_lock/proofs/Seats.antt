@@ -14,7 +14,7 @@ use Rattle.atomic_table.proofs.Lists.{at_set, at_snoc, set_again, set_else, at_l
 use Rattle.hist_lock.specs.declared.view.View.{View}
 use Rattle.hist_lock.specs.declared.view.Stage.{Stage}
 use Rattle.hist_lock.specs.declared.view.Stage.TheVariants.{Fresh, Filling, Idle, Waiting, Holding, Committed, Joining, Spent}
-use Rattle.hist_lock.specs.Entries.{entries_of, KnowsOwn, longer, shorter}
+use Rattle.hist_lock.specs.Entries.{entries_of, KnowsOwn, NamesOnce, longer, shorter}
 use Rattle.hist_lock.specs.Rule.{StandsFrom, weight, live, turn_weight, Auxiliary, Placed, Agrees, AtHome, Away, Ended, Running, LockRule}
 use Rattle.hist_lock.specs.Steps.{staged, parent, child, both, compared, spent_view, counting, comparing}
 use Rattle.hist_lock.proofs.Logs.{knows-entries, none-parts, set_at, live-set, live-snoc, live-at, live-one, at_end, overtakes, whole}
@@ -70,7 +70,7 @@ module _ {S O E : Type 0} (stands : O → S → List E → Type 0) (worker : E �
   forks_others f homes n id j u Waiting other at_id fit = (forks_placed f n id j u other at_id fit.0, (λ z. absurd (not_first f id j u other at_id fit.0 z)), fit.2)
   forks_others f homes n id j u Holding other at_id fit = (forks_placed f n id j u other at_id fit.0, (λ z. absurd (not_first f id j u other at_id fit.0 z)), fit.2)
   forks_others f homes n id j u Committed other at_id fit = (forks_placed f n id j u other at_id fit.0, (λ z. absurd (not_first f id j u other at_id fit.0 z)), fit.2)
-  forks_others f homes n id j u Joining other at_id fit = (forks_placed f n id j u other at_id fit.0, (λ z. absurd (not_first f id j u other at_id fit.0 z)), fit.2, fit.3)
+  forks_others f homes n id j u Joining other at_id fit = (forks_placed f n id j u other at_id fit.0, (λ z. absurd (not_first f id j u other at_id fit.0 z)), fit.2, fit.3, let low : u.joined < f.made = fit.4.number in record { origin = fit.4.origin; other = fit.4.other; number = omega arith })
   forks_others f homes n id j u Spent other at_id fit = tt
 
   pub forks : (id : ℕ) (v : V) → v.stage ≡ Idle → v.worker ≡ 0 → Splits Rule id v (parent v) (child v)
@@ -124,6 +124,7 @@ module _ {S O E : Type 0} (stands : O → S → List E → Type 0) (worker : E �
             d.2.2,
           ),
         );
+        once = r.once;
       }
 
   -- A join.
@@ -141,7 +142,7 @@ module _ {S O E : Type 0} (stands : O → S → List E → Type 0) (worker : E �
   merges_others f homes l w id j u Waiting other at_id fit = (merges_placed f l w id j u other at_id fit.0, (λ z. absurd (not_first f id j u other at_id fit.0 z)), fit.2)
   merges_others f homes l w id j u Holding other at_id fit = (merges_placed f l w id j u other at_id fit.0, (λ z. absurd (not_first f id j u other at_id fit.0 z)), fit.2)
   merges_others f homes l w id j u Committed other at_id fit = (merges_placed f l w id j u other at_id fit.0, (λ z. absurd (not_first f id j u other at_id fit.0 z)), fit.2)
-  merges_others f homes l w id j u Joining other at_id fit = (merges_placed f l w id j u other at_id fit.0, (λ z. absurd (not_first f id j u other at_id fit.0 z)), fit.2, fit.3)
+  merges_others f homes l w id j u Joining other at_id fit = (merges_placed f l w id j u other at_id fit.0, (λ z. absurd (not_first f id j u other at_id fit.0 z)), fit.2, fit.3, record { origin = fit.4.origin; other = fit.4.other; number = fit.4.number })
   merges_others f homes l w id j u Spent other at_id fit = tt
 
   -- the longer of two lists, as cases
@@ -161,6 +162,19 @@ module _ {S O E : Type 0} (stands : O → S → List E → Type 0) (worker : E �
   both_know w a b log rest k e = longer_cases a b (λ l s. KnowsOwn worker w l log × IsPrefix s log × ((a ≡ log) ⊎ (b ≡ log) → l ≡ log))
       (λ le. (knows_longer w a b log k rest e le, (k.0, sym k.1), λ o. ⊎_elim (λ (t : a ≡ log). let n : length a ≡ length log = ap length t in whole b log rest e (omega arith)) (λ (t : b ≡ log). t) o))
       (λ lt. (k, (rest, sym e), λ o. ⊎_elim (λ (t : a ≡ log). t) (λ (t : b ≡ log). let n : length b ≡ length log = ap length t in whole a log k.0 k.1 (omega arith)) o))
+
+  -- a worker that was not joined before
+  joined_once : (ended : List (ℕ × List E)) (w : ℕ) (l : List E) → NamesOnce ended → ((i : ℕ) (q : ℕ × List E) → get_elem? ended i ≡ some q → q.0 ≢ w) → NamesOnce (ended ++ (w, l) ∷ [])
+  joined_once ended w l once other i j d e at at' same =
+      ⊎_elim (λ (a : get_elem? ended i ≡ some d). ⊎_elim
+      (λ (b : get_elem? ended j ≡ some e). once i j d e a b same)
+      (λ (b : (j ≡ length ended) × ((w, l) ≡ e)). absurd (other i d a (same ∙ ap (λ (q : ℕ × List E). q.0) (sym b.1))))
+      (at_end ended (w, l) e j at'))
+      (λ (a : (i ≡ length ended) × ((w, l) ≡ d)). ⊎_elim
+      (λ (b : get_elem? ended j ≡ some e). absurd (other j e b (sym same ∙ ap (λ (q : ℕ × List E). q.0) (sym a.1))))
+      (λ (b : (j ≡ length ended) × ((w, l) ≡ e)). a.0 ∙ sym b.0)
+      (at_end ended (w, l) e j at'))
+      (at_end ended (w, l) d i at)
 
   pub merges : (id : ℕ) (v : V) (other : ℕ) (w : V) → v.stage ≡ Idle → v.worker ≡ 0 → w.stage ≡ Idle → Joins Rule id v other w (both worker v w) spent_view
   merges id v other w idle first idle' s k at two there =
@@ -199,6 +213,7 @@ module _ {S O E : Type 0} (stands : O → S → List E → Type 0) (worker : E �
               (λ z. fit.1 z ∙ some_out),
               know.1,
               p.knows,
+              record { origin = p'.origin; other = let ne = not_first f id other w (λ e. two e) mine_post p' in omega arith; number = p'.number },
             ))
             (λ (t' : (j ≢ id) × (get_elem? s.views j ≡ some x)). merges_others f s.homes w.seen w.worker id j x x.stage t'.0 mine_post (r.each_seat j x t'.1)) (at_set s.views id j u x t.1))
             (at_set vs other j spent_view x e);
@@ -223,6 +238,9 @@ module _ {S O E : Type 0} (stands : O → S → List E → Type 0) (worker : E �
             (λ (new : (w.worker, entries_of worker w.worker w.seen) ≡ q). subst (Ended worker (merged f w.seen w.worker) vs') new
             (p'.number, knows-entries worker w.worker w.seen f.log p'.knows, (spent_view, ap (get_elem? vs') p'.seat_of_worker ∙ set_at vs other w spent_view there, refl)))
             (at_snoc f.ended (w.worker, entries_of worker w.worker w.seen) q i e);
+        once = joined_once f.ended w.worker (entries_of worker w.worker w.seen) r.once (λ i q e is.
+            let g = r.each_ended i q e in
+            apart stands worker s.views other (f.seat_of_worker q.0) w g.2.0 at' g.2.1 one' g.2.2 (ap f.seat_of_worker is ∙ p'.seat_of_worker));
       }
 
   -- After a join.
@@ -241,7 +259,8 @@ module _ {S O E : Type 0} (stands : O → S → List E → Type 0) (worker : E �
             (λ j u other fits. fits)
             (record { origin = p.origin; number = p.number; seat_of_worker = p.seat_of_worker; knows = p.knows; made = p.made; ended = p.ended }, λ _. let m : me.0.out - 1 ≡ f.out = omega arith in m)
             (still_known stands worker s r id me.0 w at refl (λ e. e)) r.named (λ q d. d.1)),
-        (refl, omega arith, λ le. let o = overtakes me.0.shorter_seen me.0.seen fit.2.0 p.knows.0 (fit.2.1 ∙ p.knows.1) le in (o.0, sym o.1), sym (knows-entries worker me.0.worker me.0.seen f.log p.knows) ∙ knows-entries worker me.0.worker me.0.seen_before f.log fit.3),
+        (refl, omega arith, λ le. let o = overtakes me.0.shorter_seen me.0.seen fit.2.0 p.knows.0 (fit.2.1 ∙ p.knows.1) le in (o.0, sym o.1), sym (knows-entries worker me.0.worker me.0.seen f.log p.knows) ∙ knows-entries worker me.0.worker me.0.seen_before f.log fit.3,
+          subst (λ (l : List (ℕ × List E)). NamesOnce l) (sym (p.ended first)) r.once, fit.4.origin ∙ sym p.origin, fit.4.other, (let m = p.made first in let low : me.0.joined < f.made = fit.4.number in omega arith)),
       )
 
   -- A seat that is kept for what it has seen.
@@ -262,11 +281,12 @@ module _ {S O E : Type 0} (stands : O → S → List E → Type 0) (worker : E �
         known = let q = r.known in (q.0, q.1, at_longer s.views (past ∷ []) q.0 q.1 q.2, q.3, q.4);
         named = r.named;
         each_ended = λ i q e. let d = r.each_ended i q e in (d.0, d.1, (d.2.0, at_longer s.views (past ∷ []) (f.seat_of_worker q.0) d.2.0 d.2.1, d.2.2));
+        once = r.once;
       })
 
   -- The end, where no seat is out: the seat has seen the whole list, and the value is at home.
   pub ends : (id : ℕ) (v : V) (ws : List ℕ) (xs : List (Option S)) → v.stage ≡ Idle → v.worker ≡ 0 → v.out ≡ 0 → Final (Seen Rule id v) ws xs
-      → (x : S) × (get_elem? xs 0 ≡ some (Some x)) × StandsFrom stands v.origin x v.seen × ((k : ℕ) (e : ℕ × List E) → get_elem? v.ended k ≡ some e → entries_of worker e.0 v.seen ≡ e.1) × ((w : ℕ) → v.made ≤ w → entries_of worker w v.seen ≡ [])
+      → (x : S) × (get_elem? xs 0 ≡ some (Some x)) × StandsFrom stands v.origin x v.seen × ((k : ℕ) (e : ℕ × List E) → get_elem? v.ended k ≡ some e → entries_of worker e.0 v.seen ≡ e.1) × ((w : ℕ) → v.made ≤ w → entries_of worker w v.seen ≡ []) × NamesOnce v.ended
   ends id v ws xs idle first none_out end =
       let s = end.0 in
       let at = end.1.1 in
@@ -287,12 +307,13 @@ module _ {S O E : Type 0} (stands : O → S → List E → Type 0) (worker : E �
         end.4 0 (Some home.0) (ap (λ (hs : H). get_elem? hs 0) home.1),
         subst (λ (z : Option O × List E). StandsFrom stands z.0 home.0 z.1) (λ i. (sym p.origin i, sym all i)) home.2,
         (λ i e there. ap (entries_of worker e.0) all ∙ (r.each_ended i e (subst (λ (l : List (ℕ × List E)). get_elem? l i ≡ some e) (p.ended first) there)).1),
-        λ w le. ap (entries_of worker w) all ∙ r.named w (let m = p.made first in omega arith),
+        (λ w le. ap (entries_of worker w) all ∙ r.named w (let m = p.made first in omega arith)),
+        subst (λ (l : List (ℕ × List E)). NamesOnce l) (sym (p.ended first)) r.once,
       )
 
   -- The same, of what is taken from the slot.
   pub closes : (id : ℕ) (m m' : M) (ws : List ℕ) (xs : List (Option S)) (y : Option S) → m' ≡ m → m.0.stage ≡ Idle → m.0.worker ≡ 0 → m.0.out ≡ 0 → Final (Seen Rule id m'.0) ws xs → get_elem? xs 0 ≡ some y
-      → (x : S) × (y ≡ Some x) × StandsFrom stands m.0.origin x m.0.seen × ((k : ℕ) (e : ℕ × List E) → get_elem? m.0.ended k ≡ some e → entries_of worker e.0 m.0.seen ≡ e.1) × ((w : ℕ) → m.0.made ≤ w → entries_of worker w m.0.seen ≡ [])
+      → (x : S) × (y ≡ Some x) × StandsFrom stands m.0.origin x m.0.seen × ((k : ℕ) (e : ℕ × List E) → get_elem? m.0.ended k ≡ some e → entries_of worker e.0 m.0.seen ≡ e.1) × ((w : ℕ) → m.0.made ≤ w → entries_of worker w m.0.seen ≡ []) × NamesOnce m.0.ended
   closes id m m' ws xs y same idle first none_out end there =
       let t = ends id m.0 ws xs idle first none_out (subst (λ (n : M). Final (Seen Rule id n.0) ws xs) same end) in
-      (t.0, sym (some-injective (Some t.0) y (sym t.1 ∙ there)), t.2, t.3, t.4)
+      (t.0, sym (some-injective (Some t.0) y (sym t.1 ∙ there)), t.2, t.3, t.4, t.5)

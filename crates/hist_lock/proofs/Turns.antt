@@ -54,7 +54,7 @@ module _ {S O E : Type 0} (stands : O → S → List E → Type 0) (worker : E �
       (record { origin = fit.0.origin; number = fit.0.number; seat_of_worker = fit.0.seat_of_worker; knows = fit.0.knows; made = fit.0.made; ended = fit.0.ended }, fit.1, (q.0, omega arith, put_else f.seat_of_ticket f.drawn id f.served (λ e. omega arith) ∙ q.2, q.3, q.4, q.5))
   draws_others f homes id new j u Committed up other fit = let q = fit.2 in let high : f.served < f.drawn = q.1 in
       (record { origin = fit.0.origin; number = fit.0.number; seat_of_worker = fit.0.seat_of_worker; knows = fit.0.knows; made = fit.0.made; ended = fit.0.ended }, fit.1, (q.0, omega arith, put_else f.seat_of_ticket f.drawn id f.served (λ e. omega arith) ∙ q.2, q.3, q.4, q.5))
-  draws_others f homes id new j u Joining up other fit = (record { origin = fit.0.origin; number = fit.0.number; seat_of_worker = fit.0.seat_of_worker; knows = fit.0.knows; made = fit.0.made; ended = fit.0.ended }, fit.1, fit.2, fit.3)
+  draws_others f homes id new j u Joining up other fit = (record { origin = fit.0.origin; number = fit.0.number; seat_of_worker = fit.0.seat_of_worker; knows = fit.0.knows; made = fit.0.made; ended = fit.0.ended }, fit.1, fit.2, fit.3, record { origin = fit.4.origin; other = fit.4.other; number = fit.4.number })
   draws_others f homes id new j u Spent up other fit = tt
 
   pub draws : (slots id : ℕ) (me : M) (old new : ℕ) → new ≡ old + 1 → old < 4611686018427387904 → me.0.stage ≡ Idle
@@ -156,7 +156,7 @@ module _ {S O E : Type 0} (stands : O → S → List E → Type 0) (worker : E �
   commits_others f homes e id j u v Waiting other at_id names own fit = (commits_placed f e id j u v other at_id names fit.0, fit.1, fit.2)
   commits_others f homes e id j u v Holding other at_id names own fit = absurd (other (sym fit.2.2 ∙ own))
   commits_others f homes e id j u v Committed other at_id names own fit = absurd (other (sym fit.2.2 ∙ own))
-  commits_others f homes e id j u v Joining other at_id names own fit = (commits_placed f e id j u v other at_id names fit.0, fit.1, prefix-snoc u.shorter_seen f.log e fit.2, knows-add worker u.worker u.seen_before f.log e fit.3 (λ same. other (sym fit.0.seat_of_worker ∙ (ap f.seat_of_worker (sym same ∙ names) ∙ at_id))))
+  commits_others f homes e id j u v Joining other at_id names own fit = (commits_placed f e id j u v other at_id names fit.0, fit.1, prefix-snoc u.shorter_seen f.log e fit.2, knows-add worker u.worker u.seen_before f.log e fit.3 (λ same. other (sym fit.0.seat_of_worker ∙ (ap f.seat_of_worker (sym same ∙ names) ∙ at_id))), record { origin = fit.4.origin; other = fit.4.other; number = fit.4.number })
   commits_others f homes e id j u v Spent other at_id names own fit = tt
 
   pub commits : (slots id : ℕ) (me : M) (e : E) → me.0.stage ≡ Holding → worker e ≡ me.0.worker → Allows Rule slots id me 0 (λ x. (x + 1) % 18446744073709551616) (committing e (step slots 0 1 0 none) me)
@@ -201,7 +201,7 @@ module _ {S O E : Type 0} (stands : O → S → List E → Type 0) (worker : E �
       (record { origin = fit.0.origin; number = fit.0.number; seat_of_worker = fit.0.seat_of_worker; knows = fit.0.knows; made = fit.0.made; ended = fit.0.ended }, fit.1, (omega arith, q.1, q.2))
   passes_others f homes homes' id j u Holding other own fit = absurd (other (sym fit.2.2 ∙ own))
   passes_others f homes homes' id j u Committed other own fit = absurd (other (sym fit.2.2 ∙ own))
-  passes_others f homes homes' id j u Joining other own fit = (record { origin = fit.0.origin; number = fit.0.number; seat_of_worker = fit.0.seat_of_worker; knows = fit.0.knows; made = fit.0.made; ended = fit.0.ended }, fit.1, fit.2, fit.3)
+  passes_others f homes homes' id j u Joining other own fit = (record { origin = fit.0.origin; number = fit.0.number; seat_of_worker = fit.0.seat_of_worker; knows = fit.0.knows; made = fit.0.made; ended = fit.0.ended }, fit.1, fit.2, fit.3, record { origin = fit.4.origin; other = fit.4.other; number = fit.4.number })
   passes_others f homes homes' id j u Spent other own fit = tt
 
   out_of : (f : F) (homes : H) (i : ℕ) (v : V) (st : Stage) → turn_weight st ≡ 1 → Agrees worker f homes i v st → Out worker f i v

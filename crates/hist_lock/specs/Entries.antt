@@ -1,4 +1,6 @@
 -- Lists of entries, each of which names a worker.
+use mathlib.Core.Option.{some}
+use lib.ListN.{get_elem?}
 use Rattle.std.specs.Prelude.{◌≡◌, ℕ, ◌==◌, if◌then◌else◌, nat_le, List, [], ◌∷◌, ◌++◌, length}
 
 -- the entries of the worker w, in order
@@ -16,3 +18,7 @@ longer a b = if nat_le (length a) (length b) then b else a
 
 abbrev pub shorter : {E : Type 0} → List E → List E → List E
 shorter a b = if nat_le (length a) (length b) then a else b
+
+-- of lists by worker: no worker is named twice
+abbrev pub NamesOnce : {E : Type 0} → List (ℕ × List E) → Type 0
+NamesOnce ended = (i j : ℕ) (d e : ℕ × List _) → get_elem? ended i ≡ some d → get_elem? ended j ≡ some e → d.0 ≡ e.0 → i ≡ j

@@ -9,7 +9,7 @@ use Rattle.atomic_table.specs.Table.{State}
 use Rattle.hist_lock.specs.declared.view.View.{View}
 use Rattle.hist_lock.specs.declared.view.Stage.{Stage}
 use Rattle.hist_lock.specs.declared.view.Stage.TheVariants.{Fresh, Filling, Idle, Waiting, Holding, Committed, Joining, Spent}
-use Rattle.hist_lock.specs.Entries.{entries_of, KnowsOwn}
+use Rattle.hist_lock.specs.Entries.{entries_of, KnowsOwn, NamesOnce}
 
 -- from the origin, where there is one, the value stands for the list
 abbrev pub StandsFrom : {S O E : Type 0} → (O → S → List E → Type 0) → Option O → S → List E → Type 0
@@ -18,7 +18,7 @@ StandsFrom stands (Some o) x h = stands o x h
 
 -- what the first seat of a lock knows before there is a value
 abbrev pub fresh : {O E : Type 0} → View O E
-fresh = record { stage = Fresh; ticket = 0; origin = None; worker = 0; seen = []; shorter_seen = []; seen_before = []; made = 0; out = 0; ended = [] }
+fresh = record { stage = Fresh; ticket = 0; origin = None; worker = 0; seen = []; shorter_seen = []; seen_before = []; joined_origin = None; joined = 0; made = 0; out = 0; ended = [] }
 
 -- 1 for a seat that is neither joined nor closed, of a lock that has its value
 abbrev pub weight : Stage → ℕ
@@ -78,6 +78,12 @@ module _ {O E : Type 0} where
   abbrev pub AllEnded : (E → ℕ) → Auxiliary O E → List (View O E) → Type 0
   AllEnded worker f views = (k : ℕ) (p : ℕ × List E) → get_elem? f.ended k ≡ some p → Ended worker f views p
 
+-- the seat that this one takes in has the lock's origin, and is that of a worker that was made, and not worker 0's
+pub record TookIn {O E : Type 0} (f : Auxiliary O E) (v : View O E) : Type 0 where
+  pub origin : v.joined_origin ≡ Some f.origin
+  pub other : 0 < v.joined
+  pub number : v.joined < f.made
+
 module _ {O E : Type 0} (worker : E → ℕ) (f : Auxiliary O E) (i : ℕ) (v : View O E) where
   -- What a seat knows that is not spent: every entry of its worker stands in its list (`knows`), and worker 0's seat has the numbers of the lock.
   pub record Placed : Type 0 where
@@ -109,7 +115,7 @@ module _ {S O E : Type 0} (worker : E → ℕ) (f : Auxiliary O E) (homes : List
   Agrees Waiting = Placed worker f i v × Out worker f i v × Queued worker f i v
   Agrees Holding = Placed worker f i v × Out worker f i v × Serves 0
   Agrees Committed = Placed worker f i v × Out worker f i v × Serves 1
-  Agrees Joining = Placed worker f i v × (v.worker ≡ 0 → v.out ≡ suc f.out) × IsPrefix v.shorter_seen f.log × KnowsOwn worker v.worker v.seen_before f.log
+  Agrees Joining = Placed worker f i v × (v.worker ≡ 0 → v.out ≡ suc f.out) × IsPrefix v.shorter_seen f.log × KnowsOwn worker v.worker v.seen_before f.log × TookIn f v
   Agrees Spent = Unit {0}
 
 module _ {S O E : Type 0} (stands : O → S → List E → Type 0) (worker : E → ℕ) where
@@ -135,6 +141,7 @@ module _ {S O E : Type 0} (stands : O → S → List E → Type 0) (worker : E �
     pub known : SomeSawAll f s.views
     pub named : NoneUnmade worker f
     pub each_ended : AllEnded worker f s.views
+    pub once : NamesOnce f.ended
 
   -- the lock is being made: it has one seat, which puts the value in
   abbrev pub Starting : State (Option S) (View O E) → Type 0

@@ -1,5 +1,5 @@
 -- What contracts see of a seat and of a closed lock. A lock is seen as its name.
-use Rattle.std.specs.Prelude.{◌≡◌, ◌⊎◌, ℕ, suc, ◌≤◌, Bool, true, false, List, [], ◌∷◌, ◌++◌, Option, None, Some}
+use Rattle.std.specs.Prelude.{◌≡◌, ◌⊎◌, ℕ, suc, ◌≤◌, ◌<◌, Bool, true, false, List, [], ◌∷◌, ◌++◌, Option, None, Some}
 use mathlib.Core.Bool.{true≢false}
 use mathlib.Core.Path.{sym}
 use mathlib.Core.Option.{some}
@@ -10,7 +10,7 @@ use Rattle.atomic_table.specs.declared.shared.Seat.{Seat}
 use Rattle.hist_lock.specs.declared.view.View.{View}
 use Rattle.hist_lock.specs.declared.view.Stage.{Stage}
 use Rattle.hist_lock.specs.declared.view.Stage.TheVariants.{Fresh, Filling, Idle, Waiting, Holding, Committed, Joining, Spent}
-use Rattle.hist_lock.specs.Entries.{entries_of, longer}
+use Rattle.hist_lock.specs.Entries.{entries_of, longer, NamesOnce}
 
 -- a worker's seat, as contracts see it
 pub record SeatView (O E : Type 0) : Type 0 where
@@ -90,10 +90,14 @@ module _ {O E : Type 0} where
     pub begins : IsPrefix s.seen t.seen
     pub other_begins : IsPrefix b.seen t.seen
     pub own : entries_of worker s.worker t.seen ≡ entries_of worker s.worker s.seen
+    pub once : NamesOnce t.ended
+    -- b is of a worker that was made, and of the same origin
+    pub other_origin : b.origin ≡ s.origin
+    pub other_number : (0 < b.worker) × (b.worker < s.made)
 
-  -- the entries of each joined worker are all that the list has of it, and no entry is of a worker that was not made
+  -- the entries of each joined worker are all that the list has of it, no entry is of a worker that was not made, and no worker was joined twice
   abbrev pub Complete : (E → ℕ) → SeatView O E → List E → Type 0
-  Complete worker s log = ((k : ℕ) (e : ℕ × List E) → get_elem? s.ended k ≡ some e → entries_of worker e.0 log ≡ e.1) × ((w : ℕ) → s.made ≤ w → entries_of worker w log ≡ [])
+  Complete worker s log = ((k : ℕ) (e : ℕ × List E) → get_elem? s.ended k ≡ some e → entries_of worker e.0 log ≡ e.1) × ((w : ℕ) → s.made ≤ w → entries_of worker w log ≡ []) × NamesOnce s.ended
 
   -- the same seat, without the turn, whatever it has seen
   abbrev pub IsSameSeat : SeatView O E → SeatView O E → Type 0

@@ -10,6 +10,7 @@
 //! returns.
 #![tactic(auto)]
 
+mod calls;
 mod lock;
 mod plays;
 mod steps;

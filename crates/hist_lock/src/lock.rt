@@ -1,6 +1,7 @@
 ghost use Rattle.std.specs.Prelude.{◌≡◌, ◌+◌, ◌^◌, ◌<◌, true, false, [], ◌∷◌, ◌++◌, length, IfOk, IfErr};
 ghost use Rattle.hist_lock.specs.Views.{is_begun, first_seat, seat_with, Enters, SplitsOff, TakesIn, Complete};
 
+use crate::calls::Calls;
 use crate::plays::{Begin, Compare, Count, Fill, KeepPast, SplitOff, TakeIn};
 use crate::view::{Names, Stands, Starts, View};
 use atomic_table::{Seat as Place, Table, TableRule};
@@ -25,6 +26,7 @@ impl<S: Stands> TableRule<Option<S>, View<S::Origin, S::Entry>, ()> for Turns {
 #[derive(Drop)]
 pub struct HistLock<S: Stands> {
     pub(crate) table: Table<Option<S>, View<S::Origin, S::Entry>, (), Turns, Global>,
+    pub(crate) calls: Calls,
 }
 
 impl<S: Stands> Model for HistLock<S> {
@@ -106,7 +108,8 @@ impl<S: Stands> HistLock<S> {
             Some(_) => unreachable!(),
         }
         table.shared.load::<Begin<O>>(&mut place, 2);
-        Ok((HistLock { table }, Seat { place }))
+        let calls = Calls::new();
+        Ok((HistLock { table, calls }, Seat { place }))
     }
 
     /// Waits for the seat's turn, and takes the value out.
@@ -191,7 +194,8 @@ impl<S: Stands> HistLock<S> {
         ensures past { (result.1.origin ≡ seat.origin) × (result.1.seen ≡ seat.seen) }
         ensures complete { Complete S.worker seat result.1.seen }
     {
-        let HistLock { table } = self;
+        let HistLock { table, calls } = self;
+        drop(calls);
         let Seat { mut place } = seat;
         let past = table.shared.split_seat::<KeepPast>(&mut place);
         let mut closed = table.close_with(place);

@@ -39,7 +39,8 @@ impl<S: Stands> HistLock<S> {
         unreachable!()
     }
 
-    // Look until the ticket is served, and take the value out. That look itself takes the slot.
+    // Look until the ticket is served, and take the value out. That look itself takes the slot. Between
+    // two looks the seat watches for its call, and it parks where no ticket was served meanwhile.
     pub(crate) fn take_out<R: Wait>(
         &self,
         rt: &R,
@@ -55,13 +56,17 @@ impl<S: Stands> HistLock<S> {
         ensures room { length (seen place.new) < 2 ^ 62 }
     {
         let words = &self.table.shared;
+        let mut before = u64::MAX;
         for _ in rt.forever() {
             let served = words.load::<Look>(place, 2);
             if served == ticket {
                 return words.exchange(place, 0, None).unwrap();
             }
-            // a pass between the look and the park changes the word, so the park returns at once
-            words.park(rt, 2, (served & 0xffff_ffff) as u32);
+            if served == before {
+                self.calls.park(rt, ticket);
+            }
+            before = served;
+            self.calls.watch(ticket);
         }
         unreachable!()
     }
@@ -93,7 +98,14 @@ impl<S: Stands> HistLock<S> {
             None => {}
             Some(_) => unreachable!(),
         }
-        words.fetch_add::<PassOn>(place, 2, 1);
-        words.wake_all(2);
+        let next = words.fetch_add::<PassOn>(place, 2, 1).wrapping_add(1);
+        self.call(next);
+    }
+
+    // Calls the ticket, where a seat has drawn it. A seat that draws it later finds it served.
+    fn call(&self, ticket: u64) {
+        if self.table.shared.peek(1) > ticket {
+            self.calls.call(ticket);
+        }
     }
 }

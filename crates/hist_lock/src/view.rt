@@ -65,6 +65,9 @@ pub struct View<O, E> {
     pub shorter_seen: LinkedList<E>,
     /// While it is joining: what it had seen before.
     pub seen_before: LinkedList<E>,
+    /// While it is joining: the origin and the worker of the seat that it takes in.
+    pub joined_origin: Option<O>,
+    pub joined: u64,
     /// Of worker 0's seat: how many seats were made.
     pub made: u64,
     /// Of worker 0's seat: how many seats were split and not joined.
