@@ -2,6 +2,7 @@
 
 ghost use Rattle.std.specs.Prelude.{◌≡◌, ◌%◌, map};
 ghost use Rattle.exact_json.specs.Docs.{doc_tree};
+ghost use Rattle.exact_json.specs.Forms.{HasForms};
 ghost use Rattle.exact_json.specs.View.{tree_of};
 ghost use Rattle.json_fields.specs.Answers.{Answers};
 ghost use Rattle.campaign.specs.Faults.{fact_faults};
@@ -49,6 +50,7 @@ fn expr_of(alloc: Global, raw: &List<List<RawPred>>) -> Result<Expr, CampFault>
 
 #[tactic(auto, using(json_fields::proofs::First::in_front, json_fields::proofs::First::behind, json_fields::proofs::First::neither), unfolding(crate::specs::Campaign::body_faults, crate::specs::Campaign::campaign_from))]
 fn campaign_in(alloc: Global, body: &Value) -> Result<(Facts, Expr), CampFault>
+    requires forms { HasForms (tree_of body.now) }
     ensures { Answers CampFault.Memory (body_faults (tree_of body.now)) (campaign_from (tree_of body.now)) result }
 {
     let parts = parts_in(alloc, body)?;

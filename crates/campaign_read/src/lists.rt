@@ -1,6 +1,7 @@
 #![tactic(auto, using(json_fields::proofs::First::in_front, json_fields::proofs::First::behind, json_fields::proofs::First::neither, json_fields::proofs::First::mapped, json_fields::proofs::First::mapped_none), unfolding(crate::specs::Parts::list_faults, crate::specs::Parts::list_from))]
 
 ghost use Rattle.std.specs.Prelude.{◌≡◌};
+ghost use Rattle.exact_json.specs.Forms.{HasForms};
 ghost use Rattle.exact_json.specs.View.{tree_of};
 ghost use Rattle.json_fields.specs.Answers.{Answers};
 ghost use Rattle.json_fields.specs.Fields.{as_text, as_whole};
@@ -97,6 +98,7 @@ pub(crate) fn texts_field(
 
 // The attributes of the creative, which may be absent.
 pub(crate) fn attr_field(alloc: Global, object: &Value) -> Result<List<i32>, CampFault>
+    requires forms { HasForms (tree_of object.now) }
     ensures { Answers CampFault.Memory (list_faults ListField.Attr (as_whole attr_bounds) (tree_of object.now)) (list_from ListField.Attr (as_whole attr_bounds) (tree_of object.now)) result }
 {
     match fields::whole_numbers(alloc, object, b"attr", &ATTR) {

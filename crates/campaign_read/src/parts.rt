@@ -1,6 +1,7 @@
 #![tactic(auto, using(json_fields::proofs::First::in_front, json_fields::proofs::First::behind, json_fields::proofs::First::neither), unfolding(crate::specs::Parts::faults_at, crate::specs::Parts::text_faults, crate::specs::Parts::text_from, crate::specs::Parts::amount_faults, crate::specs::Parts::amount_from, crate::specs::Parts::side_faults, crate::specs::Parts::side_from))]
 
 ghost use Rattle.std.specs.Prelude.{◌≡◌, ◌*◌, false, None, codes, option_map, IfOk};
+ghost use Rattle.exact_json.specs.Forms.{HasForms};
 ghost use Rattle.exact_json.specs.View.{tree_of};
 ghost use Rattle.json_fields.specs.Answers.{Answers, value_or};
 ghost use Rattle.json_fields.specs.Fields.{as_flag, as_text, optional, or_absent, present};
@@ -65,6 +66,7 @@ fn adid_field(body: &Value) -> Result<Option<Txt>, CampFault>
 
 // A side of the creative, which may be absent.
 fn side_field(body: &Value, name: &[u8], field: CampField) -> Result<Option<i32>, CampFault>
+    requires forms { HasForms (tree_of body.now) }
     ensures { Answers CampFault.Memory (side_faults field name.now (tree_of body.now)) (side_from name.now (tree_of body.now)) result }
 {
     match fields::whole_number(body, name, &SIDE) {
@@ -74,6 +76,7 @@ fn side_field(body: &Value, name: &[u8], field: CampField) -> Result<Option<i32>
 }
 
 fn secure_field(body: &Value) -> Result<bool, CampFault>
+    requires forms { HasForms (tree_of body.now) }
     ensures { Answers CampFault.Memory (faults_at CampField.Secure (or_absent false as_flag (present (codes "secure") (tree_of body.now)))) (value_or false (or_absent false as_flag (present (codes "secure") (tree_of body.now)))) result }
 {
     match fields::flag(body, b"secure") {
@@ -84,6 +87,7 @@ fn secure_field(body: &Value) -> Result<bool, CampFault>
 
 // An amount in US dollars.
 fn amount_field(body: &Value, name: &[u8], field: CampField) -> Result<Micros, CampFault>
+    requires forms { HasForms (tree_of body.now) }
     ensures { Answers CampFault.Memory (amount_faults field name.now (tree_of body.now)) (amount_from name.now (tree_of body.now)) result }
 {
     match fields::exact_price(body, name) {
@@ -102,6 +106,7 @@ fn nanos(amount: Micros) -> Nanos
 // The fields other than the target, in the order in which they are read.
 #[tactic(auto, using(json_fields::proofs::First::in_front, json_fields::proofs::First::behind, json_fields::proofs::First::neither), unfolding(crate::specs::Campaign::parts_faults, crate::specs::Campaign::parts_from))]
 pub(crate) fn parts_in(alloc: Global, body: &Value) -> Result<FactParts, CampFault>
+    requires forms { HasForms (tree_of body.now) }
     ensures { Answers CampFault.Memory (parts_faults (tree_of body.now)) (parts_from (tree_of body.now)) result }
 {
     let seat = text_field(body, b"seat", CampField::Seat)?;

@@ -1,6 +1,6 @@
 -- A request without a fault is valid.
 use Rattle.std.proofs.Common.{◌≡◌, ℕ, ◌≤◌, ◌==◌, nat_le, List, [], ◌∷◌, ◌++◌, map, length, Bool, true, false, ◌&&◌, cond, ℤ, pos, negsuc, nat_abs, int_le, Option, None, Some, Result, Ok, Err, refl, sym, ap, ◌∙◌, arith, subst}
-use Rattle.std.specs.Prelude.{IfOk, codes}
+use Rattle.std.specs.Prelude.{IfOk}
 use Rattle.std.specs.List.{list_all}
 use Rattle.std.proofs.lemmas.List.{length-map}
 use Rattle.std.proofs.lemmas.List.Folds.{list_all-map}
@@ -13,14 +13,18 @@ use Rattle.json_fields.specs.Items.{each_at, elements}
 use Rattle.json_fields.specs.declared.flaw.Flaw.{Flaw}
 use Rattle.json_fields.proofs.Each.{each_clean, left_none, right_none}
 use Rattle.rtb_types.specs.Valid.{is_from, is_valid, is_valid_deal, has_valid_deals}
+use Rattle.rtb_types.specs.Paths.{deal_name, imp_name, request_name}
 use Rattle.rtb_types.specs.declared.field.Field.{Field}
+use Rattle.rtb_types.specs.declared.field.DealField.{DealField}
+use Rattle.rtb_types.specs.declared.field.ImpField.{ImpField}
+use Rattle.rtb_types.specs.declared.field.RequestField.{RequestField}
 use Rattle.rtb_types.specs.declared.request.BidRequest.{BidRequest}
 use Rattle.rtb_types.specs.declared.request.Deal.{Deal}
 use Rattle.rtb_types.specs.declared.request.Imp.{Imp}
 use Rattle.rtb_types.specs.declared.request.Pmp.{Pmp}
-use Rattle.rtb_read.specs.Parts.{as_type, element_faults, inside_faults, inside_from, type_fault, type_faults, type_from, type_named}
+use Rattle.rtb_read.specs.Parts.{as_type, element_faults, inside_faults, inside_from, object_in, type_fault, type_faults, type_from, type_named}
 use Rattle.rtb_read.specs.Imps.{count_faults, deal_at, deal_faults, deal_from, deals_faults, deals_from, deals_in, imp_at, imp_faults, imp_from, imps_faults, imps_from, pmp_faults, pmp_from, pmp_or_none}
-use Rattle.rtb_read.specs.Request.{all_imps_faults, at_from, faults_unless_object, fields_faults, imp_in, request_faults, request_from}
+use Rattle.rtb_read.specs.Request.{all_imps_faults, at_from, faults_unless_object, fields_faults, imp_array, request_faults, request_from}
 use Rattle.rtb_read.specs.declared.fault.ReqFault.{ReqFault}
 use Rattle.rtb_read.specs.declared.fault.TypeFlaw.{TypeFlaw}
 
@@ -64,7 +68,7 @@ clean_object field inside (object ps) e = e
 
 deal_valid : (at i j : ℕ) (t : Tree) → is_from 1 3 at ≡ true → deal_faults i j t ≡ [] → is_valid_deal (deal_from at t) ≡ true
 unfolding deal_faults deal_from
-deal_valid at i j t h e = type_valid _ 3 at (present (codes "at") t) h (right_none _ _ (left_none _ _ (left_none _ _ e)))
+deal_valid at i j t h e = type_valid _ 3 at (present (deal_name DealField.At) t) h (right_none _ _ (left_none _ _ (left_none _ _ e)))
 
 deals_valid : (at i : ℕ) (ts : List Tree) → is_from 1 3 at ≡ true → each_at (deal_at i) ts ≡ [] → list_all is_valid_deal (deals_from at ts) ≡ true
 unfolding deals_from
@@ -72,7 +76,8 @@ deals_valid at i ts h e =
     list_all-map is_valid_deal (deal_from at) ts
     ∙ each_clean (deal_at i) (λ t. is_valid_deal (deal_from at t)) (λ j t f. deal_valid at i j t h (clean_object _ (deal_faults i j) t f)) ts e
 
-inside_valid : (at i : ℕ) (field : Field) (r : Result (Option (List Tree)) Flaw) → is_from 1 3 at ≡ true → inside_faults field (each_at (deal_at i)) r ≡ [] → list_all is_valid_deal (deals_from at (elements r)) ≡ true
+inside_valid : (at i : ℕ) (field : Field) (r : Result (Option (List Tree)) Flaw) → is_from 1 3 at ≡ true → inside_faults field (each_at (deal_at i)) r ≡ []
+    → list_all is_valid_deal (deals_from at (elements r)) ≡ true
 unfolding inside_faults deals_from
 inside_valid at i field (Err f) h e = cc
 inside_valid at i field (Ok None) h e = refl
@@ -87,7 +92,8 @@ pmp_valid at i t h e = inside_valid at i _ (deals_in t) h (right_none _ _ e)
 
 -- ---- impressions
 
-pmp_there : (at i : ℕ) (field : Field) (r : Result (Option Tree) Flaw) → is_from 1 3 at ≡ true → inside_faults field (pmp_faults i) r ≡ [] → deals_are_valid (pmp_or_none (inside_from (pmp_from at) r)) ≡ true
+pmp_there : (at i : ℕ) (field : Field) (r : Result (Option Tree) Flaw) → is_from 1 3 at ≡ true → inside_faults field (pmp_faults i) r ≡ []
+    → deals_are_valid (pmp_or_none (inside_from (pmp_from at) r)) ≡ true
 unfolding inside_faults inside_from
 pmp_there at i field (Err f) h e = cc
 pmp_there at i field (Ok None) h e = refl
@@ -95,7 +101,7 @@ pmp_there at i field (Ok (Some t)) h e = pmp_valid at i t h e
 
 imp_valid : (at i : ℕ) (t : Tree) → is_from 1 3 at ≡ true → imp_faults i t ≡ [] → has_valid_deals (imp_from at t) ≡ true
 unfolding imp_faults imp_from
-imp_valid at i t h e = pmp_there at i _ (optional as_object (present (codes "pmp") t)) h (right_none _ _ e)
+imp_valid at i t h e = pmp_there at i _ (object_in (imp_name ImpField.Pmp) t) h (right_none _ _ e)
 
 imps_valid : (at : ℕ) (ts : List Tree) → is_from 1 3 at ≡ true → each_at imp_at ts ≡ [] → list_all has_valid_deals (imps_from at ts) ≡ true
 unfolding imps_from
@@ -139,8 +145,9 @@ wider n e = grind (arith, nat_tests)
 fields_valid : (t : Tree) → fields_faults t ≡ [] → is_valid (request_from t) ≡ true
 unfolding fields_faults request_from
 fields_valid t e =
-    let at = type_valid _ 2 2 (present (codes "at") t) refl (right_none _ _ (left_none _ _ (left_none _ _ (left_none _ _ (left_none _ _ (left_none _ _ (left_none _ _ (left_none _ _ (left_none _ _ (left_none _ _ (left_none _ _ (left_none _ _ e)))))))))))) in
-    both _ _ at (list_valid (at_from t) (imp_in t) (wider (at_from t) at) (right_none _ _ e))
+    let at = type_valid _ 2 2 (present (request_name RequestField.At) t) refl (right_none _ _ (left_none _ _ (left_none _ _ (left_none _ _ (left_none _ _
+    (left_none _ _ (left_none _ _ (left_none _ _ (left_none _ _ (left_none _ _ (left_none _ _ (left_none _ _ e)))))))))))) in
+    both _ _ at (list_valid (at_from t) (imp_array t) (wider (at_from t) at) (right_none _ _ e))
 
 pub valid_request : (t : Tree) → request_faults t ≡ [] → is_valid (request_from t) ≡ true
 unfolding request_faults as_object

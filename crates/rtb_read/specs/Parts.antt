@@ -8,6 +8,7 @@ use Rattle.json_fields.specs.Items.{list_flaws}
 use Rattle.json_fields.specs.declared.bounds.Bounds.{Bounds}
 use Rattle.json_fields.specs.declared.flaw.Flaw.{Flaw}
 use Rattle.json_fields.specs.declared.flaw.ListFlaw.{ListFlaw}
+use Rattle.rtb_types.specs.Paths.{member_name}
 use Rattle.rtb_types.specs.declared.field.Field.{Field}
 use Rattle.rtb_read.specs.declared.fault.ReqFault.{ReqFault}
 use Rattle.rtb_read.specs.declared.fault.TypeFlaw.{TypeFlaw}
@@ -39,6 +40,13 @@ unfoldable pub list_faults : {A : Type 0} → Field → (ℕ → Field) → (Tre
 list_faults field item read o = map (list_fault field item) (list_flaws read o)
 
 -- ---- objects and arrays inside
+
+-- the member of that name as an object, and as the values of an array
+abbrev pub object_in : List ℕ → Tree → Result (Option Tree) Flaw
+object_in name t = optional as_object (present name t)
+
+abbrev pub array_in : List ℕ → Tree → Result (Option (List Tree)) Flaw
+array_in name t = optional as_array (present name t)
 
 -- the faults of an object or an array that may be absent: its own, else those of what is in it
 unfoldable pub inside_faults : {A : Type 0} → Field → (A → List ReqFault) → Result (Option A) Flaw → List ReqFault
@@ -88,14 +96,14 @@ type_from n d o = value_or d (or_absent d (as_type n) o)
 
 -- ---- texts
 
-unfoldable pub text_faults : Field → List ℕ → Tree → List ReqFault
-text_faults field name t = faults_at field (optional as_text (present name t))
+unfoldable pub text_faults : Field → Tree → List ReqFault
+text_faults field t = faults_at field (optional as_text (present (member_name field) t))
 
 unfoldable pub text_from : List ℕ → Tree → Option (List ℕ)
 text_from name t = value_or None (optional as_text (present name t))
 
-unfoldable pub integer_faults : Field → List ℕ → Tree → List ReqFault
-integer_faults field name t = faults_at field (optional as_i32 (present name t))
+unfoldable pub integer_faults : Field → Tree → List ReqFault
+integer_faults field t = faults_at field (optional as_i32 (present (member_name field) t))
 
 unfoldable pub integer_from : List ℕ → Tree → Option ℤ
 integer_from name t = value_or None (optional as_i32 (present name t))

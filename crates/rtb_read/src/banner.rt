@@ -1,18 +1,19 @@
 #![tactic(auto, using(json_fields::proofs::First::in_front, json_fields::proofs::First::behind, json_fields::proofs::First::neither, json_fields::proofs::First::mapped, json_fields::proofs::First::mapped_none, json_fields::proofs::Each::each_none), unfolding(crate::specs::Imps::size_in, crate::specs::Imps::format_faults, crate::specs::Imps::formats_faults, crate::specs::Imps::formats_in, crate::specs::Imps::battr_faults, crate::specs::Imps::banner_faults, crate::specs::Imps::banner_from, crate::specs::Imps::sizes_from, crate::specs::Parts::element_faults, crate::specs::Parts::inside_faults, crate::specs::Parts::inside_from, crate::specs::Parts::list_faults))]
 
-ghost use Rattle.std.specs.Prelude.{◌≡◌, ◌++◌, codes, map, OnOk};
+ghost use Rattle.std.specs.Prelude.{◌≡◌, ◌++◌, map, OnOk};
 ghost use Rattle.std.specs.Option.{option_to_list};
 ghost use Rattle.std.specs.List.{All};
 ghost use Rattle.exact_json.specs.Forms.{HasForms};
 ghost use Rattle.exact_json.specs.View.{tree_of};
 ghost use Rattle.json_fields.specs.Answers.{Answers, map_ok};
-ghost use Rattle.json_fields.specs.Fields.{as_object, optional, present};
+ghost use Rattle.json_fields.specs.Fields.{present};
+ghost use Rattle.rtb_types.specs.Paths.{banner_name, imp_name};
 ghost use Rattle.json_fields.specs.Items.{each_at, elements, list_values};
 ghost use Rattle.rtb_read.specs.Imps.{banner_faults, banner_from, battr_faults, format_at, format_faults, formats_faults, formats_in, size_in, size_of, sizes_of};
-ghost use Rattle.rtb_read.specs.Parts.{as_i32, inside_faults, inside_from, list_fault};
+ghost use Rattle.rtb_read.specs.Parts.{as_i32, inside_faults, inside_from, list_fault, object_in};
 
 use crate::fault::ReqFault;
-use crate::parts::{ANY_I32, fault, integer_field};
+use crate::parts::{ANY_I32, array_field, fault, integer_field, object_field};
 use exact_json::Value;
 use json_fields as fields;
 use json_fields::ListFlaw;
@@ -35,8 +36,8 @@ fn format_in(imp: usize, place: usize, format: &Value) -> Result<Option<Size>, R
     requires forms { HasForms (tree_of format.now) }
     ensures { Answers ReqFault.Memory (format_faults imp place (tree_of format.now)) (size_in (tree_of format.now)) result }
 {
-    let w = integer_field(format, b"w", Field::Format(imp, place, SizeField::W))?;
-    let h = integer_field(format, b"h", Field::Format(imp, place, SizeField::H))?;
+    let w = integer_field(format, Field::Format(imp, place, SizeField::W))?;
+    let h = integer_field(format, Field::Format(imp, place, SizeField::H))?;
     Ok(size(w, h))
 }
 
@@ -87,7 +88,7 @@ fn sizes_field(
     requires forms { HasForms (tree_of banner.now) }
     ensures { Answers ReqFault.Memory (formats_faults imp (tree_of banner.now)) (sizes_of own (elements (formats_in (tree_of banner.now)))) result }
 {
-    match fields::array(banner, b"format") {
+    match array_field(banner, Field::Banner(imp, BannerField::Format)) {
         Ok(Some(values)) => Ok(List::from_vec(all_sizes(alloc, own, imp, values)?)),
         Ok(None) => Ok(List::from_vec(all_sizes(alloc, own, imp, &[])?)),
         Err(flaw) => Err(fault(Field::Banner(imp, BannerField::Format), flaw)),
@@ -108,9 +109,9 @@ fn battr_fault(imp: usize, flaw: ListFlaw) -> ReqFault
 
 fn battr_field(alloc: Global, imp: usize, banner: &Value) -> Result<List<i32>, ReqFault>
     requires forms { HasForms (tree_of banner.now) }
-    ensures { Answers ReqFault.Memory (battr_faults imp (tree_of banner.now)) (list_values as_i32 (present (codes "battr") (tree_of banner.now))) result }
+    ensures { Answers ReqFault.Memory (battr_faults imp (tree_of banner.now)) (list_values as_i32 (present (banner_name BannerField.Battr) (tree_of banner.now))) result }
 {
-    match fields::whole_numbers(alloc, banner, b"battr", &ANY_I32) {
+    match fields::whole_numbers(alloc, banner, BannerField::Battr.name(), &ANY_I32) {
         Ok(battr) => Ok(battr),
         Err(flaw) => Err(battr_fault(imp, flaw)),
     }
@@ -120,11 +121,11 @@ fn banner_in(alloc: Global, imp: usize, banner: &Value) -> Result<Banner, ReqFau
     requires forms { HasForms (tree_of banner.now) }
     ensures { Answers ReqFault.Memory (banner_faults imp (tree_of banner.now)) (banner_from (tree_of banner.now)) result }
 {
-    let w = integer_field(banner, b"w", Field::Banner(imp, BannerField::W))?;
-    let h = integer_field(banner, b"h", Field::Banner(imp, BannerField::H))?;
+    let w = integer_field(banner, Field::Banner(imp, BannerField::W))?;
+    let h = integer_field(banner, Field::Banner(imp, BannerField::H))?;
     let sizes = sizes_field(alloc, size(w, h), imp, banner)?;
     let battr = battr_field(alloc, imp, banner)?;
-    let pos = integer_field(banner, b"pos", Field::Banner(imp, BannerField::Pos))?;
+    let pos = integer_field(banner, Field::Banner(imp, BannerField::Pos))?;
     Ok(Banner { sizes, battr, pos })
 }
 
@@ -134,9 +135,9 @@ pub(crate) fn banner_field(
     parent: &Value,
 ) -> Result<Option<Banner>, ReqFault>
     requires forms { HasForms (tree_of parent.now) }
-    ensures { Answers ReqFault.Memory (inside_faults (Field.Imp imp ImpField.Banner) (banner_faults imp) (optional as_object (present (codes "banner") (tree_of parent.now)))) (inside_from banner_from (optional as_object (present (codes "banner") (tree_of parent.now)))) result }
+    ensures { Answers ReqFault.Memory (inside_faults (Field.Imp imp ImpField.Banner) (banner_faults imp) (object_in (imp_name ImpField.Banner) (tree_of parent.now))) (inside_from banner_from (object_in (imp_name ImpField.Banner) (tree_of parent.now))) result }
 {
-    match fields::object(parent, b"banner") {
+    match object_field(parent, Field::Imp(imp, ImpField::Banner)) {
         Ok(Some(banner)) => Ok(Some(banner_in(alloc, imp, banner)?)),
         Ok(None) => Ok(None),
         Err(flaw) => Err(fault(Field::Imp(imp, ImpField::Banner), flaw)),

@@ -1,17 +1,15 @@
 #![tactic(auto, using(json_fields::proofs::First::in_front, json_fields::proofs::First::behind, json_fields::proofs::First::neither), unfolding(crate::specs::Context::publisher_faults, crate::specs::Context::publisher_from, crate::specs::Context::site_faults, crate::specs::Context::site_from, crate::specs::Context::app_faults, crate::specs::Context::app_from, crate::specs::Context::geo_faults, crate::specs::Context::geo_from, crate::specs::Context::device_faults, crate::specs::Context::device_from, crate::specs::Context::user_faults, crate::specs::Context::user_from, crate::specs::Parts::inside_faults, crate::specs::Parts::inside_from))]
 
-ghost use Rattle.std.specs.Prelude.{codes};
 ghost use Rattle.exact_json.specs.Forms.{HasForms};
 ghost use Rattle.exact_json.specs.View.{tree_of};
 ghost use Rattle.json_fields.specs.Answers.{Answers};
-ghost use Rattle.json_fields.specs.Fields.{as_object, optional, present};
+ghost use Rattle.rtb_types.specs.Paths.{device_name, request_name};
 ghost use Rattle.rtb_read.specs.Context.{app_faults, app_from, device_faults, device_from, geo_faults, geo_from, publisher_faults, publisher_from, site_faults, site_from, user_faults, user_from};
-ghost use Rattle.rtb_read.specs.Parts.{inside_faults, inside_from};
+ghost use Rattle.rtb_read.specs.Parts.{inside_faults, inside_from, object_in};
 
 use crate::fault::ReqFault;
-use crate::parts::{fault, integer_field, text_field};
+use crate::parts::{fault, integer_field, object_field, text_field};
 use exact_json::Value;
-use json_fields as fields;
 use rtb_num::Txt;
 use rtb_types::{
     App, AppField, Device, DeviceField, Field, Geo, GeoField, RequestField, Site, SiteField, User,
@@ -20,10 +18,10 @@ use rtb_types::{
 
 // The id of the publisher, by the fields of the publisher and of its id.
 fn publisher_field(parent: &Value, whole: Field, id: Field) -> Result<Option<Txt>, ReqFault>
-    ensures { Answers ReqFault.Memory (publisher_faults whole id (tree_of parent.now)) (publisher_from (tree_of parent.now)) result }
+    ensures { Answers ReqFault.Memory (publisher_faults whole id (tree_of parent.now)) (publisher_from whole id (tree_of parent.now)) result }
 {
-    match fields::object(parent, b"publisher") {
-        Ok(Some(publisher)) => text_field(publisher, b"id", id),
+    match object_field(parent, whole) {
+        Ok(Some(publisher)) => text_field(publisher, id),
         Ok(None) => Ok(None),
         Err(flaw) => Err(fault(whole, flaw)),
     }
@@ -32,8 +30,8 @@ fn publisher_field(parent: &Value, whole: Field, id: Field) -> Result<Option<Txt
 fn site_in(site: &Value) -> Result<Site, ReqFault>
     ensures { Answers ReqFault.Memory (site_faults (tree_of site.now)) (site_from (tree_of site.now)) result }
 {
-    let id = text_field(site, b"id", Field::Site(SiteField::Id))?;
-    let domain = text_field(site, b"domain", Field::Site(SiteField::Domain))?;
+    let id = text_field(site, Field::Site(SiteField::Id))?;
+    let domain = text_field(site, Field::Site(SiteField::Domain))?;
     let publisher = publisher_field(
         site,
         Field::Site(SiteField::Publisher),
@@ -49,8 +47,8 @@ fn site_in(site: &Value) -> Result<Site, ReqFault>
 fn app_in(app: &Value) -> Result<App, ReqFault>
     ensures { Answers ReqFault.Memory (app_faults (tree_of app.now)) (app_from (tree_of app.now)) result }
 {
-    let id = text_field(app, b"id", Field::App(AppField::Id))?;
-    let bundle = text_field(app, b"bundle", Field::App(AppField::Bundle))?;
+    let id = text_field(app, Field::App(AppField::Id))?;
+    let bundle = text_field(app, Field::App(AppField::Bundle))?;
     let publisher = publisher_field(
         app,
         Field::App(AppField::Publisher),
@@ -66,11 +64,11 @@ fn app_in(app: &Value) -> Result<App, ReqFault>
 fn geo_in(geo: &Value) -> Result<Geo, ReqFault>
     ensures { Answers ReqFault.Memory (geo_faults (tree_of geo.now)) (geo_from (tree_of geo.now)) result }
 {
-    let country = text_field(geo, b"country", Field::Geo(GeoField::Country))?;
-    let region = text_field(geo, b"region", Field::Geo(GeoField::Region))?;
-    let metro = text_field(geo, b"metro", Field::Geo(GeoField::Metro))?;
-    let city = text_field(geo, b"city", Field::Geo(GeoField::City))?;
-    let zip = text_field(geo, b"zip", Field::Geo(GeoField::Zip))?;
+    let country = text_field(geo, Field::Geo(GeoField::Country))?;
+    let region = text_field(geo, Field::Geo(GeoField::Region))?;
+    let metro = text_field(geo, Field::Geo(GeoField::Metro))?;
+    let city = text_field(geo, Field::Geo(GeoField::City))?;
+    let zip = text_field(geo, Field::Geo(GeoField::Zip))?;
     Ok(Geo {
         country,
         region,
@@ -81,9 +79,9 @@ fn geo_in(geo: &Value) -> Result<Geo, ReqFault>
 }
 
 fn geo_field(device: &Value) -> Result<Option<Geo>, ReqFault>
-    ensures { Answers ReqFault.Memory (inside_faults (Field.Device DeviceField.Geo) geo_faults (optional as_object (present (codes "geo") (tree_of device.now)))) (inside_from geo_from (optional as_object (present (codes "geo") (tree_of device.now)))) result }
+    ensures { Answers ReqFault.Memory (inside_faults (Field.Device DeviceField.Geo) geo_faults (object_in (device_name DeviceField.Geo) (tree_of device.now))) (inside_from geo_from (object_in (device_name DeviceField.Geo) (tree_of device.now))) result }
 {
-    match fields::object(device, b"geo") {
+    match object_field(device, Field::Device(DeviceField::Geo)) {
         Ok(Some(geo)) => Ok(Some(geo_in(geo)?)),
         Ok(None) => Ok(None),
         Err(flaw) => Err(fault(Field::Device(DeviceField::Geo), flaw)),
@@ -95,22 +93,14 @@ fn device_in(device: &Value) -> Result<Device, ReqFault>
     ensures { Answers ReqFault.Memory (device_faults (tree_of device.now)) (device_from (tree_of device.now)) result }
 {
     let geo = geo_field(device)?;
-    let devicetype = integer_field(
-        device,
-        b"devicetype",
-        Field::Device(DeviceField::Devicetype),
-    )?;
-    let device_make = text_field(device, b"make", Field::Device(DeviceField::Make))?;
-    let device_model = text_field(device, b"model", Field::Device(DeviceField::Model))?;
-    let os = text_field(device, b"os", Field::Device(DeviceField::Os))?;
-    let osv = text_field(device, b"osv", Field::Device(DeviceField::Osv))?;
-    let language = text_field(device, b"language", Field::Device(DeviceField::Language))?;
-    let carrier = text_field(device, b"carrier", Field::Device(DeviceField::Carrier))?;
-    let connectiontype = integer_field(
-        device,
-        b"connectiontype",
-        Field::Device(DeviceField::Connectiontype),
-    )?;
+    let devicetype = integer_field(device, Field::Device(DeviceField::Devicetype))?;
+    let device_make = text_field(device, Field::Device(DeviceField::Make))?;
+    let device_model = text_field(device, Field::Device(DeviceField::Model))?;
+    let os = text_field(device, Field::Device(DeviceField::Os))?;
+    let osv = text_field(device, Field::Device(DeviceField::Osv))?;
+    let language = text_field(device, Field::Device(DeviceField::Language))?;
+    let carrier = text_field(device, Field::Device(DeviceField::Carrier))?;
+    let connectiontype = integer_field(device, Field::Device(DeviceField::Connectiontype))?;
     Ok(Device {
         geo,
         devicetype,
@@ -128,16 +118,16 @@ fn user_in(user: &Value) -> Result<User, ReqFault>
     requires forms { HasForms (tree_of user.now) }
     ensures { Answers ReqFault.Memory (user_faults (tree_of user.now)) (user_from (tree_of user.now)) result }
 {
-    let id = text_field(user, b"id", Field::User(UserField::Id))?;
-    let yob = integer_field(user, b"yob", Field::User(UserField::Yob))?;
-    let gender = text_field(user, b"gender", Field::User(UserField::Gender))?;
+    let id = text_field(user, Field::User(UserField::Id))?;
+    let yob = integer_field(user, Field::User(UserField::Yob))?;
+    let gender = text_field(user, Field::User(UserField::Gender))?;
     Ok(User { id, yob, gender })
 }
 
 pub(crate) fn site_field(request: &Value) -> Result<Option<Site>, ReqFault>
-    ensures { Answers ReqFault.Memory (inside_faults (Field.Request RequestField.Site) site_faults (optional as_object (present (codes "site") (tree_of request.now)))) (inside_from site_from (optional as_object (present (codes "site") (tree_of request.now)))) result }
+    ensures { Answers ReqFault.Memory (inside_faults (Field.Request RequestField.Site) site_faults (object_in (request_name RequestField.Site) (tree_of request.now))) (inside_from site_from (object_in (request_name RequestField.Site) (tree_of request.now))) result }
 {
-    match fields::object(request, b"site") {
+    match object_field(request, Field::Request(RequestField::Site)) {
         Ok(Some(site)) => Ok(Some(site_in(site)?)),
         Ok(None) => Ok(None),
         Err(flaw) => Err(fault(Field::Request(RequestField::Site), flaw)),
@@ -145,9 +135,9 @@ pub(crate) fn site_field(request: &Value) -> Result<Option<Site>, ReqFault>
 }
 
 pub(crate) fn app_field(request: &Value) -> Result<Option<App>, ReqFault>
-    ensures { Answers ReqFault.Memory (inside_faults (Field.Request RequestField.App) app_faults (optional as_object (present (codes "app") (tree_of request.now)))) (inside_from app_from (optional as_object (present (codes "app") (tree_of request.now)))) result }
+    ensures { Answers ReqFault.Memory (inside_faults (Field.Request RequestField.App) app_faults (object_in (request_name RequestField.App) (tree_of request.now))) (inside_from app_from (object_in (request_name RequestField.App) (tree_of request.now))) result }
 {
-    match fields::object(request, b"app") {
+    match object_field(request, Field::Request(RequestField::App)) {
         Ok(Some(app)) => Ok(Some(app_in(app)?)),
         Ok(None) => Ok(None),
         Err(flaw) => Err(fault(Field::Request(RequestField::App), flaw)),
@@ -156,9 +146,9 @@ pub(crate) fn app_field(request: &Value) -> Result<Option<App>, ReqFault>
 
 pub(crate) fn device_field(request: &Value) -> Result<Option<Device>, ReqFault>
     requires forms { HasForms (tree_of request.now) }
-    ensures { Answers ReqFault.Memory (inside_faults (Field.Request RequestField.Device) device_faults (optional as_object (present (codes "device") (tree_of request.now)))) (inside_from device_from (optional as_object (present (codes "device") (tree_of request.now)))) result }
+    ensures { Answers ReqFault.Memory (inside_faults (Field.Request RequestField.Device) device_faults (object_in (request_name RequestField.Device) (tree_of request.now))) (inside_from device_from (object_in (request_name RequestField.Device) (tree_of request.now))) result }
 {
-    match fields::object(request, b"device") {
+    match object_field(request, Field::Request(RequestField::Device)) {
         Ok(Some(device)) => Ok(Some(device_in(device)?)),
         Ok(None) => Ok(None),
         Err(flaw) => Err(fault(Field::Request(RequestField::Device), flaw)),
@@ -167,9 +157,9 @@ pub(crate) fn device_field(request: &Value) -> Result<Option<Device>, ReqFault>
 
 pub(crate) fn user_field(request: &Value) -> Result<Option<User>, ReqFault>
     requires forms { HasForms (tree_of request.now) }
-    ensures { Answers ReqFault.Memory (inside_faults (Field.Request RequestField.User) user_faults (optional as_object (present (codes "user") (tree_of request.now)))) (inside_from user_from (optional as_object (present (codes "user") (tree_of request.now)))) result }
+    ensures { Answers ReqFault.Memory (inside_faults (Field.Request RequestField.User) user_faults (object_in (request_name RequestField.User) (tree_of request.now))) (inside_from user_from (object_in (request_name RequestField.User) (tree_of request.now))) result }
 {
-    match fields::object(request, b"user") {
+    match object_field(request, Field::Request(RequestField::User)) {
         Ok(Some(user)) => Ok(Some(user_in(user)?)),
         Ok(None) => Ok(None),
         Err(flaw) => Err(fault(Field::Request(RequestField::User), flaw)),

@@ -1,17 +1,18 @@
 #![tactic(auto, using(json_fields::proofs::First::in_front, json_fields::proofs::First::behind, json_fields::proofs::First::neither, json_fields::proofs::First::mapped, json_fields::proofs::First::mapped_none, crate::proofs::Loops::no_deals), unfolding(crate::specs::Imps::deal_texts_faults, crate::specs::Imps::deal_texts_from, crate::specs::Imps::deal_faults, crate::specs::Imps::deal_from, crate::specs::Imps::deals_faults, crate::specs::Imps::deals_in, crate::specs::Imps::pmp_faults, crate::specs::Imps::pmp_from, crate::specs::Parts::element_faults, crate::specs::Parts::inside_faults, crate::specs::Parts::inside_from, crate::specs::Parts::list_faults))]
 
-ghost use Rattle.std.specs.Prelude.{◌≡◌, [], codes, map};
+ghost use Rattle.std.specs.Prelude.{◌≡◌, [], map};
 ghost use Rattle.std.specs.List.{All};
 ghost use Rattle.exact_json.specs.Forms.{HasForms};
 ghost use Rattle.exact_json.specs.View.{tree_of};
 ghost use Rattle.json_fields.specs.Answers.{Answers, map_ok, value_or};
-ghost use Rattle.json_fields.specs.Fields.{as_object, as_text, optional, present, required};
+ghost use Rattle.json_fields.specs.Fields.{as_text, present, required};
+ghost use Rattle.rtb_types.specs.Paths.{deal_name, imp_name};
 ghost use Rattle.json_fields.specs.Items.{each_at, elements};
 ghost use Rattle.rtb_read.specs.Imps.{deal_at, deal_faults, deal_from, deal_texts_faults, deal_texts_from, deals_faults, deals_from, deals_in, no_pmp, pmp_faults, pmp_from, pmp_or_none};
-ghost use Rattle.rtb_read.specs.Parts.{faults_at, inside_faults, inside_from, list_fault};
+ghost use Rattle.rtb_read.specs.Parts.{faults_at, inside_faults, inside_from, list_fault, object_in};
 
 use crate::fault::ReqFault;
-use crate::parts::{currency_field, fault, flag_field, floor_field};
+use crate::parts::{array_field, currency_field, fault, flag_field, floor_field, object_field};
 use crate::types::type_field;
 use exact_json::Value;
 use json_fields as fields;
@@ -51,9 +52,9 @@ fn texts_field(
 
 #[tactic(auto, unfolding(crate::specs::Parts::faults_at))]
 fn id_field(imp: usize, place: usize, deal: &Value) -> Result<Txt, ReqFault>
-    ensures { Answers ReqFault.Memory (faults_at (Field.OfDeal imp place DealField.Id) (required as_text (present (codes "id") (tree_of deal.now)))) (value_or [] (required as_text (present (codes "id") (tree_of deal.now)))) result }
+    ensures { Answers ReqFault.Memory (faults_at (Field.OfDeal imp place DealField.Id) (required as_text (present (deal_name DealField.Id) (tree_of deal.now)))) (value_or [] (required as_text (present (deal_name DealField.Id) (tree_of deal.now)))) result }
 {
-    match fields::required_text(deal, b"id") {
+    match fields::required_text(deal, DealField::Id.name()) {
         Ok(id) => Ok(id.copy()?),
         Err(flaw) => Err(fault(Field::OfDeal(imp, place, DealField::Id), flaw)),
     }
@@ -120,7 +121,7 @@ fn deals_field(alloc: Global, at: u8, imp: usize, pmp: &Value) -> Result<List<De
     requires forms { HasForms (tree_of pmp.now) }
     ensures { Answers ReqFault.Memory (deals_faults imp (tree_of pmp.now)) (deals_from at (elements (deals_in (tree_of pmp.now)))) result }
 {
-    match fields::array(pmp, b"deals") {
+    match array_field(pmp, Field::Pmp(imp, PmpField::Deals)) {
         Ok(Some(values)) => Ok(List::from_vec(all_deals(alloc, at, imp, values)?)),
         Ok(None) => Ok(List::new(alloc)),
         Err(flaw) => Err(fault(Field::Pmp(imp, PmpField::Deals), flaw)),
@@ -131,11 +132,7 @@ fn pmp_in(alloc: Global, at: u8, imp: usize, pmp: &Value) -> Result<Pmp, ReqFaul
     requires forms { HasForms (tree_of pmp.now) }
     ensures { Answers ReqFault.Memory (pmp_faults imp (tree_of pmp.now)) (pmp_from at (tree_of pmp.now)) result }
 {
-    let private_auction = flag_field(
-        pmp,
-        b"private_auction",
-        Field::Pmp(imp, PmpField::PrivateAuction),
-    )?;
+    let private_auction = flag_field(pmp, Field::Pmp(imp, PmpField::PrivateAuction))?;
     let deals = deals_field(alloc, at, imp, pmp)?;
     Ok(Pmp {
         private_auction,
@@ -155,9 +152,9 @@ fn open_to_all(alloc: Global) -> Pmp
 
 pub(crate) fn pmp_field(alloc: Global, at: u8, imp: usize, parent: &Value) -> Result<Pmp, ReqFault>
     requires forms { HasForms (tree_of parent.now) }
-    ensures { Answers ReqFault.Memory (inside_faults (Field.Imp imp ImpField.Pmp) (pmp_faults imp) (optional as_object (present (codes "pmp") (tree_of parent.now)))) (pmp_or_none (inside_from (pmp_from at) (optional as_object (present (codes "pmp") (tree_of parent.now))))) result }
+    ensures { Answers ReqFault.Memory (inside_faults (Field.Imp imp ImpField.Pmp) (pmp_faults imp) (object_in (imp_name ImpField.Pmp) (tree_of parent.now))) (pmp_or_none (inside_from (pmp_from at) (object_in (imp_name ImpField.Pmp) (tree_of parent.now)))) result }
 {
-    match fields::object(parent, b"pmp") {
+    match object_field(parent, Field::Imp(imp, ImpField::Pmp)) {
         Ok(Some(pmp)) => pmp_in(alloc, at, imp, pmp),
         Ok(None) => Ok(open_to_all(alloc)),
         Err(flaw) => Err(fault(Field::Imp(imp, ImpField::Pmp), flaw)),

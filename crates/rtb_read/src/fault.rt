@@ -5,30 +5,38 @@ use json_fields::Flaw;
 use rtb_num::PriceFault;
 use rtb_types::Field;
 use std::alloc::{AllocError, AllocFailed};
+use thiserror::Error;
 
 /// Why a JSON text is no bid request.
-#[derive(Clone, Copy, Debug, PartialEq, Eq)]
+#[derive(Clone, Copy, Debug, PartialEq, Eq, Error)]
 pub enum ReqFault {
-    /// It is no object.
+    #[error("the request is no object")]
     NotObject,
     /// The field is required and is absent or null.
+    #[error("a required field is missing")]
     Missing { field: Field },
     /// The field has a value of another type.
+    #[error("a field has a value of another type")]
     WrongType { field: Field },
     /// The field's number is not whole or out of its range, or its text is not of 1 to 255 bytes.
+    #[error("a field is out of its range")]
     Range { field: Field },
-    /// The field's number is no price.
+    #[error("a field's number is no price: {fault}")]
     Price { field: Field, fault: PriceFault },
     /// The field's number is whole and names no auction type.
+    #[error("a field names no auction type")]
     AuctionType { field: Field },
     /// `imp` is empty.
+    #[error("there is no impression")]
     NoImps,
     /// `imp` has more than 64 entries: so many.
+    #[error("{count} impressions are too many")]
     TooManyImps { count: usize },
     /// Two impressions have one id. Places are counted from 0: `second` is the least place of an
     /// impression whose id stands before it, and `first` the least place where it does.
+    #[error("the impressions {first} and {second} have one id")]
     DuplicateImp { first: usize, second: usize },
-    /// Memory ran out.
+    #[error("memory ran out")]
     Memory,
 }
 

@@ -25,8 +25,8 @@ fn imp_in(alloc: Global, at: u8, place: usize, imp: &Value) -> Result<Imp, ReqFa
     ensures { Answers ReqFault.Memory (imp_faults place (tree_of imp.now)) (imp_from at (tree_of imp.now)) result }
 {
     let id = id_field(imp, Field::Imp(place, ImpField::Id))?;
-    let tagid = text_field(imp, b"tagid", Field::Imp(place, ImpField::Tagid))?;
-    let secure = flag_field(imp, b"secure", Field::Imp(place, ImpField::Secure))?;
+    let tagid = text_field(imp, Field::Imp(place, ImpField::Tagid))?;
+    let secure = flag_field(imp, Field::Imp(place, ImpField::Secure))?;
     let floor = floor_field(imp, Field::Imp(place, ImpField::Bidfloor))?;
     let currency = currency_field(alloc, imp, Field::Imp(place, ImpField::Bidfloorcur))?;
     let banner = banner_field(alloc, place, imp)?;

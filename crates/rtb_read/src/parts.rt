@@ -1,12 +1,14 @@
 #![tactic(auto, using(json_fields::proofs::First::in_front, json_fields::proofs::First::behind, json_fields::proofs::First::neither), unfolding(crate::specs::Parts::faults_at, crate::specs::Parts::text_faults, crate::specs::Parts::text_from, crate::specs::Parts::integer_faults, crate::specs::Parts::integer_from, crate::specs::Parts::list_faults, crate::specs::Parts::type_faults, crate::specs::Parts::type_from))]
 
-ghost use Rattle.std.specs.Prelude.{◌≡◌, [], false, option_map, codes, IfOk};
+ghost use Rattle.std.specs.Prelude.{◌≡◌, [], false, map, option_map, codes, IfOk, IfSome};
+ghost use Rattle.std.specs.List.{All};
 ghost use Rattle.exact_json.specs.Forms.{HasForms};
 ghost use Rattle.exact_json.specs.View.{tree_of};
-ghost use Rattle.json_fields.specs.Answers.{Answers, value_or};
+ghost use Rattle.json_fields.specs.Answers.{Answers, map_ok, value_or};
 ghost use Rattle.json_fields.specs.Fields.{as_flag, or_absent, present};
+ghost use Rattle.rtb_types.specs.Paths.{member_name};
 ghost use Rattle.rtb_read.specs.Imps.{currency_in, floor_in, id_in};
-ghost use Rattle.rtb_read.specs.Parts.{fault_of, faults_at, integer_faults, integer_from, text_faults, text_from};
+ghost use Rattle.rtb_read.specs.Parts.{array_in, object_in, fault_of, faults_at, integer_faults, integer_from, text_faults, text_from};
 
 use crate::fault::ReqFault;
 use exact_json::Value;
@@ -37,7 +39,7 @@ pub(crate) fn fault(field: Field, flaw: Flaw) -> ReqFault
     }
 }
 
-fn copied(text: Option<&Txt>) -> Result<Option<Txt>, AllocError>
+fn copy_of(text: Option<&Txt>) -> Result<Option<Txt>, AllocError>
     ensures { IfOk result (λ t. t ≡ option_map (λ s. s.now) text.entry) }
 {
     match text {
@@ -46,37 +48,49 @@ fn copied(text: Option<&Txt>) -> Result<Option<Txt>, AllocError>
     }
 }
 
-// A text, which may be absent.
-pub(crate) fn text_field(object: &Value, name: &[u8], field: Field) -> Result<Option<Txt>, ReqFault>
-    ensures { Answers ReqFault.Memory (text_faults field name.now (tree_of object.now)) (text_from name.now (tree_of object.now)) result }
+// An object, which may be absent.
+pub(crate) fn object_field<'a>(parent: &'a Value, field: Field) -> Result<Option<&'a Value>, Flaw>
+    ensures value { map_ok (option_map (λ v. tree_of v.now)) result ≡ object_in (member_name field) (tree_of parent.now) }
+    ensures forms { HasForms (tree_of parent.now) → IfOk result (λ o. IfSome o (λ v. HasForms (tree_of v.now))) }
 {
-    match fields::text(object, name) {
-        Ok(found) => Ok(copied(found)?),
+    fields::object(parent, field.member())
+}
+
+// The values of an array, which may be absent.
+pub(crate) fn array_field<'a>(parent: &'a Value, field: Field) -> Result<Option<&'a [Value]>, Flaw>
+    ensures values { map_ok (option_map (λ vs. map tree_of vs.now)) result ≡ array_in (member_name field) (tree_of parent.now) }
+    ensures forms { HasForms (tree_of parent.now) → IfOk result (λ o. IfSome o (λ vs. All (λ v. HasForms (tree_of v)) vs.now)) }
+{
+    fields::array(parent, field.member())
+}
+
+// A text, which may be absent.
+pub(crate) fn text_field(object: &Value, field: Field) -> Result<Option<Txt>, ReqFault>
+    ensures { Answers ReqFault.Memory (text_faults field (tree_of object.now)) (text_from (member_name field) (tree_of object.now)) result }
+{
+    match fields::text(object, field.member()) {
+        Ok(found) => Ok(copy_of(found)?),
         Err(flaw) => Err(fault(field, flaw)),
     }
 }
 
 // An integer, which may be absent.
-pub(crate) fn integer_field(
-    object: &Value,
-    name: &[u8],
-    field: Field,
-) -> Result<Option<i32>, ReqFault>
+pub(crate) fn integer_field(object: &Value, field: Field) -> Result<Option<i32>, ReqFault>
     requires forms { HasForms (tree_of object.now) }
-    ensures { Answers ReqFault.Memory (integer_faults field name.now (tree_of object.now)) (integer_from name.now (tree_of object.now)) result }
+    ensures { Answers ReqFault.Memory (integer_faults field (tree_of object.now)) (integer_from (member_name field) (tree_of object.now)) result }
 {
-    match fields::whole_number(object, name, &ANY_I32) {
+    match fields::whole_number(object, field.member(), &ANY_I32) {
         Ok(found) => Ok(found),
         Err(flaw) => Err(fault(field, flaw)),
     }
 }
 
 // A 0 or a 1, and 0 where it is absent.
-pub(crate) fn flag_field(object: &Value, name: &[u8], field: Field) -> Result<bool, ReqFault>
+pub(crate) fn flag_field(object: &Value, field: Field) -> Result<bool, ReqFault>
     requires forms { HasForms (tree_of object.now) }
-    ensures { Answers ReqFault.Memory (faults_at field (or_absent false as_flag (present name.now (tree_of object.now)))) (value_or false (or_absent false as_flag (present name.now (tree_of object.now)))) result }
+    ensures { Answers ReqFault.Memory (faults_at field (or_absent false as_flag (present (member_name field) (tree_of object.now)))) (value_or false (or_absent false as_flag (present (member_name field) (tree_of object.now)))) result }
 {
-    match fields::flag(object, name) {
+    match fields::flag(object, field.member()) {
         Ok(found) => Ok(found),
         Err(flaw) => Err(fault(field, flaw)),
     }
@@ -84,9 +98,9 @@ pub(crate) fn flag_field(object: &Value, name: &[u8], field: Field) -> Result<bo
 
 // The id of a request or of an impression: a text of 1 to 255 bytes.
 pub(crate) fn id_field(object: &Value, field: Field) -> Result<Txt, ReqFault>
-    ensures { Answers ReqFault.Memory (faults_at field (id_in (tree_of object.now))) (value_or [] (id_in (tree_of object.now))) result }
+    ensures { Answers ReqFault.Memory (faults_at field (id_in (member_name field) (tree_of object.now))) (value_or [] (id_in (member_name field) (tree_of object.now))) result }
 {
-    match fields::required_text_within(object, b"id", MAX_ID) {
+    match fields::required_text_within(object, field.member(), MAX_ID) {
         Ok(id) => Ok(id.copy()?),
         Err(flaw) => Err(fault(field, flaw)),
     }
@@ -95,9 +109,9 @@ pub(crate) fn id_field(object: &Value, field: Field) -> Result<Txt, ReqFault>
 // A floor in US dollars, and 0 where it is absent.
 pub(crate) fn floor_field(object: &Value, field: Field) -> Result<Micros, ReqFault>
     requires forms { HasForms (tree_of object.now) }
-    ensures { Answers ReqFault.Memory (faults_at field (floor_in (tree_of object.now))) (value_or 0 (floor_in (tree_of object.now))) result }
+    ensures { Answers ReqFault.Memory (faults_at field (floor_in (member_name field) (tree_of object.now))) (value_or 0 (floor_in (member_name field) (tree_of object.now))) result }
 {
-    match fields::floor_price(object, b"bidfloor") {
+    match fields::floor_price(object, field.member()) {
         Ok(floor) => Ok(floor),
         Err(flaw) => Err(fault(field, flaw)),
     }
@@ -115,9 +129,9 @@ fn us_dollars(alloc: Global) -> Result<Txt, AllocError>
 // The currency of a floor, and US dollars where it is absent.
 #[tactic(auto, unfolding(crate::specs::Parts::faults_at, json_fields::specs::Fields::or_absent))]
 pub(crate) fn currency_field(alloc: Global, object: &Value, field: Field) -> Result<Txt, ReqFault>
-    ensures { Answers ReqFault.Memory (faults_at field (currency_in (tree_of object.now))) (value_or [] (currency_in (tree_of object.now))) result }
+    ensures { Answers ReqFault.Memory (faults_at field (currency_in (member_name field) (tree_of object.now))) (value_or [] (currency_in (member_name field) (tree_of object.now))) result }
 {
-    match fields::present(object, b"bidfloorcur") {
+    match fields::present(object, field.member()) {
         Some(value) => match fields::text_in(value) {
             Ok(text) => Ok(text.copy()?),
             Err(flaw) => Err(fault(field, flaw)),

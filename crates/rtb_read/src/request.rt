@@ -1,4 +1,4 @@
-#![tactic(auto, using(json_fields::proofs::First::in_front, json_fields::proofs::First::behind, json_fields::proofs::First::neither, json_fields::proofs::First::mapped, json_fields::proofs::First::mapped_none), unfolding(crate::specs::Request::texts_faults, crate::specs::Request::texts_from, crate::specs::Request::imp_in, crate::specs::Request::all_imps_faults, crate::specs::Request::request_faults, crate::specs::Parts::list_faults))]
+#![tactic(auto, using(json_fields::proofs::First::in_front, json_fields::proofs::First::behind, json_fields::proofs::First::neither, json_fields::proofs::First::mapped, json_fields::proofs::First::mapped_none), unfolding(crate::specs::Request::texts_faults, crate::specs::Request::texts_from, crate::specs::Request::imp_array, crate::specs::Request::all_imps_faults, crate::specs::Request::request_faults, crate::specs::Parts::list_faults))]
 
 ghost use Rattle.std.specs.Prelude.{◌≡◌, [], IfOk, IsTrue};
 ghost use Rattle.exact_json.specs.Docs.{doc_tree};
@@ -8,7 +8,7 @@ ghost use Rattle.json_fields.specs.Answers.{Answers, value_or};
 ghost use Rattle.rtb_types.specs.Valid.{is_valid};
 ghost use Rattle.rtb_read.specs.Imps.{imps_from};
 ghost use Rattle.rtb_read.specs.Parts.{list_fault};
-ghost use Rattle.rtb_read.specs.Request.{all_imps_faults, fields_faults, imp_in, request_faults, request_from, texts_faults, texts_from};
+ghost use Rattle.rtb_read.specs.Request.{all_imps_faults, fields_faults, imp_array, request_faults, request_from, texts_faults, texts_from};
 
 use crate::context::{app_field, device_field, site_field, user_field};
 use crate::fault::ReqFault;
@@ -50,9 +50,9 @@ fn texts_field(alloc: Global, request: &Value, field: RequestField) -> Result<Li
 
 fn imps_field(alloc: Global, at: u8, request: &Value) -> Result<List<Imp>, ReqFault>
     requires forms { HasForms (tree_of request.now) }
-    ensures { Answers ReqFault.Memory (all_imps_faults (imp_in (tree_of request.now))) (imps_from at (value_or [] (imp_in (tree_of request.now)))) result }
+    ensures { Answers ReqFault.Memory (all_imps_faults (imp_array (tree_of request.now))) (imps_from at (value_or [] (imp_array (tree_of request.now)))) result }
 {
-    match fields::required_array(request, b"imp") {
+    match fields::required_array(request, RequestField::Imp.name()) {
         Ok(values) => imps_in(alloc, at, values),
         Err(flaw) => Err(fault(Field::Request(RequestField::Imp), flaw)),
     }
@@ -71,7 +71,7 @@ fn request_in(alloc: Global, request: &Value) -> Result<BidRequest, ReqFault>
         AUCTION_TYPES,
         SECOND_PRICE,
     )?;
-    let test = flag_field(request, b"test", Field::Request(RequestField::Test))?;
+    let test = flag_field(request, Field::Request(RequestField::Test))?;
     let wseat = texts_field(alloc, request, RequestField::Wseat)?;
     let bseat = texts_field(alloc, request, RequestField::Bseat)?;
     let cur = texts_field(alloc, request, RequestField::Cur)?;

@@ -1,12 +1,13 @@
 #![tactic(auto, unfolding(crate::specs::Parts::as_type, crate::specs::Parts::type_faults, crate::specs::Parts::type_from, json_fields::specs::Fields::or_absent))]
 
-ghost use Rattle.std.specs.Prelude.{◌≡◌, ◌≤◌, codes, IfOk, IsTrue};
+ghost use Rattle.std.specs.Prelude.{◌≡◌, ◌≤◌, IfOk, IsTrue};
 ghost use Rattle.exact_json.specs.Forms.{HasForms};
 ghost use Rattle.exact_json.specs.View.{tree_of};
 ghost use Rattle.json_fields.specs.Amounts.{whole_of};
 ghost use Rattle.json_fields.specs.Answers.{Answers};
 ghost use Rattle.json_fields.specs.Fields.{present};
 ghost use Rattle.rtb_num.specs.Numbers.{is_number};
+ghost use Rattle.rtb_types.specs.Paths.{member_name};
 ghost use Rattle.rtb_read.specs.Parts.{as_type, type_fault, type_faults, type_from, type_named, type_numbered, why_unnamed};
 
 use crate::fault::{ReqFault, TypeFlaw};
@@ -17,7 +18,7 @@ use json_fields::{Flaw, has_whole_value, whole_i32};
 use rtb_types::Field;
 
 // The number as a type, where it is one.
-fn named(n: Option<i32>, greatest: u8) -> Option<u8>
+fn numbered(n: Option<i32>, greatest: u8) -> Option<u8>
     ensures { result ≡ type_numbered greatest n }
 {
     match n {
@@ -31,14 +32,14 @@ fn type_of(text: &[u8], greatest: u8) -> Result<u8, TypeFlaw>
     requires { IsTrue (is_number text.now) }
     ensures { result ≡ type_named greatest (whole_of text.now) }
 {
-    match named(whole_i32(text), greatest) {
+    match numbered(whole_i32(text), greatest) {
         Some(kind) => Ok(kind),
-        None => Err(unnamed(has_whole_value(text))),
+        None => Err(why_unnamed(has_whole_value(text))),
     }
 }
 
 // Why a number that is whole, or is not, names no type.
-fn unnamed(is_whole: bool) -> TypeFlaw
+fn why_unnamed(is_whole: bool) -> TypeFlaw
     ensures { result ≡ why_unnamed is_whole }
 {
     if is_whole {
@@ -75,9 +76,9 @@ pub(crate) fn type_field(
     default: u8,
 ) -> Result<u8, ReqFault>
     requires forms { HasForms (tree_of object.now) }
-    ensures { Answers ReqFault.Memory (type_faults field greatest (present (codes "at") (tree_of object.now))) (type_from greatest default (present (codes "at") (tree_of object.now))) result }
+    ensures { Answers ReqFault.Memory (type_faults field greatest (present (member_name field) (tree_of object.now))) (type_from greatest default (present (member_name field) (tree_of object.now))) result }
 {
-    match fields::present(object, b"at") {
+    match fields::present(object, field.member()) {
         Some(value) => match type_in(value, greatest) {
             Ok(kind) => Ok(kind),
             Err(flaw) => Err(flaw_of(field, flaw)),

@@ -7,11 +7,11 @@ use Rattle.rtb_read.proofs.types.type_of.Goals as goal
 
 pub returns-in-Some : goal.returns-in-Some
 returns-in-Some c =
-    ap (λ o. picked o (is_some (whole_of c.args.text.now))) (sym c.in-Some.is ∙ c.named.ensures ∙ ap (type_numbered c.args.greatest) c.whole_i32.ensures)
+    ap (λ o. picked o (is_some (whole_of c.args.text.now))) (sym c.in-Some.is ∙ c.numbered.ensures ∙ ap (type_numbered c.args.greatest) c.whole_i32.ensures)
     ∙ type_is c.args.greatest c.args.text.now (omega arith)
 
 pub returns-in-None : goal.returns-in-None
 returns-in-None c =
-    ap Err (c.unnamed.ensures ∙ ap why_unnamed c.has_whole_value.ensures)
-    ∙ ap (λ o. picked o (is_some (whole_of c.args.text.now))) (sym c.in-None.is ∙ c.named.ensures ∙ ap (type_numbered c.args.greatest) c.whole_i32.ensures)
+    ap Err (c.why_unnamed.ensures ∙ ap why_unnamed c.has_whole_value.ensures)
+    ∙ ap (λ o. picked o (is_some (whole_of c.args.text.now))) (sym c.in-None.is ∙ c.numbered.ensures ∙ ap (type_numbered c.args.greatest) c.whole_i32.ensures)
     ∙ type_is c.args.greatest c.args.text.now (omega arith)
