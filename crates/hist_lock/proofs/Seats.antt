@@ -259,8 +259,16 @@ module _ {S O E : Type 0} (stands : O → S → List E → Type 0) (worker : E �
             (λ j u other fits. fits)
             (record { origin = p.origin; number = p.number; seat_of_worker = p.seat_of_worker; knows = p.knows; made = p.made; ended = p.ended }, λ _. let m : me.0.out - 1 ≡ f.out = omega arith in m)
             (still_known stands worker s r id me.0 w at refl (λ e. e)) r.named (λ q d. d.1)),
-        (refl, omega arith, λ le. let o = overtakes me.0.shorter_seen me.0.seen fit.2.0 p.knows.0 (fit.2.1 ∙ p.knows.1) le in (o.0, sym o.1), sym (knows-entries worker me.0.worker me.0.seen f.log p.knows) ∙ knows-entries worker me.0.worker me.0.seen_before f.log fit.3,
-          subst (λ (l : List (ℕ × List E)). NamesOnce l) (sym (p.ended first)) r.once, fit.4.origin ∙ sym p.origin, fit.4.other, (let m = p.made first in let low : me.0.joined < f.made = fit.4.number in omega arith)),
+        (
+          refl,
+          omega arith,
+          λ le. let o = overtakes me.0.shorter_seen me.0.seen fit.2.0 p.knows.0 (fit.2.1 ∙ p.knows.1) le in (o.0, sym o.1),
+          sym (knows-entries worker me.0.worker me.0.seen f.log p.knows) ∙ knows-entries worker me.0.worker me.0.seen_before f.log fit.3,
+          subst (λ (l : List (ℕ × List E)). NamesOnce l) (sym (p.ended first)) r.once,
+          fit.4.origin ∙ sym p.origin,
+          fit.4.other,
+          (let m = p.made first in let low : me.0.joined < f.made = fit.4.number in omega arith),
+        ),
       )
 
   -- A seat that is kept for what it has seen.
