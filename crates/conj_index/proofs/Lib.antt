@@ -19,5 +19,4 @@ pub mod Built
 pub mod Asked
 pub mod Climbing
 pub mod Standing
-pub mod Singles
 pub mod Costs

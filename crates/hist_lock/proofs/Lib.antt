@@ -4,5 +4,3 @@ pub mod Turns
 pub mod Openings
 pub mod Seats
 pub mod Open
-pub mod Times
-pub mod Hiring

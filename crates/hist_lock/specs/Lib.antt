@@ -3,4 +3,3 @@ pub mod Rule
 pub mod Steps
 pub mod Places
 pub mod Views
-pub mod Counters

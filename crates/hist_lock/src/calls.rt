@@ -8,8 +8,12 @@ use std::sync::Wait;
 use std::sync::atomic::AtomicU64;
 use std::sync::atomic::Ordering::SeqCst;
 
-// How often a seat looks at its word in one watch, which takes some microseconds.
-const LOOKS: u32 = 300;
+// How often a seat pauses in one watch. A watch is to last longer than it takes to wake a thread, some
+// 10 microseconds, also where a pause is short: else seats that wait for one that is just woken all park.
+const PAUSES: u32 = 1000;
+
+// How often it looks at its word before each pause.
+const LOOKS: u32 = 8;
 
 /// The words of a lock.
 #[derive(Drop)]
@@ -77,12 +81,22 @@ impl Call {
     }
 
     fn watch(&self, ticket: u64) {
-        for _ in 0..LOOKS {
-            if self.ticket.load(SeqCst) == ticket {
+        for _ in 0..PAUSES {
+            if self.shows(ticket) {
                 return;
             }
             spin_loop();
         }
+    }
+
+    // Whether one of some looks finds the ticket called.
+    fn shows(&self, ticket: u64) -> bool {
+        for _ in 0..LOOKS {
+            if self.ticket.load(SeqCst) == ticket {
+                return true;
+            }
+        }
+        false
     }
 
     // A call after the count is raised either changes the word before the seat parks, and then it does

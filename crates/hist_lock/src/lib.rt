@@ -18,6 +18,3 @@ mod view;
 
 pub use lock::{HistLock, Past, Seat, Turn};
 pub use view::{Names, Stands, Starts};
-
-#[cfg(test)]
-mod tests;
