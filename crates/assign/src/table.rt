@@ -28,8 +28,7 @@ fn geo_of(device: Option<&Device>) -> Option<&Geo>
 fn pairs(alloc: Global, request: &BidRequest, imp: &Imp) -> Result<List<(Attr, Txt)>, AllocError>
     ensures { IfOk result (λ pairs. pairs ≡ pairs_of request.now imp.now) }
 {
-    let mut pairs = List::new(alloc);
-    pairs.reserve(MOST_ROWS)?;
+    let mut pairs = List::from_vec(Vec::with_capacity(alloc, MOST_ROWS)?);
     push_site(&mut pairs, request.site.as_ref())?;
     push_app(&mut pairs, request.app.as_ref())?;
     push_publisher(&mut pairs, request.site.as_ref(), request.app.as_ref())?;
