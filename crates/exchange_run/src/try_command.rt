@@ -189,9 +189,8 @@ pub fn try_run<S: Source, K: Sink>(alloc: Global, words: &[Txt], source: &mut S,
     ensures unread { command_of words.now ≡ None → source.new ≡ source.old }
     ensures taken { TakesAtMost 266240 (S.left source.old) (S.left source.new) }
 {
-    let status = match outcome(alloc, words, source) {
-        Ok(reply) => tell(reply.status, reply.line.as_bytes(), sink),
-        Err(status) => end_with(status, sink),
-    };
-    status.code()
+    match outcome(alloc, words, source) {
+        Ok(reply) => tell(reply.status, reply.line.as_bytes(), sink).code(),
+        Err(status) => end_with(status, sink).code(),
+    }
 }

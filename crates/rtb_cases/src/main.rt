@@ -7,8 +7,11 @@
 #![tactic(auto)]
 
 mod cases;
+mod commands;
 mod notation;
 mod numbers;
+mod streams;
+mod texts;
 
 use cases::report_on;
 use rtb_io::{read_all, write_all};

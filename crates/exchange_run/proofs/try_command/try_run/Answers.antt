@@ -1,0 +1,48 @@
+use Rattle.std.proofs.Common.{◌∙◌, ap, subst, sym}
+use Rattle.std.specs.Io.KnownBytes.{Appends}
+use Rattle.rtb_io.specs.Fronts.{AppendsFront}
+use Rattle.rtb_io.specs.Statuses.{code_of}
+use Rattle.exchange_run.specs.Answer.{line_of}
+use Rattle.exchange_run.proofs.Endings.{not_written}
+use Rattle.exchange_run.proofs.try_command.try_run.Goals as goal
+
+pub returns-in-Ok-clause-told : goal.returns-in-Ok-clause-told
+returns-in-Ok-clause-told g c = λ other.
+    let told = c.tell.ensures.told (λ e. other (c.code.ensures ∙ ap code_of e)) in
+    record {
+      end = c.in-Ok.reply.status;
+      text = c.in-Ok.reply.line;
+      outcome = c.in-Ok.ensures.replied;
+      code_is = c.code.ensures ∙ ap code_of told.0;
+      went = subst (λ t. Appends (g.K.Sink.written c.args.sink.now) (g.K.Sink.written c.tell.new.sink) t) c.as_bytes.ensures.value told.1;
+    }
+
+pub returns-in-Ok-clause-half_told : goal.returns-in-Ok-clause-half_told
+returns-in-Ok-clause-half_told g c = λ failed.
+    record {
+      end = c.in-Ok.reply.status;
+      text = c.in-Ok.reply.line;
+      outcome = c.in-Ok.ensures.replied;
+      went = subst (λ t. AppendsFront (g.K.Sink.written c.args.sink.now) (g.K.Sink.written c.tell.new.sink) t) c.as_bytes.ensures.value
+        (c.tell.ensures.half_told (not_written c.tell.result (sym c.code.ensures ∙ failed)));
+    }
+
+pub returns-in-Err-clause-told : goal.returns-in-Err-clause-told
+returns-in-Err-clause-told g c = λ other.
+    let told = c.end_with.ensures.told (λ e. other (c.code-in-Err.ensures ∙ ap code_of e)) in
+    record {
+      end = c.in-Err.status;
+      text = line_of c.in-Err.status;
+      outcome = c.in-Err.ensures.stopped;
+      code_is = c.code-in-Err.ensures ∙ ap code_of told.0;
+      went = told.1;
+    }
+
+pub returns-in-Err-clause-half_told : goal.returns-in-Err-clause-half_told
+returns-in-Err-clause-half_told g c = λ failed.
+    record {
+      end = c.in-Err.status;
+      text = line_of c.in-Err.status;
+      outcome = c.in-Err.ensures.stopped;
+      went = c.end_with.ensures.half_told (not_written c.end_with.result (sym c.code-in-Err.ensures ∙ failed));
+    }
