@@ -157,7 +157,12 @@ pub fn bench_run<S: Source, K: Sink>(
 }
 
 // Does the work on JSON that the words name.
-fn json_run<S: Source, K: Sink>(alloc: Global, words: &[Txt], source: &mut S, sink: &mut K) -> Status
+fn json_run<S: Source, K: Sink>(
+    alloc: Global,
+    words: &[Txt],
+    source: &mut S,
+    sink: &mut K,
+) -> Status
     ensures answered { result ≡ Done → Answered words.now (S.left source.old) (S.left source.new) (K.written sink.old) (K.written sink.new) }
     ensures cut { result ≡ NotWritten → HalfAnswered words.now (S.left source.old) (S.left source.new) (K.written sink.old) (K.written sink.new) }
     ensures long { result ≡ Refused → (bytes : List ℕ) × Consumes (S.left source.old) (S.left source.new) bytes × (max_input < length bytes) }

@@ -1,5 +1,5 @@
 -- Which reply the reading of a text leads to.
-use Rattle.std.proofs.Common.{◌≡◌, ◌≢◌, ℕ, ◌≤◌, Bool, true, false, cond, subst, List, [], ◌∷◌, ◌⊎◌, inl, inr, length, Some, Result, Ok, Err, IfOk, OnOk, sym, ap, ◌∙◌, arith}
+use Rattle.std.proofs.Common.{◌≡◌, refl, ℕ, ◌≤◌, Bool, true, false, cond, subst, List, [], ◌∷◌, ◌⊎◌, inl, inr, length, Some, Result, Ok, Err, IfOk, OnOk, sym, ap, ◌∙◌, arith}
 use Rattle.exact_json.specs.Tree.{Tree}
 use Rattle.exact_json.specs.declared.fault.JsonFault.{JsonFault}
 use Rattle.exact_json.specs.declared.fault.JsonFault.TheVariants.{Memory}
@@ -14,7 +14,7 @@ use Rattle.exchange_run.specs.Words.{Campaign, campaign_of, campaigns_of}
 use Rattle.exchange_run.specs.Refusals.{json_fault_text, request_fault_text}
 use Rattle.exchange_run.specs.Answer.{IsReply, faulty, max_input, refusal_of, reply_by, reply_to, said, too_large, tree_reply}
 use Rattle.exchange_run.specs.Unbuilt.{is_unbuilt}
-use Rattle.rtb_io.specs.declared.status.Status.TheVariants.{NotWritten}
+use Rattle.rtb_io.specs.declared.status.Status.TheVariants.{Done, Refused}
 use Rattle.exchange_run.specs.Numbered.{campaigns_only}
 use Rattle.exchange_run.specs.declared.try_command.Reply.{Reply}
 use Rattle.exchange_run.proofs.Each.{each_length}
@@ -53,15 +53,18 @@ pub few : (words : List (List ℕ)) (ps : List (ℕ × Campaign)) → Some (camp
 few words ps e le = omega (arith, each_length campaign_of words (campaigns_only ps) (sym e), length-map ps (λ (p : ℕ × Campaign). p.1))
 
 -- a reply is a sale or a refusal
-unrefused : (refused : Bool) (a b : Reply) → a.status ≢ NotWritten → b.status ≢ NotWritten → (cond refused a b).status ≢ NotWritten
-unrefused true a b h k = h
-unrefused false a b h k = k
+abbrev Ends : Reply → Type 0
+Ends reply = (reply.status ≡ Done) ⊎ (reply.status ≡ Refused)
 
-by_faults : (cs : List Campaign) (fs : List ReqFault) (r : BidRequest) → (reply_by cs fs r).status ≢ NotWritten
-by_faults cs [] r = unrefused (is_unbuilt r) _ _ (λ e. cc) (λ e. cc)
-by_faults cs (f ∷ fs) r = λ e. cc
+either_ends : (refused : Bool) (a b : Reply) → Ends a → Ends b → Ends (cond refused a b)
+either_ends true a b h k = h
+either_ends false a b h k = k
 
-pub ends : (cs : List Campaign) (bytes : List ℕ) (reply : Reply) → IsReply cs bytes reply → reply.status ≢ NotWritten
-ends cs bytes reply (too_large long e) = subst (λ (x : Reply). x.status ≢ NotWritten) (sym e) (λ f. cc)
-ends cs bytes reply (said short t is e) = subst (λ (x : Reply). x.status ≢ NotWritten) (sym e) (by_faults cs (request_faults t) (request_from t))
-ends cs bytes reply (faulty short fault some explains e) = subst (λ (x : Reply). x.status ≢ NotWritten) (sym e) (λ f. cc)
+by_faults : (cs : List Campaign) (fs : List ReqFault) (r : BidRequest) → Ends (reply_by cs fs r)
+by_faults cs [] r = either_ends (is_unbuilt r) _ _ (inr refl) (inl refl)
+by_faults cs (f ∷ fs) r = inr refl
+
+pub ends : (cs : List Campaign) (bytes : List ℕ) (reply : Reply) → IsReply cs bytes reply → (reply.status ≡ Done) ⊎ (reply.status ≡ Refused)
+ends cs bytes reply (too_large long e) = subst Ends (sym e) (inr refl)
+ends cs bytes reply (said short t is e) = subst Ends (sym e) (by_faults cs (request_faults t) (request_from t))
+ends cs bytes reply (faulty short fault some explains e) = subst Ends (sym e) (inr refl)

@@ -10,16 +10,6 @@ use json_out::push_string;
 use rtb_num::{Txt, write_micros};
 use std::alloc::{AllocError, Global};
 
-// Appends the pieces one after the other.
-fn put(out: &mut Txt, pieces: &[&[u8]]) -> Result<(), AllocError>
-    ensures { OnOk result (out.new ≡ out.old ++ concat (map (λ p. p.now) pieces.now)) }
-{
-    for piece in pieces {
-        out.extend(piece)?;
-    }
-    Ok(())
-}
-
 // Appends what stands before the price in a bid object.
 fn put_bid_head(out: &mut Txt, number: &[u8], imp: &[u8]) -> Result<(), AllocError>
     ensures { OnOk result (out.new ≡ out.old ++ bid_head number.now imp.now) }
@@ -38,20 +28,17 @@ fn put_bid_tail(out: &mut Txt, campaign: &NumberedCampaign) -> Result<(), AllocE
 {
     let facts = campaign.facts();
     let mut buffer = Buffer::new();
-    put(
-        out,
-        &[
-            b",\"adm\":\"",
-            facts.adm().as_bytes(),
-            b"\",\"adomain\":[\"",
-            facts.adomain().as_bytes(),
-            b"\"],\"cid\":\"",
-            buffer.format(campaign.number()).as_bytes(),
-            b"\",\"crid\":\"",
-            facts.crid().as_bytes(),
-            b"\"}",
-        ],
-    )?;
+    out.extend_all(&[
+        b",\"adm\":\"",
+        facts.adm().as_bytes(),
+        b"\",\"adomain\":[\"",
+        facts.adomain().as_bytes(),
+        b"\"],\"cid\":\"",
+        buffer.format(campaign.number()).as_bytes(),
+        b"\",\"crid\":\"",
+        facts.crid().as_bytes(),
+        b"\"}",
+    ])?;
     Ok(())
 }
 
@@ -94,10 +81,7 @@ fn put_seat_bids(out: &mut Txt, sold: &[SoldImp], seat: &NumberedCampaign) -> Re
 fn put_seat_tail(out: &mut Txt, seat: &NumberedCampaign) -> Result<(), AllocError>
     ensures { OnOk result (out.new ≡ out.old ++ seat_tail (decimal seat.now.0)) }
 {
-    put(
-        out,
-        &[b"],\"seat\":\"", seat.facts().seat().as_bytes(), b"\"}"],
-    )
+    out.extend_all(&[b"],\"seat\":\"", seat.facts().seat().as_bytes(), b"\"}"])
 }
 
 // Appends the object of one seat.

@@ -1,8 +1,8 @@
-ghost use Rattle.std.specs.Prelude.{◌≡◌, ◌≢◌, ◌≤◌, None, length, IfErr, IfOk, IsSome, OnOk};
-ghost use Rattle.rtb_base.specs.Faults.{RisesOnlyWhere};
+ghost use Rattle.std.specs.Prelude.{◌≡◌, ◌≢◌, ◌≤◌, ◌⊎◌, Err, None, length, IfErr, IfOk, IsSome, OnOk};
+ghost use Rattle.rtb_base.specs.Faults.{RisesOnlyWhere, Rose};
 ghost use Rattle.rtb_io.specs.Fronts.{TakesAtMost};
 ghost use Rattle.rtb_io.specs.Statuses.{code_of};
-ghost use Rattle.rtb_io.specs.declared.status.Status.TheVariants.{NotWritten};
+ghost use Rattle.rtb_io.specs.declared.status.Status.TheVariants.{Done, NotRead, NotWritten, Refused, Usage};
 ghost use Rattle.exchange_run.specs.Answer.{HalfTold, IsOutcome, IsReply, Replies, Told, line_of, refusal_of, reply_to, tree_reply};
 ghost use Rattle.exchange_run.specs.Refusals.{error_text, json_fault_text, request_fault_text};
 ghost use Rattle.exact_json.specs.Docs.{doc_tree};
@@ -138,7 +138,7 @@ fn reply_line(alloc: Global, words: &[Txt], bytes: &[u8]) -> Result<Reply, Alloc
     requires campaigns { IsSome (campaigns_of words.now) }
     requires few { length words.now ≤ 64 }
     ensures replies { IfOk result (λ r. Replies (campaigns_of words.now) bytes.now r.status r.line) }
-    ensures ends { IfOk result (λ r. r.status ≢ NotWritten) }
+    ensures ends { IfOk result (λ r. (r.status ≡ Done) ⊎ (r.status ≡ Refused)) }
 {
     match campaigns_in(alloc, words) {
         Ok(campaigns) => {
@@ -154,8 +154,11 @@ fn reply_line(alloc: Global, words: &[Txt], bytes: &[u8]) -> Result<Reply, Alloc
 fn outcome<S: Source>(alloc: Global, words: &[Txt], source: &mut S) -> Result<Reply, Status>
     ensures replied { IfOk result (λ r. IsOutcome words.now (S.left source.old) (S.left source.new) (S.faults source.old) (S.faults source.new) r.status r.line) }
     ensures stopped { IfErr result (λ s. IsOutcome words.now (S.left source.old) (S.left source.new) (S.faults source.old) (S.faults source.new) s (line_of s)) }
-    ensures ends { IfOk result (λ r. r.status ≢ NotWritten) }
+    ensures ends { IfOk result (λ r. (r.status ≡ Done) ⊎ (r.status ≡ Refused)) }
     ensures stops { IfErr result (λ s. s ≢ NotWritten) }
+    ensures usage { command_of words.now ≡ None → result ≡ Err Status.Usage }
+    ensures named { result ≡ Err Status.Usage → command_of words.now ≡ None }
+    ensures not_read { result ≡ Err Status.NotRead → Rose (S.faults source.old) (S.faults source.new) }
     ensures unread { command_of words.now ≡ None → source.new ≡ source.old }
     ensures taken { TakesAtMost 266240 (S.left source.old) (S.left source.new) }
 {
@@ -184,6 +187,11 @@ pub fn try_run<S: Source, K: Sink>(alloc: Global, words: &[Txt], source: &mut S,
     ensures told { result ≢ code_of NotWritten → Told words.now (S.left source.old) (S.left source.new) (S.faults source.old) (S.faults source.new) (K.written sink.old) (K.written sink.new) result }
     ensures half_told { result ≡ code_of NotWritten → HalfTold words.now (S.left source.old) (S.left source.new) (S.faults source.old) (S.faults source.new) (K.written sink.old) (K.written sink.new) }
     ensures cause { RisesOnlyWhere (result ≡ code_of NotWritten) (K.faults sink.old) (K.faults sink.new) }
+
+    // It is usage exactly where the words are of no command, unless the sink fails.
+    ensures usage { command_of words.now ≡ None → (result ≡ code_of Usage) ⊎ (result ≡ code_of NotWritten) }
+    ensures named { result ≡ code_of Usage → command_of words.now ≡ None }
+    ensures not_read { result ≡ code_of NotRead → Rose (S.faults source.old) (S.faults source.new) }
 
     // Words of no command leave the source alone; of another source not more is taken than this.
     ensures unread { command_of words.now ≡ None → source.new ≡ source.old }

@@ -8,7 +8,7 @@ returns-in-Ok-reply_line-clause-replied g c =
     let reply = c.in-Ok-reply_line.reply in
     let named : campaigns_of c.in-Some.campaigns.now ≡ command_of c.args.words.now = c.in-Some.ensures.words.0 in
     replied c.in-Ok.bytes
-      (record { came = c.in-Ok.ensures.bytes; whole = c.in-Ok.ensures.end })
-      (c.in-Ok.ensures.cause.2 (λ e. cc))
-      (subst (λ bs. Replies (command_of c.args.words.now) bs reply.status reply.line) c.as_bytes.ensures.value
-        (subst (λ cs. Replies cs c.as_bytes.result.now reply.status reply.line) named c.in-Ok-reply_line.ensures.replies))
+    (record { came = c.in-Ok.ensures.bytes; whole = c.in-Ok.ensures.end })
+    (c.in-Ok.ensures.cause.2 (λ e. cc))
+    (subst (λ bs. Replies (command_of c.args.words.now) bs reply.status reply.line) c.as_bytes.ensures.value
+    (subst (λ cs. Replies cs c.as_bytes.result.now reply.status reply.line) named c.in-Ok-reply_line.ensures.replies))
