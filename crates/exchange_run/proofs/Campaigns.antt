@@ -5,7 +5,7 @@ use Rattle.std.specs.List.{after_first, before_first, enumerate_from, list_all, 
 use Rattle.std.proofs.lemmas.Bool.{and_parts, leb-true}
 use Rattle.std.proofs.lemmas.List.{map_push, take_more}
 use Rattle.exchange_run.specs.Words.{Campaign, amount_of, bid_of, campaign_of, campaigns_of, domain_of, is_at, is_within}
-use Rattle.exchange_run.specs.Numbered.{AreNumbered, is_short, listed}
+use Rattle.exchange_run.specs.Numbered.{AreNumbered, is_short, campaigns_only}
 use Rattle.exchange_run.proofs.Each as each
 use Rattle.exchange_run.proofs.Sales.{numbered_push}
 
@@ -71,11 +71,11 @@ in_limits word c e = limits (bid_of word) (domain_of word) c (at_least_one (amou
 -- ---- numbers
 
 -- one numbered campaign more
-pub numbered_more : (ps : List (ℕ × Campaign)) (k : ℕ) (c : Campaign) → AreNumbered ps → k ≡ 1 + length (listed ps) → AreNumbered (ps ++ (k, c) ∷ [])
+pub numbered_more : (ps : List (ℕ × Campaign)) (k : ℕ) (c : Campaign) → AreNumbered ps → k ≡ 1 + length (campaigns_only ps) → AreNumbered (ps ++ (k, c) ∷ [])
 numbered_more ps k c e n =
-    ap (λ l. l ++ (k, c) ∷ []) e ∙ ap (λ (m : ℕ). enumerate_from 1 (listed ps) ++ (m, c) ∷ []) n ∙ sym (numbered_push 1 (listed ps) c)
+    ap (λ l. l ++ (k, c) ∷ []) e ∙ ap (λ (m : ℕ). enumerate_from 1 (campaigns_only ps) ++ (m, c) ∷ []) n ∙ sym (numbered_push 1 (campaigns_only ps) c)
     ∙ ap (enumerate_from 1) (sym (map_push (λ (p : ℕ × Campaign). p.1) ps (k, c)))
 
 -- as many as words
-pub as_many : (words : List (List ℕ)) (k : ℕ) (ps : List (ℕ × Campaign)) → k < length words → campaigns_of (take k words) ≡ Some (listed ps) → length (listed ps) ≡ k
-as_many words k ps lt e = each.each_length campaign_of (take k words) (listed ps) e ∙ omega (arith, length-take k words)
+pub as_many : (words : List (List ℕ)) (k : ℕ) (ps : List (ℕ × Campaign)) → k < length words → campaigns_of (take k words) ≡ Some (campaigns_only ps) → length (campaigns_only ps) ≡ k
+as_many words k ps lt e = each.each_length campaign_of (take k words) (campaigns_only ps) e ∙ omega (arith, length-take k words)

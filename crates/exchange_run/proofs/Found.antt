@@ -12,7 +12,7 @@ use Rattle.target_expr.specs.Truth.{holds}
 use Rattle.conj_index.specs.Campaigns.{Campaigns, conjunctions_in}
 use Rattle.conj_index.specs.Find.{true_under}
 use Rattle.exchange_run.specs.Words.{Campaign}
-use Rattle.exchange_run.specs.Numbered.{AreNumbered, added_of, listed, offer_at, offer_numbered, offer_under, target_of}
+use Rattle.exchange_run.specs.Numbered.{AreNumbered, targets_of, campaigns_only, offer_at, offer_numbered, offer_under, target_of}
 
 abbrev Numbered : Type 0
 Numbered = ℕ × Campaign
@@ -51,23 +51,23 @@ gate false true b o = refl
 gate false false b o = refl
 
 -- the offers of what is true, one by one
-spread : (pairs : List (Attr × List ℕ)) (imp : Imp) (all qs : List Numbered) → Each (IsFound all) qs → filter_map (offer_numbered all imp) (true_under pairs (added_of qs)) ≡ filter_map (offer_under pairs imp) qs
+spread : (pairs : List (Attr × List ℕ)) (imp : Imp) (all qs : List Numbered) → Each (IsFound all) qs → filter_map (offer_numbered all imp) (true_under pairs (targets_of qs)) ≡ filter_map (offer_under pairs imp) qs
 unfolding Each
 spread pairs imp all [] e = refl
 spread pairs imp all (q ∷ qs) e =
     let offer : Offer = record { campaign = q.0; bid = q.1.bid; pool = 0 } in
-    let rest = filter (λ (p : ℕ × List (List Pred)). holds pairs p.1) (added_of qs) in
+    let rest = filter (λ (p : ℕ × List (List Pred)). holds pairs p.1) (targets_of qs) in
     let one : offer_numbered all imp q.0 ≡ offer_at imp q = ap (option_and_then (offer_at imp)) e.0 in
     elim (holds pairs (target_of q.1.domain)) as (λ h. filter_map (offer_numbered all imp) (map (λ (p : ℕ × List (List Pred)). p.0) (cond h ((q.0, target_of q.1.domain) ∷ rest) rest)) ≡ cons_option (cond h (offer_at imp q) None) (filter_map (offer_under pairs imp) qs)) [
-      | true ↦ ap (λ o. cons_option o (filter_map (offer_numbered all imp) (true_under pairs (added_of qs)))) one ∙ ap (cons_option (offer_at imp q)) (spread pairs imp all qs e.1)
+      | true ↦ ap (λ o. cons_option o (filter_map (offer_numbered all imp) (true_under pairs (targets_of qs)))) one ∙ ap (cons_option (offer_at imp q)) (spread pairs imp all qs e.1)
       | false ↦ spread pairs imp all qs e.1
     ] ∙ ap (λ o. cons_option o (filter_map (offer_under pairs imp) qs)) (gate (is_some imp.banner) (holds pairs (target_of q.1.domain)) (nat_le imp.floor q.1.bid) offer)
 
 -- the offers of what is found
-pub found_offers : (pairs : List (Attr × List ℕ)) (imp : Imp) (ps : List Numbered) → AreNumbered ps → filter_map (offer_numbered ps imp) (true_under pairs (added_of ps)) ≡ filter_map (offer_under pairs imp) ps
+pub found_offers : (pairs : List (Attr × List ℕ)) (imp : Imp) (ps : List Numbered) → AreNumbered ps → filter_map (offer_numbered ps imp) (true_under pairs (targets_of ps)) ≡ filter_map (offer_under pairs imp) ps
 found_offers pairs imp ps e =
     let P : List Numbered → Type 0 = λ l. Each (IsFound l) l in
-    spread pairs imp ps ps (subst P (sym e) (found_each 1 (listed ps)))
+    spread pairs imp ps ps (subst P (sym e) (found_each 1 (campaigns_only ps)))
 
 -- ---- what is added
 
@@ -77,7 +77,7 @@ all_of P [] e k d lt = absurd (omega arith)
 all_of P (x ∷ xs) e zero d lt = e.0
 all_of P (x ∷ xs) e (suc k) d lt = all_of P xs e.1 k d (omega arith)
 
-below : (n k b : ℕ) (cs : List Campaign) → n + k ≤ b → Each (λ (p : ℕ × List (List Pred)). p.0 < b) (added_of (take k (enumerate_from n cs)))
+below : (n k b : ℕ) (cs : List Campaign) → n + k ≤ b → Each (λ (p : ℕ × List (List Pred)). p.0 < b) (targets_of (take k (enumerate_from n cs)))
 unfolding Each
 below n zero b cs le = tt
 below n (suc k) b [] le = tt
@@ -85,35 +85,35 @@ below n (suc k) b (c ∷ cs) le = (omega arith, below (n + 1) k b cs (omega arit
 
 number_at : (ps : List Numbered) (k : ℕ) (d : Numbered) → AreNumbered ps → k < length ps → d ≡ get_or ps k d → d.0 ≡ k + 1
 number_at ps k d e lt is =
-    let count : length ps ≡ length (listed ps) = ap length e ∙ length-enumerate_from 1 (listed ps) in
-    ap (λ (p : Numbered). p.0) (is ∙ ap (λ l. get_or l k d) e ∙ get_or-enumerate_from 1 (listed ps) k d (omega arith)) ∙ omega arith
+    let count : length ps ≡ length (campaigns_only ps) = ap length e ∙ length-enumerate_from 1 (campaigns_only ps) in
+    ap (λ (p : Numbered). p.0) (is ∙ ap (λ l. get_or l k d) e ∙ get_or-enumerate_from 1 (campaigns_only ps) k d (omega arith)) ∙ omega arith
 
 one_conjunction : (o : Option (List ℕ)) (rest : List (List Pred)) → length (target_of o ++ rest) ≡ 1 + length rest
 one_conjunction None rest = omega arith
 one_conjunction (Some domain) rest = omega arith
 
 -- each campaign has one conjunction
-as_many : (ps : List Numbered) → conjunctions_in (added_of ps) ≡ length ps
+as_many : (ps : List Numbered) → conjunctions_in (targets_of ps) ≡ length ps
 as_many [] = refl
 as_many (p ∷ ps) = one_conjunction p.1.domain _ ∙ ap (λ n. 1 + n) (as_many ps) ∙ omega arith
 
 -- the numbers before this one are below it
-pub above : (b : Campaigns) (ps : List Numbered) (k : ℕ) (d : Numbered) (n : ℕ) → b ≡ added_of (take k ps) → AreNumbered ps → k < length ps → d ≡ get_or ps k d → n ≡ d.0
+pub above : (b : Campaigns) (ps : List Numbered) (k : ℕ) (d : Numbered) (n : ℕ) → b ≡ targets_of (take k ps) → AreNumbered ps → k < length ps → d ≡ get_or ps k d → n ≡ d.0
     → All (λ (p : ℕ × List (List Pred)). p.0 < n) b
 above b ps k d n so_far e lt is same =
-    let P : List Numbered → Type 0 = λ l. Each (λ (p : ℕ × List (List Pred)). p.0 < n) (added_of (take k l)) in
+    let P : List Numbered → Type 0 = λ l. Each (λ (p : ℕ × List (List Pred)). p.0 < n) (targets_of (take k l)) in
     let Q : Campaigns → Type 0 = λ l. All (λ (p : ℕ × List (List Pred)). p.0 < n) l in
     let at : n ≡ k + 1 = same ∙ number_at ps k d e lt is in
-    subst Q (sym so_far) (all_of (λ (p : ℕ × List (List Pred)). p.0 < n) (added_of (take k ps)) (subst P (sym e) (below 1 k n (listed ps) (omega arith))))
+    subst Q (sym so_far) (all_of (λ (p : ℕ × List (List Pred)). p.0 < n) (targets_of (take k ps)) (subst P (sym e) (below 1 k n (campaigns_only ps) (omega arith))))
 
 -- one campaign more
-pub one_added : (b : Campaigns) (ps : List Numbered) (k : ℕ) (d : Numbered) (n : ℕ) (target : List (List Pred)) → b ≡ added_of (take k ps) → k < length ps → d ≡ get_or ps k d → n ≡ d.0 → target ≡ target_of d.1.domain
-    → b ++ (n, target) ∷ [] ≡ added_of (take (k + 1) ps)
+pub one_added : (b : Campaigns) (ps : List Numbered) (k : ℕ) (d : Numbered) (n : ℕ) (target : List (List Pred)) → b ≡ targets_of (take k ps) → k < length ps → d ≡ get_or ps k d → n ≡ d.0 → target ≡ target_of d.1.domain
+    → b ++ (n, target) ∷ [] ≡ targets_of (take (k + 1) ps)
 one_added b ps k d n target so_far lt is same wants =
-    ap (λ l. l ++ (n, target) ∷ []) so_far ∙ ap (λ (m : ℕ). added_of (take k ps) ++ (m, target) ∷ []) same ∙ ap (λ (e : List (List Pred)). added_of (take k ps) ++ (d.0, e) ∷ []) wants
-    ∙ sym (ap added_of (take_more ps k d lt ∙ ap (λ p. take k ps ++ p ∷ []) (sym is)) ∙ map_push (λ (p : Numbered). (p.0, target_of p.1.domain)) (take k ps) d)
+    ap (λ l. l ++ (n, target) ∷ []) so_far ∙ ap (λ (m : ℕ). targets_of (take k ps) ++ (m, target) ∷ []) same ∙ ap (λ (e : List (List Pred)). targets_of (take k ps) ++ (d.0, e) ∷ []) wants
+    ∙ sym (ap targets_of (take_more ps k d lt ∙ ap (λ p. take k ps ++ p ∷ []) (sym is)) ∙ map_push (λ (p : Numbered). (p.0, target_of p.1.domain)) (take k ps) d)
 
-pub room : (b : Campaigns) (ps : List Numbered) (k : ℕ) (d : Numbered) (n : ℕ) (target : List (List Pred)) → b ≡ added_of (take k ps) → k < length ps → d ≡ get_or ps k d → n ≡ d.0 → target ≡ target_of d.1.domain
+pub room : (b : Campaigns) (ps : List Numbered) (k : ℕ) (d : Numbered) (n : ℕ) (target : List (List Pred)) → b ≡ targets_of (take k ps) → k < length ps → d ≡ get_or ps k d → n ≡ d.0 → target ≡ target_of d.1.domain
     → length ps ≤ 64 → conjunctions_in (b ++ (n, target) ∷ []) ≤ 1000000
 room b ps k d n target so_far lt is same wants few =
     omega (arith, ap conjunctions_in (one_added b ps k d n target so_far lt is same wants) ∙ as_many (take (k + 1) ps), length-take (k + 1) ps)

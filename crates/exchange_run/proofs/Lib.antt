@@ -1,5 +1,6 @@
 pub mod Campaigns
 pub mod Each
+pub mod Endings
 pub mod Facts
 pub mod Found
 pub mod Places

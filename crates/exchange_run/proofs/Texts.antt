@@ -20,15 +20,6 @@ in_three o a b c = ap (λ l. l ++ c) (append_assoc o a b) ∙ append_assoc o (a 
 pub in_five : (o a b c d e : List ℕ) → ((((o ++ a) ++ b) ++ c) ++ d) ++ e ≡ o ++ ((((a ++ b) ++ c) ++ d) ++ e)
 in_five o a b c d e = ap (λ l. (l ++ d) ++ e) (in_three o a b c) ∙ in_three o ((a ++ b) ++ c) d e
 
--- one piece more
-pub piece_step : (o : List ℕ) (ps : List (Bor (List ℕ))) (k : ℕ) (d : Bor (List ℕ)) → k < length ps → (o ++ concat (map (λ p. p.now) (take k ps))) ++ (get_or ps k d).now ≡ o ++ concat (map (λ p. p.now) (take (k + 1) ps))
-piece_step o ps k d lt =
-    let p = get_or ps k d in
-    let before = map (λ (q : Bor (List ℕ)). q.now) (take k ps) in
-    let front : map (λ (q : Bor (List ℕ)). q.now) (take (k + 1) ps) ≡ before ++ p.now ∷ [] = ap (map (λ (q : Bor (List ℕ)). q.now)) (take_more ps k d lt) ∙ map_push (λ (q : Bor (List ℕ)). q.now) (take k ps) p in
-    append_assoc o (concat before) p.now
-    ∙ ap (λ l. o ++ l) (ap (λ l. concat before ++ l) (sym (append-nil p.now)) ∙ sym (concat-append before (p.now ∷ [])) ∙ ap concat (sym front))
-
 some_there : (x : List ℕ) (xs : List (List ℕ)) → (length (x ∷ xs) == 0) ≡ false
 some_there x xs = grind (arith, nat_tests)
 

@@ -17,17 +17,17 @@ use Rattle.target_expr.specs.Truth.{holds, value_at}
 use Rattle.assign.specs.Rows.{pairs_of, site_rows}
 use Rattle.assign.proofs.Rising.{pairs_value}
 use Rattle.exchange_run.specs.Auction.{is_wanted, offer_of, offers_of, site_domain_of}
-use Rattle.exchange_run.specs.Numbered.{AreNumbered, is_short, listed, offer_under, target_of, written_of}
+use Rattle.exchange_run.specs.Numbered.{AreNumbered, is_short, campaigns_only, offer_under, target_of, raw_target_of}
 use Rattle.exchange_run.specs.Words.{Campaign}
 
 not_long : (n : ℕ) → nat_le n 255 ≡ true → nat_lt 255 n ≡ false
 not_long n e = grind (arith, nat_tests)
 
-pub faultless : (o : Option (List ℕ)) → is_short o ≡ true → faults (written_of o) ≡ []
+pub faultless : (o : Option (List ℕ)) → is_short o ≡ true → faults (raw_target_of o) ≡ []
 faultless None e = refl
 faultless (Some domain) e = rw (not_long (length domain) e)
 
-pub kept_as : (o : Option (List ℕ)) → kept (written_of o) ≡ target_of o
+pub kept_as : (o : Option (List ℕ)) → kept (raw_target_of o) ≡ target_of o
 kept_as None = refl
 kept_as (Some domain) = refl
 
@@ -69,17 +69,17 @@ same_offers r imp [] = refl
 same_offers r imp (p ∷ ps) =
     ap (λ o. cons_option o (filter_map (offer_under (pairs_of r imp) imp) ps)) (same_offer r imp p) ∙ ap (cons_option (offer_of (site_domain_of r) imp p)) (same_offers r imp ps)
 
-offers_are : (r : BidRequest) (imp : Imp) (pairs : List (Attr × List ℕ)) (ps : List (ℕ × Campaign)) → pairs ≡ pairs_of r imp → AreNumbered ps → filter_map (offer_under pairs imp) ps ≡ offers_of (site_domain_of r) imp (listed ps)
+offers_are : (r : BidRequest) (imp : Imp) (pairs : List (Attr × List ℕ)) (ps : List (ℕ × Campaign)) → pairs ≡ pairs_of r imp → AreNumbered ps → filter_map (offer_under pairs imp) ps ≡ offers_of (site_domain_of r) imp (campaigns_only ps)
 offers_are r imp pairs ps e n = ap (λ l. filter_map (offer_under l imp) ps) e ∙ same_offers r imp ps ∙ ap (filter_map (offer_of (site_domain_of r) imp)) n
 
 -- what offers under the assignment of the impression at a place is what offers by the domain
 pub offers_at : (r : BidRequest) (imps : List Imp) (k : ℕ) (imp : Imp) (pairs : List (Attr × List ℕ)) (ps : List (ℕ × Campaign)) → imps ≡ r.imps → imp ≡ get_or imps k imp
-    → ((d : Imp) → pairs ≡ pairs_of r (get_or r.imps k d)) → AreNumbered ps → filter_map (offer_under pairs imp) ps ≡ offers_of (site_domain_of r) imp (listed ps)
+    → ((d : Imp) → pairs ≡ pairs_of r (get_or r.imps k d)) → AreNumbered ps → filter_map (offer_under pairs imp) ps ≡ offers_of (site_domain_of r) imp (campaigns_only ps)
 offers_at r imps k imp pairs ps all is e n =
     offers_are r imp pairs ps (e imp ∙ ap (pairs_of r) (sym (is ∙ ap (λ l. get_or l k imp) all))) n
 
 -- making the target answers nothing but want of memory
-pub only_memory : (o : Option (List ℕ)) (raw : List (List RawPred)) (f : ExprFault) → is_short o ≡ true → raw ≡ written_of o → IsFirstUnlessMemory (faults raw) f → f ≡ Memory
+pub only_memory : (o : Option (List ℕ)) (raw : List (List RawPred)) (f : ExprFault) → is_short o ≡ true → raw ≡ raw_target_of o → IsFirstUnlessMemory (faults raw) f → f ≡ Memory
 only_memory o raw f short e first = memory f (subst (λ fs. IsFirstUnlessMemory fs f) (ap faults e ∙ faultless o short) first)
   where
     memory : (f : ExprFault) → IsFirstUnlessMemory [] f → f ≡ Memory

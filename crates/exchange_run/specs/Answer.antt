@@ -1,5 +1,9 @@
 -- What `try` answers, and what a whole run does.
-use Rattle.std.specs.Prelude.{◌≡◌, ◌≢◌, ℕ, ◌<◌, ◌≤◌, ◌⊎◌, ◌==◌, List, [], ◌∷◌, ◌++◌, cond, length, Option, Some, codes}
+use Rattle.std.specs.Prelude.{◌≡◌, ◌≢◌, ℕ, ◌<◌, ◌≤◌, ◌⊎◌, ◌==◌, List, [], ◌∷◌, ◌++◌, cond, length, Option, None, Some, IsSome, codes}
+use Rattle.rtb_base.specs.Faults.{Rose}
+use Rattle.rtb_io.specs.Statuses.{code_of}
+use Rattle.rtb_io.specs.declared.status.Status.{Status}
+use Rattle.rtb_io.specs.declared.status.Status.TheVariants as status
 use Rattle.rtb_io.specs.Fronts.{AppendsFront}
 use Rattle.std.specs.Io.KnownBytes.{Consumes, Appends, IsAtEnd}
 use Rattle.exact_json.specs.Tree.{Tree}
@@ -25,13 +29,13 @@ max_input = 262144
 abbrev pub sold_line : BidRequest → List Sale → List ℕ
 sold_line r sales = cond (length sales == 0) (codes "no-bid") (response_text r.id sales)
 
--- a refusal has status 1
+-- a refusal
 abbrev pub refusal_of : List ℕ → Reply
-refusal_of body = record { status = 1; line = body }
+refusal_of body = record { status = status.Refused; line = body }
 
 -- what is sold, or that this stage has no rules for the request
 abbrev pub reply_to : List Campaign → BidRequest → Reply
-reply_to campaigns r = cond (is_unbuilt r) (refusal_of (error_text (codes "not-built"))) (record { status = 0; line = sold_line r (sales_of campaigns r) })
+reply_to campaigns r = cond (is_unbuilt r) (refusal_of (error_text (codes "not-built"))) (record { status = status.Done; line = sold_line r (sales_of campaigns r) })
 
 -- the first fault is refused; without one the request is sold
 abbrev pub reply_by : List Campaign → List ReqFault → BidRequest → Reply
@@ -52,7 +56,7 @@ pub data IsReply (campaigns : List Campaign) (bytes : List ℕ) (reply : Reply) 
   faulty : length bytes ≤ max_input → (fault : JsonFault) → fault ≢ Memory → Explains bytes fault → reply ≡ refusal_of (json_fault_text fault) → IsReply campaigns bytes reply
 
 -- The reply to the bytes of the campaigns that the words name, as a status and a text that ends in a line feed.
-pub record Replies (campaigns : Option (List Campaign)) (bytes : List ℕ) (status : ℕ) (text : List ℕ) : Type 0 where
+pub record Replies (campaigns : Option (List Campaign)) (bytes : List ℕ) (status : Status) (text : List ℕ) : Type 0 where
   pub named : List Campaign
   pub are_named : campaigns ≡ Some named
   pub reply : Reply
@@ -60,32 +64,38 @@ pub record Replies (campaigns : Option (List Campaign)) (bytes : List ℕ) (stat
   pub status_is : status ≡ reply.status
   pub text_is : text ≡ reply.line ++ 10 ∷ []
 
--- the reply was written
-pub record Sent (campaigns : Option (List Campaign)) (bytes : List ℕ) (written written' : Option (List ℕ)) (status : ℕ) : Type 0 where
-  pub text : List ℕ
-  pub replies : Replies campaigns bytes status text
-  pub went : Appends written written' text
-
--- a front of the reply was written
-pub record CutShort (campaigns : Option (List Campaign)) (bytes : List ℕ) (written written' : Option (List ℕ)) : Type 0 where
-  pub status : ℕ
-  pub text : List ℕ
-  pub replies : Replies campaigns bytes status text
-  pub went : AppendsFront written written' text
-
 -- All was read, or more than the longest input.
 pub record WasRead (left left' : Option (List ℕ)) (bytes : List ℕ) : Type 0 where
   pub came : Consumes left left' bytes
   pub whole : IsAtEnd left' ⊎ (max_input < length bytes)
 
--- The input was read, and the reply to what was read was written.
-pub record Answered (words : List (List ℕ)) (left left' written written' : Option (List ℕ)) (status : ℕ) : Type 0 where
-  pub bytes : List ℕ
-  pub was_read : WasRead left left' bytes
-  pub sent : Sent (command_of words) bytes written written' status
+-- the line of a status that comes with no reply
+abbrev pub line_of : Status → List ℕ
+line_of status.Usage = codes "rtbx: usage\n"
+line_of status.Memory = codes "rtbx: memory\n"
+line_of status.NotRead = codes "rtbx: input failed\n"
+line_of _ = []
 
--- The input was read, and a front of the reply to what was read was written.
-pub record HalfAnswered (words : List (List ℕ)) (left left' written written' : Option (List ℕ)) : Type 0 where
-  pub bytes : List ℕ
-  pub was_read : WasRead left left' bytes
-  pub sent : CutShort (command_of words) bytes written written'
+-- What a run of the words comes to, before it is written: how it ends, and with which text. The words
+-- are of no command; or the input was read, and this is the reply to it; or the source failed; or
+-- memory was refused.
+pub data IsOutcome (words : List (List ℕ)) (left left' : Option (List ℕ)) (faults faults' : ℕ) (end : Status) (text : List ℕ) : Type 0 where
+  unnamed : command_of words ≡ None → faults' ≡ faults → end ≡ status.Usage → text ≡ line_of end → IsOutcome words left left' faults faults' end text
+  replied : (bytes : List ℕ) → WasRead left left' bytes → faults' ≡ faults → Replies (command_of words) bytes end text → IsOutcome words left left' faults faults' end text
+  unread : IsSome (command_of words) → Rose faults faults' → end ≡ status.NotRead → text ≡ line_of end → IsOutcome words left left' faults faults' end text
+  starved : IsSome (command_of words) → faults' ≡ faults → end ≡ status.Memory → text ≡ line_of end → IsOutcome words left left' faults faults' end text
+
+-- the text that the run comes to was written
+pub record Told (words : List (List ℕ)) (left left' : Option (List ℕ)) (faults faults' : ℕ) (written written' : Option (List ℕ)) (code : ℕ) : Type 0 where
+  pub end : Status
+  pub text : List ℕ
+  pub outcome : IsOutcome words left left' faults faults' end text
+  pub code_is : code ≡ code_of end
+  pub went : Appends written written' text
+
+-- a front of that text was written
+pub record HalfTold (words : List (List ℕ)) (left left' : Option (List ℕ)) (faults faults' : ℕ) (written written' : Option (List ℕ)) : Type 0 where
+  pub end : Status
+  pub text : List ℕ
+  pub outcome : IsOutcome words left left' faults faults' end text
+  pub went : AppendsFront written written' text

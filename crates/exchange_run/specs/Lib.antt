@@ -1,4 +1,5 @@
 pub mod Each
+pub mod Explain
 pub mod Words
 pub mod Auction
 pub mod Numbered

@@ -37,9 +37,9 @@ target_of None = [] ∷ []
 target_of (Some domain) = (record { attr = Domain; negated = false; values = domain ∷ [] } ∷ []) ∷ []
 
 -- the same as it is written
-abbrev pub written_of : Option (List ℕ) → List (List RawPred)
-written_of None = [] ∷ []
-written_of (Some domain) = (record { attr = codes "domain"; negated = false; values = domain ∷ [] } ∷ []) ∷ []
+abbrev pub raw_target_of : Option (List ℕ) → List (List RawPred)
+raw_target_of None = [] ∷ []
+raw_target_of (Some domain) = (record { attr = codes "domain"; negated = false; values = domain ∷ [] } ∷ []) ∷ []
 
 -- at most 255 bytes
 abbrev pub is_short : Option (List ℕ) → Bool
@@ -59,8 +59,8 @@ abbrev pub campaign_by : FactParts → List (List Pred) → Campaign
 campaign_by facts target = record { bid = facts.bid; domain = domain_in target }
 
 -- the campaigns with their targets, as an index is built of
-abbrev pub added_of : List (ℕ × Campaign) → Campaigns
-added_of numbered = map (λ (p : ℕ × Campaign). (p.0, target_of p.1.domain)) numbered
+abbrev pub targets_of : List (ℕ × Campaign) → Campaigns
+targets_of numbered = map (λ (p : ℕ × Campaign). (p.0, target_of p.1.domain)) numbered
 
 -- the offer of a numbered campaign that wants the impression
 abbrev pub offer_at : Imp → ℕ × Campaign → Option Offer
@@ -76,9 +76,9 @@ offer_under pairs imp p = cond (is_some imp.banner && (holds pairs (target_of p.
     (Some (record { campaign = p.0; bid = p.1.bid; pool = 0 })) None
 
 -- the campaigns without their numbers
-abbrev pub listed : List (ℕ × Campaign) → List Campaign
-listed numbered = map (λ (p : ℕ × Campaign). p.1) numbered
+abbrev pub campaigns_only : List (ℕ × Campaign) → List Campaign
+campaigns_only numbered = map (λ (p : ℕ × Campaign). p.1) numbered
 
 -- the numbers are 1, 2 and so on
 abbrev pub AreNumbered : List (ℕ × Campaign) → Type 0
-AreNumbered numbered = numbered ≡ enumerate_from 1 (listed numbered)
+AreNumbered numbered = numbered ≡ enumerate_from 1 (campaigns_only numbered)

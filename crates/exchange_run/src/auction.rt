@@ -3,7 +3,7 @@ ghost use Rattle.std.specs.List.{filter_map, list_all, list_any};
 ghost use Rattle.clearing.specs.Clearing.{is_fit, outcome};
 ghost use Rattle.conj_index.specs.Content.{IsIndexOf};
 ghost use Rattle.exchange_run.specs.Auction.{sale_by, sales_of, terms_of};
-ghost use Rattle.exchange_run.specs.Numbered.{AreNumbered, added_of, listed, offer_at, offer_numbered};
+ghost use Rattle.exchange_run.specs.Numbered.{AreNumbered, targets_of, campaigns_only, offer_at, offer_numbered};
 ghost use Rattle.exchange_run.specs.View.{sale_view};
 
 use crate::numbered::NumberedCampaign;
@@ -29,14 +29,14 @@ pub(crate) struct SoldImp<'a> {
 }
 
 // The campaigns with their targets.
-fn added<L: Ledger>(
+fn builder_of<L: Ledger>(
     alloc: Global,
     campaigns: &[NumberedCampaign],
     steps: &mut Steps<L>,
 ) -> Result<Builder, AllocError>
     requires few { length campaigns.now ≤ 64 }
     requires numbered { AreNumbered campaigns.now }
-    ensures { IfOk result (λ b. b ≡ added_of campaigns.now) }
+    ensures { IfOk result (λ b. b ≡ targets_of campaigns.now) }
 {
     let mut builder = Builder::new(alloc);
     for campaign in campaigns {
@@ -53,9 +53,9 @@ fn index_of<L: Ledger>(
 ) -> Result<Index, AllocError>
     requires few { length campaigns.now ≤ 64 }
     requires numbered { AreNumbered campaigns.now }
-    ensures { IfOk result (IsIndexOf (added_of campaigns.now)) }
+    ensures { IfOk result (IsIndexOf (targets_of campaigns.now)) }
 {
-    let builder = added(alloc, campaigns, steps)?;
+    let builder = builder_of(alloc, campaigns, steps)?;
     match Index::build(alloc, builder, steps) {
         Ok(index) => Ok(index),
         Err(IndexFault::Memory) => Err(AllocError),
@@ -63,7 +63,7 @@ fn index_of<L: Ledger>(
 }
 
 // The campaign of that number.
-fn campaign_of(campaigns: &[NumberedCampaign], number: u32) -> Option<&NumberedCampaign>
+fn campaign_numbered(campaigns: &[NumberedCampaign], number: u32) -> Option<&NumberedCampaign>
     ensures { option_map (λ c. c.now) result ≡ find (λ p. p.0 == number) campaigns.now }
 {
     campaigns
@@ -71,8 +71,8 @@ fn campaign_of(campaigns: &[NumberedCampaign], number: u32) -> Option<&NumberedC
         .find(|campaign| campaign.number() == number)
 }
 
-// Whether the campaign, which wants the impression, offers for it.
-fn is_offering(campaign: &NumberedCampaign, imp: &Imp) -> bool
+// Whether the campaign, which wants the impression, can buy it.
+fn can_buy(campaign: &NumberedCampaign, imp: &Imp) -> bool
     ensures { result ≡ (is_some imp.now.banner && nat_le imp.now.floor campaign.now.1.bid) }
 {
     if imp.banner.is_none() {
@@ -85,7 +85,7 @@ fn is_offering(campaign: &NumberedCampaign, imp: &Imp) -> bool
 fn offer_at(campaign: &NumberedCampaign, imp: &Imp) -> Option<Offer>
     ensures { result ≡ offer_at imp.now campaign.now }
 {
-    if is_offering(campaign, imp) {
+    if can_buy(campaign, imp) {
         Some(Offer {
             campaign: campaign.number(),
             bid: campaign.facts().bid(),
@@ -97,10 +97,10 @@ fn offer_at(campaign: &NumberedCampaign, imp: &Imp) -> Option<Offer>
 }
 
 // The offer of the campaign of that number, which wants the impression.
-fn offer_of(campaigns: &[NumberedCampaign], number: u32, imp: &Imp) -> Option<Offer>
+fn offer_numbered(campaigns: &[NumberedCampaign], number: u32, imp: &Imp) -> Option<Offer>
     ensures { result ≡ offer_numbered campaigns.now imp.now number }
 {
-    offer_at(campaign_of(campaigns, number)?, imp)
+    offer_at(campaign_numbered(campaigns, number)?, imp)
 }
 
 fn push_offer(offers: &mut Vec<Offer>, offer: Option<Offer>) -> Result<(), AllocError>
@@ -123,13 +123,13 @@ fn collect_offers(
 {
     offers.clear();
     for number in found {
-        push_offer(offers, offer_of(campaigns, *number, imp))?;
+        push_offer(offers, offer_numbered(campaigns, *number, imp))?;
     }
     Ok(())
 }
 
 // What the offers for the impression are cleared to, by second price.
-fn cleared(offers: &[Offer], imp: &Imp) -> Option<Win>
+fn win_of(offers: &[Offer], imp: &Imp) -> Option<Win>
     requires { IsTrue (list_all (is_fit (terms_of imp.now)) offers.now) }
     ensures win { result ≡ outcome offers.now (terms_of imp.now) }
     ensures winner { IfSome result (λ w. list_any (λ o. o.campaign == w.campaign) offers.now ≡ true) }
@@ -146,7 +146,7 @@ fn winner(campaigns: &[NumberedCampaign], number: u32) -> &NumberedCampaign
     requires { IsTrue (list_any (λ p. p.0 == number) campaigns.now) }
     ensures { result.now.0 ≡ number }
 {
-    match campaign_of(campaigns, number) {
+    match campaign_numbered(campaigns, number) {
         Some(campaign) => campaign,
         None => unreachable!(),
     }
@@ -163,7 +163,7 @@ fn sell_imp<'a>(
     requires known { (n : ℕ) → list_any (λ o. o.campaign == n) offers.now ≡ true → list_any (λ p. p.0 == n) campaigns.now ≡ true }
     ensures { OnOk result (map sale_view sold.new.items ≡ map sale_view sold.old.items ++ option_to_list (sale_by imp.now offers.now)) }
 {
-    if let Some(win) = cleared(offers, imp) {
+    if let Some(win) = win_of(offers, imp) {
         let sale = SoldImp {
             imp: &imp.id,
             campaign: winner(campaigns, win.campaign),
@@ -187,7 +187,7 @@ fn sell_counted<'a, L: Ledger>(
     requires some { 0 < blank.parts }
     requires few { length campaigns.now ≤ 64 }
     requires numbered { AreNumbered campaigns.now }
-    ensures { IfOk result (λ sold. map sale_view sold.items ≡ sales_of (listed campaigns.now) request.now) }
+    ensures { IfOk result (λ sold. map sale_view sold.items ≡ sales_of (campaigns_only campaigns.now) request.now) }
 {
     let mut steps = Steps::<L>::new(blank);
     let index = index_of(alloc, campaigns, &mut steps)?;
@@ -210,7 +210,7 @@ pub(crate) fn sell<'a>(
 ) -> Result<Vec<SoldImp<'a>>, AllocError>
     requires few { length campaigns.now ≤ 64 }
     requires numbered { AreNumbered campaigns.now }
-    ensures { IfOk result (λ sold. map sale_view sold.items ≡ sales_of (listed campaigns.now) request.now) }
+    ensures { IfOk result (λ sold. map sale_view sold.items ≡ sales_of (campaigns_only campaigns.now) request.now) }
 {
     sell_counted::<Brand>(alloc, campaigns, request, Blank::new(1))
 }

@@ -5,10 +5,12 @@ mod auction;
 mod numbered;
 mod refusals;
 mod response;
-#[cfg(test)]
-mod tests;
+mod status_lines;
 mod try_command;
 mod unbuilt;
 mod words;
+mod wrong_words;
 
+pub use status_lines::end_with;
 pub use try_command::try_run;
+pub use wrong_words::explain;

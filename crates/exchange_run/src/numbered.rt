@@ -1,12 +1,11 @@
 ghost use Rattle.std.specs.Prelude.{◌≡◌, ◌≤◌, ◌++◌, ◌^◌, ◌∷◌, [], false, codes, decimal, option_map, IfOk, IsTrue};
 ghost use Rattle.target_expr.specs.declared.fault.ExprFault.TheVariants.{Memory};
-ghost use Rattle.exchange_run.specs.Numbered.{facts_of, is_short, target_of, written_of};
+ghost use Rattle.exchange_run.specs.Numbered.{facts_of, is_short, target_of, raw_target_of};
 ghost use Rattle.exchange_run.specs.View.{campaign_view};
 
 use crate::words::NamedCampaign;
 use campaign::{FactParts, Facts};
-use itoa::Buffer;
-use rtb_num::{List, Micros, Nanos, Txt};
+use rtb_num::{List, Micros, Nanos, Txt, write_decimal};
 use std::alloc::{AllocError, Global};
 use std::marker::Model;
 use target_expr::{Expr, ExprFault, RawPred};
@@ -80,9 +79,8 @@ fn numbered_text(alloc: Global, front: &[u8], number: u32) -> Result<Txt, AllocE
     ensures { IfOk result (λ t. t ≡ front.now ++ decimal number) }
 {
     let mut text = Txt::new(alloc);
-    let mut buffer = Buffer::new();
     text.extend(front)?;
-    text.extend(buffer.format(number).as_bytes())?;
+    write_decimal(u64::from(number), &mut text)?;
     Ok(text)
 }
 
@@ -154,8 +152,8 @@ fn domain_pred(alloc: Global, domain: &[u8]) -> Result<RawPred, AllocError>
 }
 
 // The conjunctions that a campaign states.
-fn written(alloc: Global, domain: Option<&[u8]>) -> Result<List<List<RawPred>>, AllocError>
-    ensures { IfOk result (λ raw. raw ≡ written_of (option_map (λ d. d.now) domain.entry)) }
+fn raw_target(alloc: Global, domain: Option<&[u8]>) -> Result<List<List<RawPred>>, AllocError>
+    ensures { IfOk result (λ raw. raw ≡ raw_target_of (option_map (λ d. d.now) domain.entry)) }
 {
     let mut conjunction = List::new(alloc);
     if let Some(domain) = domain {
@@ -181,7 +179,7 @@ fn target(alloc: Global, domain: Option<&[u8]>) -> Result<Expr, AllocError>
     requires { IsTrue (is_short (option_map (λ d. d.now) domain)) }
     ensures { IfOk result (λ e. e ≡ target_of (option_map (λ d. d.now) domain.entry)) }
 {
-    let written = written(alloc, domain)?;
+    let written = raw_target(alloc, domain)?;
     match Expr::make(alloc, &written) {
         Ok(target) => Ok(target),
         Err(fault) => Err(want_of_memory(fault)),

@@ -2,8 +2,7 @@ ghost use Rattle.std.specs.Prelude.{◌≡◌, ◌++◌, OnOk, decimal};
 ghost use Rattle.exchange_run.specs.Refusals.{at_text, count_text, duplicate_text, error_text, field_text, json_fault_text, price_head, price_text, price_word as price_word_of, request_fault_text};
 
 use exact_json::JsonFault;
-use itoa::Buffer;
-use rtb_num::{PriceFault, Txt};
+use rtb_num::{PriceFault, Txt, write_decimal};
 use rtb_read::ReqFault;
 use rtb_types::Field;
 use std::alloc::AllocError;
@@ -12,8 +11,7 @@ use std::alloc::AllocError;
 fn put_number(n: usize, out: &mut Txt) -> Result<(), AllocError>
     ensures { OnOk result (out.new ≡ out.old ++ decimal n) }
 {
-    let mut buffer = Buffer::new();
-    out.extend(buffer.format(n).as_bytes())
+    write_decimal(n as u64, out)
 }
 
 /// Appends the text of a refusal that has no further member.

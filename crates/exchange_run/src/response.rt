@@ -10,16 +10,6 @@ use json_out::push_string;
 use rtb_num::{Txt, write_micros};
 use std::alloc::{AllocError, Global};
 
-// Appends the pieces one after the other.
-fn put(out: &mut Txt, pieces: &[&[u8]]) -> Result<(), AllocError>
-    ensures { OnOk result (out.new ≡ out.old ++ concat (map (λ p. p.now) pieces.now)) }
-{
-    for piece in pieces {
-        out.extend(piece)?;
-    }
-    Ok(())
-}
-
 // Appends what stands before the price in a bid object.
 fn put_bid_head(out: &mut Txt, number: &[u8], imp: &[u8]) -> Result<(), AllocError>
     ensures { OnOk result (out.new ≡ out.old ++ bid_head number.now imp.now) }
@@ -38,20 +28,17 @@ fn put_bid_tail(out: &mut Txt, campaign: &NumberedCampaign) -> Result<(), AllocE
 {
     let facts = campaign.facts();
     let mut buffer = Buffer::new();
-    put(
-        out,
-        &[
-            b",\"adm\":\"",
-            facts.adm().as_bytes(),
-            b"\",\"adomain\":[\"",
-            facts.adomain().as_bytes(),
-            b"\"],\"cid\":\"",
-            buffer.format(campaign.number()).as_bytes(),
-            b"\",\"crid\":\"",
-            facts.crid().as_bytes(),
-            b"\"}",
-        ],
-    )?;
+    out.extend_all(&[
+        b",\"adm\":\"",
+        facts.adm().as_bytes(),
+        b"\",\"adomain\":[\"",
+        facts.adomain().as_bytes(),
+        b"\"],\"cid\":\"",
+        buffer.format(campaign.number()).as_bytes(),
+        b"\",\"crid\":\"",
+        facts.crid().as_bytes(),
+        b"\"}",
+    ])?;
     Ok(())
 }
 
@@ -94,10 +81,7 @@ fn put_seat_bids(out: &mut Txt, sold: &[SoldImp], seat: &NumberedCampaign) -> Re
 fn put_seat_tail(out: &mut Txt, seat: &NumberedCampaign) -> Result<(), AllocError>
     ensures { OnOk result (out.new ≡ out.old ++ seat_tail (decimal seat.now.0)) }
 {
-    put(
-        out,
-        &[b"],\"seat\":\"", seat.facts().seat().as_bytes(), b"\"}"],
-    )
+    out.extend_all(&[b"],\"seat\":\"", seat.facts().seat().as_bytes(), b"\"}"])
 }
 
 // Appends the object of one seat.
@@ -177,99 +161,4 @@ pub(crate) fn put_response(
     put_seats(out, sold, seats.as_slice())?;
     out.extend(b"],\"cur\":\"USD\"}")?;
     Ok(())
-}
-
-#[cfg(test)]
-mod tests {
-    use super::*;
-    use crate::words::NamedCampaign;
-    use rtb_num::Micros;
-    use std::test::Fail;
-
-    // The campaign of that number, which bids a micro-dollar on any site.
-    fn campaign(alloc: Global, number: u32) -> Result<NumberedCampaign, AllocError> {
-        match Micros::new(1) {
-            Some(bid) => {
-                let named = NamedCampaign { bid, domain: None };
-                NumberedCampaign::make(alloc, number, &named)
-            }
-            None => Err(AllocError),
-        }
-    }
-
-    fn push_sale<'a>(
-        sold: &mut Vec<SoldImp<'a>>,
-        imp: &'a Txt,
-        campaign: &'a NumberedCampaign,
-        micros: u64,
-    ) -> Result<(), Fail> {
-        let price = Micros::new(micros).ok_or("a price")?;
-        let sale = SoldImp {
-            imp,
-            campaign,
-            price,
-        };
-        if sold.push(sale).is_err() {
-            return Err(Fail::from(AllocError));
-        }
-        Ok(())
-    }
-
-    // Campaigns 1 and 2.
-    fn campaigns(alloc: Global) -> Result<Vec<NumberedCampaign>, AllocError> {
-        let mut campaigns = Vec::new(alloc);
-        for number in 1..3 {
-            campaigns.push(campaign(alloc, number)?)?;
-        }
-        Ok(campaigns)
-    }
-
-    fn imps(alloc: Global, ids: &[&[u8]]) -> Result<Vec<Txt>, AllocError> {
-        let mut imps = Vec::new(alloc);
-        for id in ids {
-            imps.push(Txt::from_slice(alloc, id)?)?;
-        }
-        Ok(imps)
-    }
-
-    // Sells each impression to the campaign at the place, at the price in micro-dollars.
-    fn push_sales<'a>(
-        sold: &mut Vec<SoldImp<'a>>,
-        imps: &'a [Txt],
-        campaigns: &'a [NumberedCampaign],
-        sales: &[(usize, u64)],
-    ) -> Result<(), Fail> {
-        for (imp, sale) in imps.iter().zip(sales) {
-            let campaign = campaigns.get(sale.0).ok_or("a campaign")?;
-            push_sale(sold, imp, campaign, sale.1)?;
-        }
-        Ok(())
-    }
-
-    fn response(
-        alloc: Global,
-        imps: &[Txt],
-        campaigns: &[NumberedCampaign],
-        sales: &[(usize, u64)],
-    ) -> Result<Txt, Fail> {
-        let mut sold = Vec::new(alloc);
-        push_sales(&mut sold, imps, campaigns, sales)?;
-        let mut out = Txt::new(alloc);
-        put_response(alloc, &mut out, b"r", sold.as_slice())?;
-        Ok(out)
-    }
-
-    // The seat that buys first stands first, with both of its bids; a bid keeps its sale's number.
-    #[test]
-    fn writes_each_seat_once(rt: HostRuntime) -> Result<(), Fail> {
-        let campaigns = campaigns(rt.alloc())?;
-        let imps = imps(rt.alloc(), &[b"a", b"b", b"c"])?;
-        let sales = [(1, 1_010_000), (0, 300_000), (1, 10_000)];
-        let out = response(rt.alloc(), &imps, &campaigns, &sales)?;
-        assert_eq!(rt;
-            out.as_bytes(),
-            b"{\"id\":\"r\",\"seatbid\":[{\"bid\":[{\"id\":\"1\",\"impid\":\"a\",\"price\":1.01,\"adm\":\"ad 2\",\"adomain\":[\"ad2.example\"],\"cid\":\"2\",\"crid\":\"cr2\"},{\"id\":\"3\",\"impid\":\"c\",\"price\":0.01,\"adm\":\"ad 2\",\"adomain\":[\"ad2.example\"],\"cid\":\"2\",\"crid\":\"cr2\"}],\"seat\":\"s2\"},{\"bid\":[{\"id\":\"2\",\"impid\":\"b\",\"price\":0.3,\"adm\":\"ad 1\",\"adomain\":[\"ad1.example\"],\"cid\":\"1\",\"crid\":\"cr1\"}],\"seat\":\"s1\"}],\"cur\":\"USD\"}".as_slice()
-        );
-        Ok(())
-    }
 }

@@ -1,20 +1,23 @@
-ghost use Rattle.std.specs.Prelude.{◌≡◌, ◌≢◌, ◌⊎◌, ◌↔◌, ◌≤◌, None, Some, length, IfOk, IsSome, OnOk};
-ghost use Rattle.std.specs.Io.KnownBytes.{Appends};
-ghost use Rattle.rtb_base.specs.Faults.{Rose};
-ghost use Rattle.exchange_run.specs.Answer.{Answered, CutShort, HalfAnswered, IsReply, Replies, Sent, refusal_of, reply_to, tree_reply};
+ghost use Rattle.std.specs.Prelude.{◌≡◌, ◌≢◌, ◌≤◌, ◌⊎◌, Err, None, length, IfErr, IfOk, IsSome, OnOk};
+ghost use Rattle.rtb_base.specs.Faults.{RisesOnlyWhere, Rose};
+ghost use Rattle.rtb_io.specs.Fronts.{TakesAtMost};
+ghost use Rattle.rtb_io.specs.Statuses.{code_of};
+ghost use Rattle.rtb_io.specs.declared.status.Status.TheVariants.{Done, NotRead, NotWritten, Refused, Usage};
+ghost use Rattle.exchange_run.specs.Answer.{HalfTold, IsOutcome, IsReply, Replies, Told, line_of, refusal_of, reply_to, tree_reply};
 ghost use Rattle.exchange_run.specs.Refusals.{error_text, json_fault_text, request_fault_text};
 ghost use Rattle.exact_json.specs.Docs.{doc_tree};
 ghost use Rattle.exchange_run.specs.Words.{campaigns_of, command_of};
-ghost use Rattle.exchange_run.specs.Numbered.{AreNumbered, listed};
+ghost use Rattle.exchange_run.specs.Numbered.{AreNumbered, campaigns_only};
 
 use crate::auction::sell;
 use crate::numbered::NumberedCampaign;
 use crate::refusals::{put_error, put_json_fault, put_request_fault};
 use crate::response::put_response;
+use crate::status_lines::{end_with, tell};
 use crate::unbuilt::is_unbuilt;
 use crate::words::{campaigns_in, command_in};
 use exact_json::{Doc, JsonFault, read};
-use rtb_io::{ReadFault, read_all, write_all};
+use rtb_io::{ReadFault, Status, read_all};
 use rtb_num::{Sink, Source, Txt};
 use rtb_read::{ReqFault, read_request};
 use rtb_types::BidRequest;
@@ -23,23 +26,10 @@ use std::alloc::{AllocError, Global};
 /// The longest input that is taken, in bytes.
 const MAX_INPUT: usize = 262_144;
 
-// The statuses of `try_run`.
-const SOLD: u8 = 0;
-
-const REFUSED: u8 = 1;
-
-const USAGE: u8 = 2;
-
-const NOT_WRITTEN: u8 = 7;
-
-const NO_MEMORY: u8 = 9;
-
-const NOT_READ: u8 = 10;
-
 /// A status and the line that goes with it.
 #[derive(Debug, Drop)]
 struct Reply {
-    status: u8,
+    status: Status,
     line: Txt,
 }
 
@@ -50,7 +40,7 @@ fn refusal(alloc: Global, word: &[u8]) -> Result<Reply, AllocError>
     let mut line = Txt::new(alloc);
     put_error(word, &mut line)?;
     Ok(Reply {
-        status: REFUSED,
+        status: Status::Refused,
         line,
     })
 }
@@ -63,7 +53,7 @@ fn request_reply(
 ) -> Result<Reply, AllocError>
     requires few { length campaigns.now ≤ 64 }
     requires numbered { AreNumbered campaigns.now }
-    ensures { IfOk result (λ r. r ≡ reply_to (listed campaigns.now) request.now) }
+    ensures { IfOk result (λ r. r ≡ reply_to (campaigns_only campaigns.now) request.now) }
 {
     if is_unbuilt(request) {
         return refusal(alloc, b"not-built");
@@ -75,7 +65,10 @@ fn request_reply(
     } else {
         put_response(alloc, &mut line, request.id.as_bytes(), sold.as_slice())?;
     }
-    Ok(Reply { status: SOLD, line })
+    Ok(Reply {
+        status: Status::Done,
+        line,
+    })
 }
 
 fn request_refusal(alloc: Global, fault: &ReqFault) -> Result<Reply, AllocError>
@@ -88,7 +81,7 @@ fn request_refusal(alloc: Global, fault: &ReqFault) -> Result<Reply, AllocError>
     let mut line = Txt::new(alloc);
     put_request_fault(fault, &mut line)?;
     Ok(Reply {
-        status: REFUSED,
+        status: Status::Refused,
         line,
     })
 }
@@ -97,7 +90,7 @@ fn request_refusal(alloc: Global, fault: &ReqFault) -> Result<Reply, AllocError>
 fn doc_reply(alloc: Global, campaigns: &[NumberedCampaign], doc: &Doc) -> Result<Reply, AllocError>
     requires few { length campaigns.now ≤ 64 }
     requires numbered { AreNumbered campaigns.now }
-    ensures { IfOk result (λ r. r ≡ tree_reply (listed campaigns.now) (doc_tree doc.now)) }
+    ensures { IfOk result (λ r. r ≡ tree_reply (campaigns_only campaigns.now) (doc_tree doc.now)) }
 {
     match read_request(alloc, doc) {
         Ok(request) => request_reply(alloc, campaigns, &request),
@@ -116,7 +109,7 @@ fn json_refusal(alloc: Global, fault: JsonFault) -> Result<Reply, AllocError>
     let mut line = Txt::new(alloc);
     put_json_fault(fault, &mut line)?;
     Ok(Reply {
-        status: REFUSED,
+        status: Status::Refused,
         line,
     })
 }
@@ -129,7 +122,7 @@ fn bytes_reply(
 ) -> Result<Reply, AllocError>
     requires few { length campaigns.now ≤ 64 }
     requires numbered { AreNumbered campaigns.now }
-    ensures { IfOk result (IsReply (listed campaigns.now) bytes.now) }
+    ensures { IfOk result (IsReply (campaigns_only campaigns.now) bytes.now) }
 {
     if bytes.len() > MAX_INPUT {
         return refusal(alloc, b"body-too-large");
@@ -144,7 +137,8 @@ fn bytes_reply(
 fn reply_line(alloc: Global, words: &[Txt], bytes: &[u8]) -> Result<Reply, AllocError>
     requires campaigns { IsSome (campaigns_of words.now) }
     requires few { length words.now ≤ 64 }
-    ensures { IfOk result (λ r. Replies (campaigns_of words.now) bytes.now r.status r.line) }
+    ensures replies { IfOk result (λ r. Replies (campaigns_of words.now) bytes.now r.status r.line) }
+    ensures ends { IfOk result (λ r. (r.status ≡ Done) ⊎ (r.status ≡ Refused)) }
 {
     match campaigns_in(alloc, words) {
         Ok(campaigns) => {
@@ -156,23 +150,28 @@ fn reply_line(alloc: Global, words: &[Txt], bytes: &[u8]) -> Result<Reply, Alloc
     }
 }
 
-// Writes the reply to the bytes, and answers its status.
-fn send<K: Sink>(alloc: Global, words: &[Txt], bytes: &[u8], sink: &mut K) -> u8
-    requires campaigns { IsSome (campaigns_of words.now) }
-    requires few { length words.now ≤ 64 }
-    ensures sent { (result ≡ SOLD) ⊎ (result ≡ REFUSED) → Sent (campaigns_of words.now) bytes.now (K.written sink.old) (K.written sink.new) result }
-    ensures cut { result ≡ NOT_WRITTEN → CutShort (campaigns_of words.now) bytes.now (K.written sink.old) (K.written sink.new) }
-    ensures failed { result ≡ NOT_WRITTEN → Rose (K.faults sink.old) (K.faults sink.new) }
-    ensures quiet { result ≢ NOT_WRITTEN → K.faults sink.new ≡ K.faults sink.old }
-    ensures unsent { result ≡ NO_MEMORY → sink.new ≡ sink.old }
-    ensures statuses { (result ≡ SOLD) ⊎ (result ≡ REFUSED) ⊎ (result ≡ NOT_WRITTEN) ⊎ (result ≡ NO_MEMORY) }
+// What the run comes to, before it is written: a reply, or the status of what stands in its place.
+fn outcome<S: Source>(alloc: Global, words: &[Txt], source: &mut S) -> Result<Reply, Status>
+    ensures replied { IfOk result (λ r. IsOutcome words.now (S.left source.old) (S.left source.new) (S.faults source.old) (S.faults source.new) r.status r.line) }
+    ensures stopped { IfErr result (λ s. IsOutcome words.now (S.left source.old) (S.left source.new) (S.faults source.old) (S.faults source.new) s (line_of s)) }
+    ensures ends { IfOk result (λ r. (r.status ≡ Done) ⊎ (r.status ≡ Refused)) }
+    ensures stops { IfErr result (λ s. s ≢ NotWritten) }
+    ensures usage { command_of words.now ≡ None → result ≡ Err Status.Usage }
+    ensures named { result ≡ Err Status.Usage → command_of words.now ≡ None }
+    ensures not_read { result ≡ Err Status.NotRead → Rose (S.faults source.old) (S.faults source.new) }
+    ensures unread { command_of words.now ≡ None → source.new ≡ source.old }
+    ensures taken { TakesAtMost 266240 (S.left source.old) (S.left source.new) }
 {
-    match reply_line(alloc, words, bytes) {
-        Ok(reply) => match write_all(sink, reply.line.as_bytes()) {
-            Ok(()) => reply.status,
-            Err(_) => NOT_WRITTEN,
+    match command_in(words) {
+        None => Err(Status::Usage),
+        Some(campaigns) => match read_all(alloc, source, MAX_INPUT) {
+            Ok(bytes) => match reply_line(alloc, campaigns, bytes.as_bytes()) {
+                Ok(reply) => Ok(reply),
+                Err(_) => Err(Status::Memory),
+            },
+            Err(ReadFault::Failed) => Err(Status::NotRead),
+            Err(ReadFault::Memory) => Err(Status::Memory),
         },
-        Err(_) => NO_MEMORY,
     }
 }
 
@@ -180,31 +179,26 @@ fn send<K: Sink>(alloc: Global, words: &[Txt], bytes: &[u8], sink: &mut K) -> u8
 /// name, and writes the bid response, `no-bid` or the refusal, and a line feed.
 ///
 /// It answers the status that the program ends with: 0 where the request was sold or got no bid, 1
-/// where it was refused, 2 where the words are of no command, 7 where the sink failed, 9 for want of
-/// memory, 10 where the source failed. With 2, 9 and 10 nothing is written.
+/// where it was refused, 2 where the words are of no command, 9 for want of memory, 10 where the
+/// source failed, each of the last three with a line of its own; and in place of each of them 7,
+/// where the sink failed. From the source it takes at most 266,240 bytes.
 pub fn try_run<S: Source, K: Sink>(alloc: Global, words: &[Txt], source: &mut S, sink: &mut K) -> u8
-    // What is written is the reply to all that was read.
-    ensures answered { (result ≡ 0) ⊎ (result ≡ 1) → Answered words.now (S.left source.old) (S.left source.new) (K.written sink.old) (K.written sink.new) result }
-    ensures usage { (result ≡ 2) ↔ (command_of words.now ≡ None) }
+    // What the run comes to is written, or a front of it where the sink fails.
+    ensures told { result ≢ code_of NotWritten → Told words.now (S.left source.old) (S.left source.new) (S.faults source.old) (S.faults source.new) (K.written sink.old) (K.written sink.new) result }
+    ensures half_told { result ≡ code_of NotWritten → HalfTold words.now (S.left source.old) (S.left source.new) (S.faults source.old) (S.faults source.new) (K.written sink.old) (K.written sink.new) }
+    ensures cause { RisesOnlyWhere (result ≡ code_of NotWritten) (K.faults sink.old) (K.faults sink.new) }
 
-    // Where the sink fails, a front of the reply was written; else, but for 0 and 1, nothing was.
-    ensures cut { result ≡ 7 → HalfAnswered words.now (S.left source.old) (S.left source.new) (K.written sink.old) (K.written sink.new) }
-    ensures unsent { (result ≡ 2) ⊎ (result ≡ 9) ⊎ (result ≡ 10) → sink.new ≡ sink.old }
-    ensures unread { result ≡ 2 → source.new ≡ source.old }
+    // It is usage exactly where the words are of no command, unless the sink fails.
+    ensures usage { command_of words.now ≡ None → (result ≡ code_of Usage) ⊎ (result ≡ code_of NotWritten) }
+    ensures named { result ≡ code_of Usage → command_of words.now ≡ None }
+    ensures not_read { result ≡ code_of NotRead → Rose (S.faults source.old) (S.faults source.new) }
 
-    // A fault is answered exactly where one was met: no other answer comes where a count rose.
-    ensures not_written { result ≡ 7 → Rose (K.faults sink.old) (K.faults sink.new) }
-    ensures not_read { result ≡ 10 → Rose (S.faults source.old) (S.faults source.new) }
-    ensures written { result ≢ 7 → K.faults sink.new ≡ K.faults sink.old }
-    ensures was_read { result ≢ 10 → S.faults source.new ≡ S.faults source.old }
-    ensures statuses { (result ≡ 0) ⊎ (result ≡ 1) ⊎ (result ≡ 2) ⊎ (result ≡ 7) ⊎ (result ≡ 9) ⊎ (result ≡ 10) }
+    // Words of no command leave the source alone; of another source not more is taken than this.
+    ensures unread { command_of words.now ≡ None → source.new ≡ source.old }
+    ensures taken { TakesAtMost 266240 (S.left source.old) (S.left source.new) }
 {
-    match command_in(words) {
-        None => USAGE,
-        Some(campaigns) => match read_all(alloc, source, MAX_INPUT) {
-            Ok(bytes) => send(alloc, campaigns, bytes.as_bytes(), sink),
-            Err(ReadFault::Failed) => NOT_READ,
-            Err(ReadFault::Memory) => NO_MEMORY,
-        },
+    match outcome(alloc, words, source) {
+        Ok(reply) => tell(reply.status, reply.line.as_bytes(), sink).code(),
+        Err(status) => end_with(status, sink).code(),
     }
 }

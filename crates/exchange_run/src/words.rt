@@ -1,7 +1,7 @@
 ghost use Rattle.std.specs.Prelude.{◌≡◌, ◌==◌, ◌<◌, ◌≤◌, position, length, IfSome, Option, None, Some, cond, option_map, is_some, IfOk, IsSome, IsTrue};
 ghost use Rattle.std.specs.List.{after_first, before_first, list_all, list_any};
 ghost use Rattle.exchange_run.specs.Words.{amount_of, campaign_of, campaign_words, campaigns_of, command_of, domain_of, bid_of, is_at};
-ghost use Rattle.exchange_run.specs.Numbered.{AreNumbered, is_short, listed};
+ghost use Rattle.exchange_run.specs.Numbered.{AreNumbered, is_short, campaigns_only};
 ghost use Rattle.exchange_run.specs.View.{campaign_view};
 
 use crate::numbered::NumberedCampaign;
@@ -20,7 +20,8 @@ pub(crate) struct NamedCampaign<'a> {
 
 const MAX_DOMAIN: usize = 255;
 
-const MAX_CAMPAIGNS: usize = 64;
+/// The most campaigns of a command.
+pub(crate) const MAX_CAMPAIGNS: usize = 64;
 
 fn place_of(text: &[u8], byte: u8) -> Option<usize>
     ensures place { result ≡ position (λ c. c == byte) text.now }
@@ -40,7 +41,7 @@ fn amount(text: &[u8]) -> Option<Micros>
 }
 
 // What stands before the first `@`.
-fn bid_text(word: &[u8]) -> &[u8]
+fn bid_part(word: &[u8]) -> &[u8]
     ensures { result.now ≡ before_first is_at word.now }
 {
     match place_of(word, b'@') {
@@ -50,7 +51,7 @@ fn bid_text(word: &[u8]) -> &[u8]
 }
 
 // What stands behind the first `@`, if there is one.
-fn domain_text(word: &[u8]) -> Option<&[u8]>
+fn domain_part(word: &[u8]) -> Option<&[u8]>
     ensures { option_map (λ d. d.now) result ≡ cond (list_any is_at word.now) (Some (after_first is_at word.now)) None }
 {
     match place_of(word, b'@') {
@@ -62,7 +63,7 @@ fn domain_text(word: &[u8]) -> Option<&[u8]>
 fn bid(word: &[u8]) -> Option<Micros>
     ensures { result ≡ bid_of word.now }
 {
-    let bid = amount(bid_text(word))?;
+    let bid = amount(bid_part(word))?;
     if bid.get() == 0 {
         return None;
     }
@@ -72,7 +73,7 @@ fn bid(word: &[u8]) -> Option<Micros>
 fn domain(word: &[u8]) -> Option<Option<&[u8]>>
     ensures { option_map (λ d. option_map (λ t. t.now) d) result ≡ domain_of word.now }
 {
-    match domain_text(word) {
+    match domain_part(word) {
         None => Some(None),
         Some(domain) => {
             if domain.is_empty() {
@@ -95,7 +96,8 @@ fn campaign(word: &[u8]) -> Option<NamedCampaign<'_>>
     Some(NamedCampaign { bid, domain })
 }
 
-fn is_campaign(word: &Txt) -> bool
+/// Whether the word is a campaign.
+pub(crate) fn is_campaign(word: &Txt) -> bool
     ensures { result ≡ is_some (campaign_of word.now) }
 {
     campaign(word.as_bytes()).is_some()
@@ -138,7 +140,7 @@ pub(crate) fn command_in(words: &[Txt]) -> Option<&[Txt]>
     Some(words)
 }
 
-fn known_campaign(word: &Txt) -> NamedCampaign<'_>
+fn campaign_named(word: &Txt) -> NamedCampaign<'_>
     requires { IsSome (campaign_of word.now) }
     ensures value { Some (campaign_view result) ≡ campaign_of word.now }
     ensures some_bid { 1 ≤ result.bid }
@@ -157,14 +159,14 @@ pub(crate) fn campaigns_in(
 ) -> Result<Vec<NumberedCampaign>, AllocError>
     requires campaigns { IsSome (campaigns_of words.now) }
     requires few { length words.now ≤ 64 }
-    ensures named { IfOk result (λ cs. Some (listed cs.items) ≡ campaigns_of words.now) }
+    ensures named { IfOk result (λ cs. Some (campaigns_only cs.items) ≡ campaigns_of words.now) }
     ensures numbered { IfOk result (λ cs. AreNumbered cs.items) }
 {
     let mut campaigns = Vec::with_capacity(alloc, words.len())?;
     let mut number = 0;
     for word in words {
         number += 1;
-        campaigns.push(NumberedCampaign::make(alloc, number, &known_campaign(word))?)?;
+        campaigns.push(NumberedCampaign::make(alloc, number, &campaign_named(word))?)?;
     }
     Ok(campaigns)
 }

@@ -6,14 +6,22 @@
 //! its calls.
 #![tactic(auto)]
 
+mod bytes;
+mod campaigns;
 mod cases;
+mod commands;
 mod fields;
+mod finding;
 mod json;
 mod markup;
+mod matching;
 mod notation;
 mod numbers;
 mod requests;
 mod sales;
+mod streams;
+mod targeting;
+mod texts;
 mod trees;
 
 use cases::report_on;

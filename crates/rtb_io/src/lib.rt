@@ -1,4 +1,4 @@
-//! All that a source has, and all of a text to a sink.
+//! All that a source has, all of a text to a sink, and how a program ends.
 #![tactic(auto)]
 
 ghost use Rattle.std.specs.Prelude.{◌≡◌, ◌+◌, ◌<◌, ◌≤◌, ◌^◌, ◌⊎◌, Err, length, IfOk, OnErr, OnOk};
@@ -6,6 +6,10 @@ ghost use Rattle.rtb_io.specs.Fronts.{AppendsFront, TakesAtMost};
 ghost use Rattle.std.specs.Io.KnownBytes.{Appends, Consumes, IsAtEnd};
 ghost use Rattle.rtb_base.specs.Faults.{CountsErrors, RisesOnlyWhere, RoseAtMost};
 ghost use Rattle.rtb_io.specs.declared.ReadFault.TheVariants.{Failed as failed, Memory as memory};
+
+mod status;
+
+pub use status::Status;
 
 use rtb_num::{Failed, Sink, Source, Txt};
 use std::alloc::{AllocError, Global};

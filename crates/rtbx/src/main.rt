@@ -1,20 +1,26 @@
-//! The program `rtbx`.
+//! The program `rtbx`: runs the command that its words name, and ends with its status.
 #![tactic(auto)]
 
+use exchange_run::{end_with, explain, try_run};
+use rtb_io::Status;
 use rtb_num::{StdSink, StdSource, Txt};
+use std::alloc::Global;
+use std::io::{self, Write};
 use std::process::ExitCode;
 use std::rt::Env;
-use std::{env, io};
+use std::env;
 
-const USAGE: u8 = 2;
-
-const NO_MEMORY: u8 = 9;
-
-// Words that are not UTF-8 are of no command.
-fn status_of(fault: &io::Error) -> u8 {
-    match fault.kind() {
-        io::ErrorKind::OutOfMemory => NO_MEMORY,
-        _ => USAGE,
+fn main(rt: HostRuntime) -> ExitCode {
+    let alloc = rt.alloc();
+    let mut sink = StdSink::new(io::writer(&rt));
+    match words_of(&rt) {
+        Ok(words) => {
+            let mut source = StdSource::new(rt.reader());
+            let status = try_run(alloc, words.as_slice(), &mut source, &mut sink);
+            complain(alloc, words.as_slice(), &mut rt.stderr());
+            ExitCode::from(status)
+        }
+        Err(fault) => ExitCode::from(end_with(status_of(&fault), &mut sink).code()),
     }
 }
 
@@ -27,14 +33,18 @@ fn words_of<R: Env + AllocGlobal>(rt: &R) -> io::Result<Vec<Txt>> {
     Ok(words)
 }
 
-fn main(rt: HostRuntime) -> ExitCode {
-    match words_of(&rt) {
-        Ok(words) => {
-            let mut source = StdSource::new(rt.reader());
-            let mut sink = StdSink::new(io::writer(&rt));
-            let alloc = rt.alloc();
-            ExitCode::from(exchange_run::try_run(alloc, words.as_slice(), &mut source, &mut sink))
-        }
-        Err(fault) => ExitCode::from(status_of(&fault)),
+// Words that are not UTF-8 are of no command.
+fn status_of(fault: &io::Error) -> Status {
+    match fault.kind() {
+        io::ErrorKind::OutOfMemory => Status::Memory,
+        _ => Status::Usage,
+    }
+}
+
+// Says what is wrong with words that are of no command, where that can be written.
+fn complain<W: Write>(alloc: Global, words: &[Txt], errors: &mut W) {
+    let mut text = Txt::new(alloc);
+    if explain(words, &mut text).is_ok() && !text.is_empty() {
+        let _ = errors.write_all(text.as_bytes());
     }
 }

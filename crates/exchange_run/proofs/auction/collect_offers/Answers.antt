@@ -8,6 +8,6 @@ pub loop-number-preserved : goal.loop-number-preserved
 loop-number-preserved c =
     let offer = offer_numbered c.args.campaigns.now c.args.imp.now in
     let k = c.loop-number.number-index in
-    c.in_ok-push_offer.ensures ∙ ap (λ l. l ++ option_to_list c.offer_of.result) c.loop-number.invariant
-    ∙ ap (λ o. filter_map offer (take k c.args.found.now) ++ option_to_list o) c.offer_of.ensures
+    c.in_ok-push_offer.ensures ∙ ap (λ l. l ++ option_to_list c.offer_numbered.result) c.loop-number.invariant
+    ∙ ap (λ o. filter_map offer (take k c.args.found.now) ++ option_to_list o) c.offer_numbered.ensures
     ∙ sym (offers_step offer c.args.found.now k 0 c.loop-number-test.true)

@@ -1,7 +1,0 @@
-use Rattle.std.proofs.Common.{◌≡◌, take}
-use Rattle.exchange_run.specs.Numbered.{added_of}
-use Rattle.exchange_run.proofs.auction.added.Given as goal
-
--- the campaigns so far
-abbrev pub invariant-loop-campaign : goal.invariant-loop-campaign
-invariant-loop-campaign g l = l.builder ≡ added_of (take l.campaign-index l.campaigns)

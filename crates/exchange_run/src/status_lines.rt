@@ -1,0 +1,43 @@
+ghost use Rattle.std.specs.Prelude.{◌≡◌, ◌≢◌};
+ghost use Rattle.std.specs.Io.KnownBytes.{Appends};
+ghost use Rattle.rtb_base.specs.Faults.{RisesOnlyWhere};
+ghost use Rattle.rtb_io.specs.Fronts.{AppendsFront};
+ghost use Rattle.rtb_io.specs.declared.status.Status.TheVariants.{NotWritten};
+ghost use Rattle.exchange_run.specs.Answer.{line_of};
+
+use rtb_io::{Status, write_all};
+use rtb_num::{Failed, Sink};
+
+/// Writes the line of a status that comes with no reply. It answers the status, or that the sink failed.
+pub fn end_with<K: Sink>(status: Status, sink: &mut K) -> Status
+    requires { status ≢ NotWritten }
+    ensures told { result ≢ NotWritten → (result ≡ status) × Appends (K.written sink.old) (K.written sink.new) (line_of status) }
+    ensures half_told { result ≡ NotWritten → AppendsFront (K.written sink.old) (K.written sink.new) (line_of status) }
+    ensures cause { RisesOnlyWhere (result ≡ NotWritten) (K.faults sink.old) (K.faults sink.new) }
+{
+    tell(status, line(status), sink)
+}
+
+fn line(status: Status) -> &'static [u8]
+    ensures { result.now ≡ line_of status }
+{
+    match status {
+        Status::Usage => b"rtbx: usage\n",
+        Status::Memory => b"rtbx: memory\n",
+        Status::NotRead => b"rtbx: input failed\n",
+        Status::Done | Status::Refused | Status::NotWritten => b"",
+    }
+}
+
+/// Writes the text. It answers the status, or that the sink failed.
+pub(crate) fn tell<K: Sink>(status: Status, text: &[u8], sink: &mut K) -> Status
+    requires { status ≢ NotWritten }
+    ensures told { result ≢ NotWritten → (result ≡ status) × Appends (K.written sink.old) (K.written sink.new) text.now }
+    ensures half_told { result ≡ NotWritten → AppendsFront (K.written sink.old) (K.written sink.new) text.now }
+    ensures cause { RisesOnlyWhere (result ≡ NotWritten) (K.faults sink.old) (K.faults sink.new) }
+{
+    match write_all(sink, text) {
+        Ok(()) => status,
+        Err(Failed) => Status::NotWritten,
+    }
+}

@@ -1,4 +1,0 @@
-use Rattle.rtb_bench.proofs.work_line.work_line.Given as goal
-
-abbrev pub ghosts-line_counted : goal.ghosts-line_counted
-ghosts-line_counted a = record { name = a.blank.name; parts = a.blank.parts }

@@ -1,0 +1,177 @@
+//! Runs of the commands of `exchange_run`, and of the work of `bench_work`.
+use bench_work::bench_run;
+use exchange_run::{explain, try_run};
+use rtb_num::{Failed, List, MemSink, MemSource, Sink, Source, Txt, write_decimal};
+use std::alloc::{AllocError, Global};
+
+/// Answers a call of this area, or tells that it is none. WORDS are words with one space between two,
+/// and READS and WRITES the numbers of the reads and the writes that fail, from 1 on.
+///
+/// - `try | WORDS | REQUEST`, `bench | WORDS | INPUT`: the status, and what is written.
+/// - `try_failing | WORDS | REQUEST | READS | WRITES`, `bench_failing | ..`: the same.
+/// - `try_slow | WORDS | REQUEST | WRITES`: the same, where a write takes one byte.
+/// - `try_took | WORDS | REQUEST`: how many bytes are taken from the source.
+/// - `explain | WORDS`: what is said of words that are of no command.
+pub fn answer(alloc: Global, call: &[u8], args: &[Txt], out: &mut Txt) -> Result<bool, AllocError> {
+    match args {
+        [line] => match call {
+            b"explain" => explain(words_in(alloc, line.as_bytes())?.as_slice(), out)?,
+            _ => return Ok(false),
+        },
+        [line, input] => return of_two(alloc, call, line.as_bytes(), input, out),
+        [line, input, writes] => match call {
+            b"try_slow" => run_slowly(alloc, line.as_bytes(), input, writes.as_bytes(), out)?,
+            _ => return Ok(false),
+        },
+        [line, input, reads, writes] => {
+            let run = Run {
+                reads: numbers_in(alloc, reads.as_bytes())?,
+                writes: numbers_in(alloc, writes.as_bytes())?,
+            };
+            match call {
+                b"try_failing" => run.of_try(alloc, line.as_bytes(), input, out)?,
+                b"bench_failing" => run.of_bench(alloc, line.as_bytes(), input, out)?,
+                _ => return Ok(false),
+            }
+        }
+        _ => return Ok(false),
+    }
+    Ok(true)
+}
+
+fn of_two(
+    alloc: Global,
+    call: &[u8],
+    line: &[u8],
+    input: &Txt,
+    out: &mut Txt,
+) -> Result<bool, AllocError> {
+    let run = Run {
+        reads: List::new(alloc),
+        writes: List::new(alloc),
+    };
+    match call {
+        b"try" => run.of_try(alloc, line, input, out)?,
+        b"bench" => run.of_bench(alloc, line, input, out)?,
+        b"try_took" => count_taken(alloc, line, input, out)?,
+        _ => return Ok(false),
+    }
+    Ok(true)
+}
+
+// The reads and the writes of a run that fail.
+#[derive(Drop)]
+struct Run {
+    reads: List<u64>,
+    writes: List<u64>,
+}
+
+impl Run {
+    fn of_try(self, alloc: Global, line: &[u8], input: &Txt, out: &mut Txt) -> Result<(), AllocError> {
+        let words = words_in(alloc, line)?;
+        let mut source = MemSource::new(input.copy()?, self.reads);
+        let mut sink = MemSink::new(alloc, self.writes);
+        let status = try_run(alloc, words.as_slice(), &mut source, &mut sink);
+        tell(status, sink.written(), out)
+    }
+
+    fn of_bench(self, alloc: Global, line: &[u8], input: &Txt, out: &mut Txt) -> Result<(), AllocError> {
+        let words = words_in(alloc, line)?;
+        let mut source = MemSource::new(input.copy()?, self.reads);
+        let mut sink = MemSink::new(alloc, self.writes);
+        let status = bench_run(alloc, words.as_slice(), &mut source, &mut sink);
+        tell(status.code(), sink.written(), out)
+    }
+}
+
+// The status, and what was written, if anything was.
+fn tell(status: u8, written: &Txt, out: &mut Txt) -> Result<(), AllocError> {
+    write_decimal(u64::from(status), out)?;
+    if !written.is_empty() {
+        out.push(b' ')?;
+        out.extend(written.as_bytes())?;
+    }
+    Ok(())
+}
+
+// A sink that takes one byte a call.
+#[derive(Drop)]
+struct SlowSink {
+    sink: MemSink,
+}
+
+impl Sink for SlowSink {
+    ghost written = { λ s. ⟦<MemSink as Sink>⟧.written s.sink };
+
+    ghost faults = { λ s. ⟦<MemSink as Sink>⟧.faults s.sink };
+
+    fn write(&mut self, bytes: &[u8]) -> Result<usize, Failed> {
+        let n = bytes.len().min(1);
+        self.sink.write(&bytes[..n])
+    }
+}
+
+fn run_slowly(
+    alloc: Global,
+    line: &[u8],
+    input: &Txt,
+    writes: &[u8],
+    out: &mut Txt,
+) -> Result<(), AllocError> {
+    let words = words_in(alloc, line)?;
+    let mut source = MemSource::new(input.copy()?, List::new(alloc));
+    let mut slow = SlowSink {
+        sink: MemSink::new(alloc, numbers_in(alloc, writes)?),
+    };
+    let status = try_run(alloc, words.as_slice(), &mut source, &mut slow);
+    tell(status, slow.sink.written(), out)
+}
+
+fn count_taken(alloc: Global, line: &[u8], input: &Txt, out: &mut Txt) -> Result<(), AllocError> {
+    let words = words_in(alloc, line)?;
+    let mut source = MemSource::new(input.copy()?, List::new(alloc));
+    let mut sink = MemSink::new(alloc, List::new(alloc));
+    let _ = try_run(alloc, words.as_slice(), &mut source, &mut sink);
+    let taken = input.len().saturating_sub(count_left(&mut source));
+    write_decimal(taken as u64, out)
+}
+
+// How many bytes the source has left, up to 4 million.
+fn count_left(source: &mut MemSource) -> usize {
+    let mut left: usize = 0;
+    let mut piece = [0u8; 4096];
+    for _ in 0..1000u32 {
+        match source.read(&mut piece) {
+            Ok(n) => left = left.saturating_add(n),
+            Err(Failed) => return left,
+        }
+    }
+    left
+}
+
+// The words of a line; no word stands on an empty line.
+fn words_in(alloc: Global, line: &[u8]) -> Result<Vec<Txt>, AllocError> {
+    let mut words = Vec::new(alloc);
+    if line.is_empty() {
+        return Ok(words);
+    }
+    for word in line.split(|c| *c == b' ') {
+        words.push(Txt::from_slice(alloc, word)?)?;
+    }
+    Ok(words)
+}
+
+// The numbers of a line; what is no number is passed over.
+fn numbers_in(alloc: Global, line: &[u8]) -> Result<List<u64>, AllocError> {
+    let mut numbers = List::new(alloc);
+    for word in line.split(|c| *c == b' ') {
+        if let Some(number) = number_of(word) {
+            numbers.push(number)?;
+        }
+    }
+    Ok(numbers)
+}
+
+fn number_of(word: &[u8]) -> Option<u64> {
+    str::from_utf8(word).ok()?.parse::<u64>().ok()
+}

@@ -1,0 +1,231 @@
+//! Calls of `conj_index`: an index of campaigns, and what is found in it.
+//!
+//! A predicate is written `os=iOS,Android`, with `!` for `=` where it is negated. `&` stands between
+//! predicates and `|` between conjunctions. The campaigns are numbered from 1, and an assignment is
+//! written `os=iOS&yob=1990`.
+ghost use Rattle.std.specs.Prelude.{◌≡◌, ◌≤◌, ◌<◌, ◌+◌, IsTrue, All, IfOk};
+ghost use Rattle.std.specs.List.{list_any};
+ghost use Rattle.target_expr.specs.Truth.{are_single, same_attr};
+ghost use Rattle.conj_index.specs.Campaigns.{conjunctions_in};
+
+use crate::matching::put_numbers;
+use crate::trees::put_number;
+use conj_index::{Builder, Index, IndexFault, Part, scan};
+use rtb_base::Steps;
+use rtb_num::{List, Txt};
+use std::alloc::{AllocError, Global};
+use std::marker::Brand;
+use std::sync::ledger::{Blank, Ledger};
+use target_expr::{Assignment, Attr, Expr, ExprFault, RawPred, attr_named};
+
+/// Answers a call of this area, or tells that it is none.
+///
+/// - `find | ASSIGNMENT | CAMPAIGN | .. | CAMPAIGN`: the numbers of the campaigns that the index of these
+///   finds, or `none`, and `, but ` and what asking each gives where that is something else.
+/// - `index_build | CAMPAIGN | .. | CAMPAIGN`: the owners of the conjunctions, and of each part how many
+///   keys and lists it has, as `1 1, 0 keys 1 lists, 2 keys 2 lists`.
+pub fn answer(alloc: Global, call: &[u8], args: &[Txt], out: &mut Txt) -> Result<bool, AllocError> {
+    answer_by::<Brand>(alloc, call, args, out, Blank::new(1))
+}
+
+fn answer_by<L: Ledger>(
+    alloc: Global,
+    call: &[u8],
+    args: &[Txt],
+    out: &mut Txt,
+    blank: Blank,
+) -> Result<bool, AllocError>
+    requires name { blank.name ≡ L.name }
+    requires parts { blank.parts ≡ L.parts }
+    requires some { 0 < blank.parts }
+{
+    let mut steps = Steps::<L>::new(blank);
+    match (call, args) {
+        (b"find", [assigned, campaigns @ ..]) => {
+            find(alloc, assigned.as_bytes(), campaigns, &mut steps, out)?;
+        }
+        (b"index_build", campaigns) => build(alloc, campaigns, &mut steps, out)?,
+        _ => return Ok(false),
+    }
+    Ok(true)
+}
+
+fn find<L: Ledger>(
+    alloc: Global,
+    assigned: &[u8],
+    texts: &[Txt],
+    steps: &mut Steps<L>,
+    out: &mut Txt,
+) -> Result<(), AllocError> {
+    let Some(campaigns) = campaigns_in(alloc, texts)? else {
+        return out.extend(b"unreadable");
+    };
+    let assignment = assignment(alloc, assigned)?;
+    let index = built(alloc, &campaigns, steps)?;
+    let found = index.find(alloc, &assignment, steps)?;
+    let asked = scan(alloc, &campaigns, &assignment, steps)?;
+    put_numbers(alloc, found.as_slice(), out)?;
+    if found.as_slice() != asked.as_slice() {
+        out.extend(b", but ")?;
+        put_numbers(alloc, asked.as_slice(), out)?;
+    }
+    Ok(())
+}
+
+// An index and a part have the fields that are named here, and no others.
+fn build<L: Ledger>(
+    alloc: Global,
+    texts: &[Txt],
+    steps: &mut Steps<L>,
+    out: &mut Txt,
+) -> Result<(), AllocError> {
+    let Some(campaigns) = campaigns_in(alloc, texts)? else {
+        return out.extend(b"unreadable");
+    };
+    let Index { owners, parts } = built(alloc, &campaigns, steps)?;
+    put_numbers(alloc, owners.as_slice(), out)?;
+    for part in parts.into_vec() {
+        put_part(alloc, part, out)?;
+    }
+    Ok(())
+}
+
+fn put_part(alloc: Global, part: Part, out: &mut Txt) -> Result<(), AllocError> {
+    let Part { keys, lists } = part;
+    out.extend(b", ")?;
+    put_number(alloc, keys.len() as u64, out)?;
+    out.extend(b" keys ")?;
+    put_number(alloc, lists.len() as u64, out)?;
+    out.extend(b" lists")
+}
+
+// Adds a campaign, where its number is above the last and there is room, and gives how many conjunctions
+// there are.
+fn add_above<L: Ledger>(
+    builder: &mut Builder,
+    last: u32,
+    count: usize,
+    number: u32,
+    expr: &Expr,
+    steps: &mut Steps<L>,
+) -> Result<usize, AllocError>
+    requires last { All (λ p. p.0 ≤ last) builder.old }
+    requires count { conjunctions_in builder.old ≡ count }
+    ensures last { IfOk result (λ _. All (λ p. p.0 ≤ number) builder.new) }
+    ensures count { IfOk result (λ n. conjunctions_in builder.new ≡ n) }
+{
+    let total = count.saturating_add(expr.conjunctions());
+    if number <= last || total > 1_000_000 {
+        return Err(AllocError);
+    }
+    builder.add(number, expr, steps)?;
+    Ok(total)
+}
+
+fn built<L: Ledger>(
+    alloc: Global,
+    campaigns: &[(u32, Expr)],
+    steps: &mut Steps<L>,
+) -> Result<Index, AllocError> {
+    let mut builder = Builder::new(alloc);
+    let mut last = 0;
+    let mut count = 0;
+    for (number, expr) in campaigns {
+        count = add_above(&mut builder, last, count, *number, expr, steps)?;
+        last = *number;
+    }
+    match Index::build(alloc, builder, steps) {
+        Ok(index) => Ok(index),
+        Err(IndexFault::Memory) => Err(AllocError),
+    }
+}
+
+// The campaigns of these expressions, or none where one is none.
+fn campaigns_in(alloc: Global, texts: &[Txt]) -> Result<Option<Vec<(u32, Expr)>>, AllocError> {
+    let mut all = Vec::new(alloc);
+    let mut number: u32 = 0;
+    for text in texts {
+        number = number.saturating_add(1);
+        match Expr::make(alloc, &raw_expr(alloc, text.as_bytes())?) {
+            Ok(expr) => all.push((number, expr))?,
+            Err(ExprFault::Memory) => return Err(AllocError),
+            Err(_) => return Ok(None),
+        }
+    }
+    Ok(Some(all))
+}
+
+fn assignment(alloc: Global, written: &[u8]) -> Result<Assignment, AllocError> {
+    let mut pairs = List::new(alloc);
+    for pred in raw_conjunction(alloc, written)?.into_vec() {
+        add(alloc, &mut pairs, pred)?;
+    }
+    Ok(Assignment::make(pairs))
+}
+
+// Whether the attribute has a value already.
+fn is_there(pairs: &[(Attr, Txt)], attr: Attr) -> bool
+    ensures { result ≡ list_any (λ q. same_attr q.0 attr) pairs.now }
+{
+    pairs.iter().any(|pair| pair.0.number() == attr.number())
+}
+
+// Adds a pair, where its attribute has no value yet.
+fn add(alloc: Global, pairs: &mut List<(Attr, Txt)>, pred: RawPred) -> Result<(), AllocError>
+    requires { IsTrue (are_single pairs.old) }
+    ensures { IsTrue (are_single pairs.new) }
+{
+    let Some(attr) = attr_named(pred.attr.as_bytes()) else {
+        return Ok(());
+    };
+    let Some(value) = pred.values.get(0) else {
+        return Ok(());
+    };
+    if is_there(pairs.as_slice(), attr) {
+        return Ok(());
+    }
+    let value = Txt::from_slice(alloc, value.as_bytes())?;
+    pairs.push((attr, value))?;
+    Ok(())
+}
+
+fn values_of(alloc: Global, written: &[u8]) -> Result<List<Txt>, AllocError> {
+    let mut values = List::new(alloc);
+    for value in written.split(|byte| *byte == b',') {
+        values.push(Txt::from_slice(alloc, value)?)?;
+    }
+    Ok(values)
+}
+
+fn raw_pred(alloc: Global, written: &[u8]) -> Result<RawPred, AllocError> {
+    let mark = written
+        .iter()
+        .position(|byte| *byte == b'=' || *byte == b'!');
+    match mark {
+        Some(mark) => Ok(RawPred {
+            attr: Txt::from_slice(alloc, &written[..mark])?,
+            negated: written[mark] == b'!',
+            values: values_of(alloc, &written[mark + 1..])?,
+        }),
+        None => Err(AllocError),
+    }
+}
+
+fn raw_conjunction(alloc: Global, written: &[u8]) -> Result<List<RawPred>, AllocError> {
+    let mut preds = List::new(alloc);
+    if written.is_empty() {
+        return Ok(preds);
+    }
+    for pred in written.split(|byte| *byte == b'&') {
+        preds.push(raw_pred(alloc, pred)?)?;
+    }
+    Ok(preds)
+}
+
+fn raw_expr(alloc: Global, written: &[u8]) -> Result<List<List<RawPred>>, AllocError> {
+    let mut raw = List::new(alloc);
+    for conjunction in written.split(|byte| *byte == b'|') {
+        raw.push(raw_conjunction(alloc, conjunction)?)?;
+    }
+    Ok(raw)
+}

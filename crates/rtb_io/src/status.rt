@@ -1,0 +1,35 @@
+ghost use Rattle.std.specs.Prelude.{◌≡◌};
+ghost use Rattle.rtb_io.specs.Statuses.{code_of};
+
+/// How a program ended.
+#[derive(Clone, Copy, Debug, PartialEq, Eq)]
+pub enum Status {
+    /// What the words ask for was done.
+    Done,
+    /// The input was refused.
+    Refused,
+    /// The words are of no command.
+    Usage,
+    /// The sink failed.
+    NotWritten,
+    /// Memory was refused.
+    Memory,
+    /// The source failed.
+    NotRead,
+}
+
+impl Status {
+    /// Its number, which the program gives to the system.
+    pub fn code(self) -> u8
+        ensures { result ≡ code_of self }
+    {
+        match self {
+            Status::Done => 0,
+            Status::Refused => 1,
+            Status::Usage => 2,
+            Status::NotWritten => 7,
+            Status::Memory => 9,
+            Status::NotRead => 10,
+        }
+    }
+}
