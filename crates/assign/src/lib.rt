@@ -5,7 +5,5 @@
 
 mod rows;
 mod table;
-#[cfg(test)]
-mod tests;
 
 pub use table::{assignment, each_value_is_of_its_row, no_attribute_stands_twice};

@@ -11,8 +11,6 @@
 mod laws;
 mod lists;
 mod scalars;
-#[cfg(test)]
-mod tests;
 mod texts;
 
 pub use laws::{fields_tell_their_ends, what_was_put_begins_there, what_was_put_is_read_again};

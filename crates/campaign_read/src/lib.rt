@@ -11,8 +11,6 @@ mod fault;
 mod lists;
 mod parts;
 mod target;
-#[cfg(test)]
-mod tests;
 
 pub use body::read_campaign;
 pub use fault::CampFault;

@@ -1,7 +1,8 @@
 //! Cases, one after the other.
 use crate::notation::{expand, show};
 use crate::{
-    bytes, campaigns, commands, fields, finding, json, markup, matching, numbers, requests, sales, streams, targeting, texts,
+    bytes, campaigns, commands, fields, finding, json, markup, matching, numbers, requests, sales,
+    streams, targeting, texts,
 };
 use rtb_num::{List, Txt};
 use std::alloc::{AllocError, Global};
@@ -111,20 +112,22 @@ fn answer(alloc: Global, all: &[Txt], out: &mut Txt) -> Result<bool, AllocError>
     match all {
         [call, args @ ..] => {
             let call = call.as_bytes();
-            Ok(numbers::answer(alloc, call, args, out)?
-                || texts::answer(alloc, call, args, out)?
-                || bytes::answer(alloc, call, args, out)?
-                || streams::answer(alloc, call, args, out)?
-                || json::answer(alloc, call, args, out)?
-                || fields::answer(alloc, call, args, out)?
-                || requests::answer(alloc, call, args, out)?
-                || targeting::answer(alloc, call, args, out)?
-                || campaigns::answer(alloc, call, args, out)?
-                || matching::answer(alloc, call, args, out)?
-                || finding::answer(alloc, call, args, out)?
-                || markup::answer(alloc, call, args, out)?
-                || sales::answer(alloc, call, args, out)?
-                || commands::answer(alloc, call, args, out)?)
+            Ok(
+                numbers::answer(alloc, call, args, out)?
+                    || texts::answer(alloc, call, args, out)?
+                    || bytes::answer(alloc, call, args, out)?
+                    || streams::answer(alloc, call, args, out)?
+                    || json::answer(alloc, call, args, out)?
+                    || fields::answer(alloc, call, args, out)?
+                    || requests::answer(alloc, call, args, out)?
+                    || targeting::answer(alloc, call, args, out)?
+                    || campaigns::answer(alloc, call, args, out)?
+                    || matching::answer(alloc, call, args, out)?
+                    || finding::answer(alloc, call, args, out)?
+                    || markup::answer(alloc, call, args, out)?
+                    || sales::answer(alloc, call, args, out)?
+                    || commands::answer(alloc, call, args, out)?,
+            )
         }
         [] => Ok(false),
     }

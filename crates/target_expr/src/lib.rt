@@ -21,8 +21,6 @@ mod order;
 mod pairs;
 mod pred;
 mod sums;
-#[cfg(test)]
-mod tests;
 mod truth;
 
 pub use assignment::Assignment;
