@@ -5,10 +5,9 @@
 use bench_work::bench_run;
 use rtb_io::Status;
 use rtb_num::{StdSink, StdSource, Txt};
-use std::env;
-use std::io;
 use std::process::ExitCode;
 use std::rt::Env;
+use std::{env, io};
 
 fn main(rt: HostRuntime) -> ExitCode {
     match words_of(&rt) {

@@ -9,9 +9,8 @@ ghost use Rattle.rtb_io.specs.declared.ReadFault.TheVariants.{Failed as failed, 
 
 mod status;
 
-pub use status::Status;
-
 use rtb_num::{Failed, Sink, Source, Txt};
+pub use status::Status;
 use std::alloc::{AllocError, Global};
 
 /// Why an input was not read.

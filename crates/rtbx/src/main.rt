@@ -5,10 +5,10 @@ use exchange_run::{end_with, explain, try_run};
 use rtb_io::Status;
 use rtb_num::{StdSink, StdSource, Txt};
 use std::alloc::Global;
+use std::env;
 use std::io::{self, Write};
 use std::process::ExitCode;
 use std::rt::Env;
-use std::env;
 
 fn main(rt: HostRuntime) -> ExitCode {
     let alloc = rt.alloc();
