@@ -1,0 +1,5 @@
+//! Turns of several threads under one lock.
+mod counter;
+mod jobs;
+
+pub use jobs::{Outcome, count_turns};
