@@ -140,7 +140,7 @@ all_below (e ∷ es) m none =
 
 pub looks : (lock : TableId) (counts : List ℕ) (i : ℕ) (s t u : V) → HasGathered lock counts i s → Enters adder s t → u ≡ seat_with t t.seen false → HasGathered lock counts i u
 looks lock counts i s t u h e is = subst (HasGathered lock counts i) (sym (is ∙ ap (λ (x : V). seat_with x x.seen false) e.1)) (record {
-  works = h.works;
+  works = (h.works.0, refl, h.works.2);
   worker = h.worker;
   made = h.made;
   out = h.out;
