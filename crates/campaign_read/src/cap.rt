@@ -1,6 +1,7 @@
 #![tactic(auto, using(json_fields::proofs::First::in_front, json_fields::proofs::First::behind, json_fields::proofs::First::neither), unfolding(crate::specs::Parts::faults_at, crate::specs::Cap::whole_in, crate::specs::Cap::object_faults, crate::specs::Cap::object_from, crate::specs::Cap::cap_faults, crate::specs::Cap::cap_from))]
 
 ghost use Rattle.std.specs.Prelude.{◌≡◌, pos};
+ghost use Rattle.exact_json.specs.Forms.{HasForms};
 ghost use Rattle.exact_json.specs.View.{tree_of};
 ghost use Rattle.json_fields.specs.Answers.{Answers, value_or};
 ghost use Rattle.campaign_read.specs.Cap.{cap_faults, cap_from, terms_faults, terms_from, whole_in};
@@ -28,6 +29,7 @@ const SECONDS: Bounds = Bounds {
 
 // The cap, which may be absent.
 pub(crate) fn cap_field(body: &Value) -> Result<Option<Cap>, CampFault>
+    requires forms { HasForms (tree_of body.now) }
     ensures { Answers CampFault.Memory (cap_faults (tree_of body.now)) (cap_from (tree_of body.now)) result }
 {
     match fields::object(body, b"cap") {
@@ -40,6 +42,7 @@ pub(crate) fn cap_field(body: &Value) -> Result<Option<Cap>, CampFault>
 // The two numbers of a cap, in the order in which they are read.
 #[tactic(auto, using(json_fields::proofs::First::in_front, json_fields::proofs::First::behind, json_fields::proofs::First::neither), unfolding(crate::specs::Cap::terms_faults, crate::specs::Cap::terms_from))]
 fn terms_of(cap: &Value) -> Result<Option<Cap>, CampFault>
+    requires forms { HasForms (tree_of cap.now) }
     ensures { Answers CampFault.Memory (terms_faults (tree_of cap.now)) (terms_from (tree_of cap.now)) result }
 {
     let count = whole_field(cap, b"count", CampField::CapCount, &COUNT)?;
@@ -54,6 +57,7 @@ fn whole_field(
     field: CampField,
     bounds: &Bounds,
 ) -> Result<i32, CampFault>
+    requires forms { HasForms (tree_of object.now) }
     ensures { Answers CampFault.Memory (faults_at field (whole_in name.now bounds.now (tree_of object.now))) (value_or (pos 0) (whole_in name.now bounds.now (tree_of object.now))) result }
 {
     match required_whole(object, name, bounds) {
@@ -64,6 +68,7 @@ fn whole_field(
 
 #[tactic(auto, using(crate::proofs::Required::there, crate::proofs::Required::absent, crate::proofs::Required::flawed), unfolding(crate::specs::Cap::whole_in))]
 fn required_whole(object: &Value, name: &[u8], bounds: &Bounds) -> Result<i32, Flaw>
+    requires forms { HasForms (tree_of object.now) }
     ensures { result ≡ whole_in name.now bounds.now (tree_of object.now) }
 {
     match fields::whole_number(object, name, bounds) {
