@@ -1,9 +1,6 @@
 //! Cases, one after the other.
 use crate::notation::{expand, show};
-use crate::commands;
-use crate::numbers;
-use crate::streams;
-use crate::texts;
+use crate::{commands, numbers, streams, texts};
 use rtb_num::{List, Txt};
 use std::alloc::{AllocError, Global};
 
@@ -112,10 +109,12 @@ fn answer(alloc: Global, fields: &[Txt], out: &mut Txt) -> Result<bool, AllocErr
     match fields {
         [call, args @ ..] => {
             let call = call.as_bytes();
-            Ok(numbers::answer(alloc, call, args, out)?
-                || texts::answer(alloc, call, args, out)?
-                || streams::answer(alloc, call, args, out)?
-                || commands::answer(alloc, call, args, out)?)
+            Ok(
+                numbers::answer(alloc, call, args, out)?
+                    || texts::answer(alloc, call, args, out)?
+                    || streams::answer(alloc, call, args, out)?
+                    || commands::answer(alloc, call, args, out)?,
+            )
         }
         [] => Ok(false),
     }

@@ -67,7 +67,13 @@ struct Run {
 }
 
 impl Run {
-    fn of_try(self, alloc: Global, line: &[u8], input: &Txt, out: &mut Txt) -> Result<(), AllocError> {
+    fn of_try(
+        self,
+        alloc: Global,
+        line: &[u8],
+        input: &Txt,
+        out: &mut Txt,
+    ) -> Result<(), AllocError> {
         let words = words_in(alloc, line)?;
         let mut source = MemSource::new(input.copy()?, self.reads);
         let mut sink = MemSink::new(alloc, self.writes);
@@ -75,7 +81,13 @@ impl Run {
         tell(status, sink.written(), out)
     }
 
-    fn of_bench(self, alloc: Global, line: &[u8], input: &Txt, out: &mut Txt) -> Result<(), AllocError> {
+    fn of_bench(
+        self,
+        alloc: Global,
+        line: &[u8],
+        input: &Txt,
+        out: &mut Txt,
+    ) -> Result<(), AllocError> {
         let words = words_in(alloc, line)?;
         let mut source = MemSource::new(input.copy()?, self.reads);
         let mut sink = MemSink::new(alloc, self.writes);

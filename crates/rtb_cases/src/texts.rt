@@ -27,8 +27,8 @@ pub fn answer(alloc: Global, call: &[u8], args: &[Txt], out: &mut Txt) -> Result
 
 fn of_one(call: &[u8], one: &[u8], out: &mut Txt) -> Result<bool, AllocError> {
     match call {
-        b"put_u32" => match number_in(one) {
-            Some(n) => put_u32(n as u32, out)?,
+        b"put_u32" => match number_in(one).and_then(|n| u32::try_from(n).ok()) {
+            Some(n) => put_u32(n, out)?,
             None => out.extend(UNREADABLE)?,
         },
         b"put_u64" => match number_in(one) {
@@ -60,7 +60,10 @@ fn of_two(
             Some(byte) => out.push(*byte)?,
             None => out.extend(b"none")?,
         },
-        b"get_u32" => tell(get_u32(one.as_bytes(), place_in(two)).map(|n| u64::from(n)), out)?,
+        b"get_u32" => tell(
+            get_u32(one.as_bytes(), place_in(two)).map(|n| u64::from(n)),
+            out,
+        )?,
         b"get_u64" => tell(get_u64(one.as_bytes(), place_in(two)), out)?,
         b"spare_text" => tell_spare_text(alloc, one.as_bytes(), two, out)?,
         _ => return of_list(alloc, call, one.as_bytes(), two, out),
@@ -174,7 +177,12 @@ fn set(list: &mut List<u64>, place: usize, number: &[u8]) -> bool {
 }
 
 // So many items, put into that room.
-fn tell_spare_list(alloc: Global, room: &[u8], items: &[u8], out: &mut Txt) -> Result<(), AllocError> {
+fn tell_spare_list(
+    alloc: Global,
+    room: &[u8],
+    items: &[u8],
+    out: &mut Txt,
+) -> Result<(), AllocError> {
     let room = place_in(room);
     let mut list = SpareList::with_capacity(alloc, room)?;
     for number in 0..place_in(items) {
@@ -184,11 +192,19 @@ fn tell_spare_list(alloc: Global, room: &[u8], items: &[u8], out: &mut Txt) -> R
     }
     write_decimal(list.len() as u64, out)?;
     out.extend(b" items, ")?;
-    write_decimal(room.saturating_sub(list.len()).min(list.spare()) as u64, out)?;
+    write_decimal(
+        room.saturating_sub(list.len()).min(list.spare()) as u64,
+        out,
+    )?;
     out.extend(b" more fits")
 }
 
-fn tell_spare_text(alloc: Global, room: &[u8], bytes: &[u8], out: &mut Txt) -> Result<(), AllocError> {
+fn tell_spare_text(
+    alloc: Global,
+    room: &[u8],
+    bytes: &[u8],
+    out: &mut Txt,
+) -> Result<(), AllocError> {
     let room = place_in(room);
     let mut text = SpareTxt::new(alloc);
     text.reserve(room)?;
@@ -196,7 +212,10 @@ fn tell_spare_text(alloc: Global, room: &[u8], bytes: &[u8], out: &mut Txt) -> R
         text.append(bytes);
     }
     out.extend_all(&[text.as_bytes(), b", "])?;
-    write_decimal(room.saturating_sub(text.len()).min(text.spare()) as u64, out)?;
+    write_decimal(
+        room.saturating_sub(text.len()).min(text.spare()) as u64,
+        out,
+    )?;
     out.extend(b" more fits")
 }
 
