@@ -112,22 +112,46 @@ fn answer(alloc: Global, all: &[Txt], out: &mut Txt) -> Result<bool, AllocError>
     match all {
         [call, args @ ..] => {
             let call = call.as_bytes();
-            Ok(
-                numbers::answer(alloc, call, args, out)?
-                    || texts::answer(alloc, call, args, out)?
-                    || bytes::answer(alloc, call, args, out)?
-                    || streams::answer(alloc, call, args, out)?
-                    || json::answer(alloc, call, args, out)?
-                    || fields::answer(alloc, call, args, out)?
-                    || requests::answer(alloc, call, args, out)?
-                    || targeting::answer(alloc, call, args, out)?
-                    || campaigns::answer(alloc, call, args, out)?
-                    || matching::answer(alloc, call, args, out)?
-                    || finding::answer(alloc, call, args, out)?
-                    || markup::answer(alloc, call, args, out)?
-                    || sales::answer(alloc, call, args, out)?
-                    || commands::answer(alloc, call, args, out)?,
-            )
+            if numbers::answer(alloc, call, args, out)? {
+                return Ok(true);
+            }
+            if texts::answer(alloc, call, args, out)? {
+                return Ok(true);
+            }
+            if bytes::answer(alloc, call, args, out)? {
+                return Ok(true);
+            }
+            if streams::answer(alloc, call, args, out)? {
+                return Ok(true);
+            }
+            if json::answer(alloc, call, args, out)? {
+                return Ok(true);
+            }
+            if fields::answer(alloc, call, args, out)? {
+                return Ok(true);
+            }
+            if requests::answer(alloc, call, args, out)? {
+                return Ok(true);
+            }
+            if targeting::answer(alloc, call, args, out)? {
+                return Ok(true);
+            }
+            if campaigns::answer(alloc, call, args, out)? {
+                return Ok(true);
+            }
+            if matching::answer(alloc, call, args, out)? {
+                return Ok(true);
+            }
+            if finding::answer(alloc, call, args, out)? {
+                return Ok(true);
+            }
+            if markup::answer(alloc, call, args, out)? {
+                return Ok(true);
+            }
+            if sales::answer(alloc, call, args, out)? {
+                return Ok(true);
+            }
+            commands::answer(alloc, call, args, out)
         }
         [] => Ok(false),
     }

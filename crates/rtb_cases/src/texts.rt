@@ -27,8 +27,8 @@ pub fn answer(alloc: Global, call: &[u8], args: &[Txt], out: &mut Txt) -> Result
 
 fn of_one(call: &[u8], one: &[u8], out: &mut Txt) -> Result<bool, AllocError> {
     match call {
-        b"put_u32" => match number_in(one) {
-            Some(n) => put_u32(n as u32, out)?,
+        b"put_u32" => match number_in(one).and_then(|n| u32::try_from(n).ok()) {
+            Some(n) => put_u32(n, out)?,
             None => out.extend(UNREADABLE)?,
         },
         b"put_u64" => match number_in(one) {
