@@ -113,7 +113,10 @@ fn walk<L: Ledger>(
     out: &mut Txt,
 ) -> Result<(), AllocError> {
     match list_in(alloc, text)? {
-        Some(list) => walk_over(alloc, &list, moves, steps, out),
+        Some(list) => {
+            let moves = moves_in(alloc, moves)?;
+            walk_over(alloc, &list, &moves, steps, out)
+        }
         None => out.extend(b"unreadable"),
     }
 }
@@ -121,7 +124,7 @@ fn walk<L: Ledger>(
 fn walk_over<L: Ledger>(
     alloc: Global,
     list: &Postings,
-    moves: &[u8],
+    moves: &[Option<u32>],
     steps: &mut Steps<L>,
     out: &mut Txt,
 ) -> Result<(), AllocError> {
@@ -130,23 +133,32 @@ fn walk_over<L: Ledger>(
     cursor.load(steps);
     out.push(b' ')?;
     put_entry(alloc, cursor.current(), out)?;
-    for word in moves.split(|c| *c == b' ') {
-        step(&mut cursor, word, steps);
+    for to in moves {
+        step(&mut cursor, *to, steps);
         out.push(b' ')?;
         put_entry(alloc, cursor.current(), out)?;
     }
     Ok(())
 }
 
-// A step is `next`, or a number to skip to.
-fn step<L: Ledger>(cursor: &mut Cursor, word: &[u8], steps: &mut Steps<L>)
+// To the next entry, or to the first whose number is at least this one.
+fn step<L: Ledger>(cursor: &mut Cursor, to: Option<u32>, steps: &mut Steps<L>)
     requires { cursor.old.loaded ≡ true }
     ensures { cursor.new.loaded ≡ true }
 {
-    match number_in(word) {
+    match to {
         Some(id) => cursor.skip_to(id, steps),
         None => cursor.advance(steps),
     }
+}
+
+// A step is `next`, or a number to skip to.
+fn moves_in(alloc: Global, text: &[u8]) -> Result<Vec<Option<u32>>, AllocError> {
+    let mut moves = Vec::new(alloc);
+    for word in text.split(|c| *c == b' ') {
+        moves.push(number_in(word))?;
+    }
+    Ok(moves)
 }
 
 fn find_matches<L: Ledger>(
