@@ -1,6 +1,9 @@
 //! The program `rtbx`: runs the command that its words name, and ends with its status.
 #![tactic(auto)]
 
+ghost use Rattle.std.specs.Prelude.{◌≢◌};
+ghost use Rattle.rtb_io.specs.declared.status.Status.TheVariants.{NotWritten};
+
 use exchange_run::{end_with, explain, try_run};
 use rtb_io::Status;
 use rtb_num::{StdSink, StdSource, Txt};
@@ -34,7 +37,9 @@ fn words_of<R: Env + AllocGlobal>(rt: &R) -> io::Result<Vec<Txt>> {
 }
 
 // Words that are not UTF-8 are of no command.
-fn status_of(fault: &io::Error) -> Status {
+fn status_of(fault: &io::Error) -> Status
+    ensures { result ≢ NotWritten }
+{
     match fault.kind() {
         io::ErrorKind::OutOfMemory => Status::Memory,
         _ => Status::Usage,
