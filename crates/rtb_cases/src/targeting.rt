@@ -41,10 +41,17 @@ pub fn answer(alloc: Global, call: &[u8], args: &[Txt], out: &mut Txt) -> Result
         (b"request_holds", [campaign, request, imp]) => {
             held_by(alloc, campaign, (request, imp), out)?
         }
-        (_, [written]) => return of_expr(alloc, call, written, out),
-        _ => return Ok(false),
+        _ => return of_one(alloc, call, args, out),
     }
     Ok(true)
+}
+
+// The calls that take an expression alone.
+fn of_one(alloc: Global, call: &[u8], args: &[Txt], out: &mut Txt) -> Result<bool, AllocError> {
+    match args {
+        [written] => of_expr(alloc, call, written, out),
+        _ => Ok(false),
+    }
 }
 
 // The calls that take an expression alone.
