@@ -1,21 +1,17 @@
 //! The program `rtb_cases`: reads cases of public calls, a line each, and prints those that are
 //! answered otherwise than they say.
 //!
-//! A case is `CALL | ARG | .. | ARG => ANSWER`. Lines that begin with `#` are comments, and blank
-//! lines are passed over. `notation.rt` says what stands in a field; each area has a module with
-//! its calls.
+//! `case_lines` says what a case is; each area has a module with its calls.
 #![tactic(auto)]
 
 mod bytes;
 mod campaigns;
-mod cases;
 mod commands;
 mod fields;
 mod finding;
 mod json;
 mod markup;
 mod matching;
-mod notation;
 mod numbers;
 mod requests;
 mod sales;
@@ -24,29 +20,63 @@ mod targeting;
 mod texts;
 mod trees;
 
-use cases::report_on;
-use rtb_io::{read_all, write_all};
-use rtb_num::{StdSink, StdSource};
-use std::alloc::AllocError;
+use case_lines::{Areas, run_cases};
+use rtb_num::{StdSink, StdSource, Txt};
+use std::alloc::{AllocError, Global};
 use std::io;
 use std::process::ExitCode;
 
-/// The longest list of cases, in bytes.
-const MOST_BYTES: usize = 4_194_304;
-
 // The report on all cases of standard input, or the status of what stood in the way.
 fn main(rt: HostRuntime) -> ExitCode {
-    let alloc = rt.alloc();
     let mut source = StdSource::new(rt.reader());
     let mut sink = StdSink::new(io::writer(&rt));
-    let Ok(input) = read_all(alloc, &mut source, MOST_BYTES) else {
-        return ExitCode::from(10);
-    };
-    match report_on(alloc, input.as_bytes()) {
-        Ok(report) => match write_all(&mut sink, report.as_bytes()) {
-            Ok(()) => ExitCode::from(0),
-            Err(_) => ExitCode::from(7),
-        },
-        Err(AllocError) => ExitCode::from(9),
+    ExitCode::from(run_cases::<Exchange, _, _>(rt.alloc(), &mut source, &mut sink))
+}
+
+// The areas of the exchange's crates.
+struct Exchange;
+
+impl Areas for Exchange {
+    fn answer(alloc: Global, call: &[u8], args: &[Txt], out: &mut Txt) -> Result<bool, AllocError> {
+        if numbers::answer(alloc, call, args, out)? {
+            return Ok(true);
+        }
+        if texts::answer(alloc, call, args, out)? {
+            return Ok(true);
+        }
+        if bytes::answer(alloc, call, args, out)? {
+            return Ok(true);
+        }
+        if streams::answer(alloc, call, args, out)? {
+            return Ok(true);
+        }
+        if json::answer(alloc, call, args, out)? {
+            return Ok(true);
+        }
+        if fields::answer(alloc, call, args, out)? {
+            return Ok(true);
+        }
+        if requests::answer(alloc, call, args, out)? {
+            return Ok(true);
+        }
+        if targeting::answer(alloc, call, args, out)? {
+            return Ok(true);
+        }
+        if campaigns::answer(alloc, call, args, out)? {
+            return Ok(true);
+        }
+        if matching::answer(alloc, call, args, out)? {
+            return Ok(true);
+        }
+        if finding::answer(alloc, call, args, out)? {
+            return Ok(true);
+        }
+        if markup::answer(alloc, call, args, out)? {
+            return Ok(true);
+        }
+        if sales::answer(alloc, call, args, out)? {
+            return Ok(true);
+        }
+        commands::answer(alloc, call, args, out)
     }
 }

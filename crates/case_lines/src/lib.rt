@@ -1,0 +1,12 @@
+//! Cases of public calls, a line each, for the programs that run them.
+//!
+//! A case is `CALL | ARG | .. | ARG => ANSWER`. Lines that begin with `#` are comments, and blank
+//! lines are passed over. `notation.rt` says what stands in a field. A program has its calls behind
+//! [`Areas`] and hands its input to [`run_cases`]. The code of this crate and of such a program owes
+//! safety alone: what it shows is printed and compared.
+#![tactic(auto)]
+
+mod notation;
+mod report;
+
+pub use report::{Areas, run_cases};
