@@ -12,6 +12,20 @@ use rtb_types::{App, Banner, Device, Geo, Imp, Site, User};
 use std::alloc::{AllocError, Global};
 use target_expr::Attr;
 
+/// Appends the rows of the site.
+pub(crate) fn push_site(
+    pairs: &mut List<(Attr, Txt)>,
+    site: Option<&Site>,
+) -> Result<(), AllocError>
+    ensures { OnOk result (pairs.new ≡ pairs.old ++ flat_map present (site_rows (option_map (λ s. s.now) site.entry))) }
+{
+    if let Some(site) = site {
+        push_text(pairs, Attr::Domain, site.domain.as_ref())?;
+        push_text(pairs, Attr::Site, site.id.as_ref())?;
+    }
+    Ok(())
+}
+
 // Appends the row of a text, where it is present.
 fn push_text(
     pairs: &mut List<(Attr, Txt)>,
@@ -27,46 +41,6 @@ fn push_text(
     Ok(())
 }
 
-// The decimal text of a number.
-fn decimal_text(alloc: Global, n: i32) -> Result<Txt, AllocError>
-    ensures { IfOk result (λ t. t ≡ signed_decimal n) }
-{
-    let mut text = Txt::new(alloc);
-    let mut buffer = Buffer::new();
-    text.extend(buffer.format(n).as_bytes())?;
-    Ok(text)
-}
-
-// Appends the row of a number, where it is present.
-fn push_number(
-    alloc: Global,
-    pairs: &mut List<(Attr, Txt)>,
-    attr: Attr,
-    number: Option<i32>,
-) -> Result<(), AllocError>
-    ensures { OnOk result (pairs.new ≡ pairs.old ++ present (attr, number_text number)) }
-{
-    if let Some(n) = number {
-        let value = decimal_text(alloc, n)?;
-        pairs.push((attr, value))?;
-    }
-    Ok(())
-}
-
-/// Appends the rows of the site.
-pub(crate) fn push_site(
-    pairs: &mut List<(Attr, Txt)>,
-    site: Option<&Site>,
-) -> Result<(), AllocError>
-    ensures { OnOk result (pairs.new ≡ pairs.old ++ flat_map present (site_rows (option_map (λ s. s.now) site.entry))) }
-{
-    if let Some(site) = site {
-        push_text(pairs, Attr::Domain, site.domain.as_ref())?;
-        push_text(pairs, Attr::Site, site.id.as_ref())?;
-    }
-    Ok(())
-}
-
 /// Appends the rows of the app.
 pub(crate) fn push_app(pairs: &mut List<(Attr, Txt)>, app: Option<&App>) -> Result<(), AllocError>
     ensures { OnOk result (pairs.new ≡ pairs.old ++ flat_map present (app_rows (option_map (λ a. a.now) app.entry))) }
@@ -76,6 +50,27 @@ pub(crate) fn push_app(pairs: &mut List<(Attr, Txt)>, app: Option<&App>) -> Resu
         push_text(pairs, Attr::App, app.id.as_ref())?;
     }
     Ok(())
+}
+
+/// Appends the row of the publisher.
+pub(crate) fn push_publisher(
+    pairs: &mut List<(Attr, Txt)>,
+    site: Option<&Site>,
+    app: Option<&App>,
+) -> Result<(), AllocError>
+    ensures { OnOk result (pairs.new ≡ pairs.old ++ present (Publisher, publisher_of (option_map (λ s. s.now) site.entry) (option_map (λ a. a.now) app.entry))) }
+{
+    push_text(pairs, Attr::Publisher, publisher(site, app))
+}
+
+// The site's publisher, or else the app's.
+fn publisher<'a>(site: Option<&'a Site>, app: Option<&'a App>) -> Option<&'a Txt>
+    ensures { option_map (λ t. t.now) result ≡ publisher_of (option_map (λ s. s.now) site.entry) (option_map (λ a. a.now) app.entry) }
+{
+    match site_publisher(site) {
+        Some(publisher) => Some(publisher),
+        None => app_publisher(app),
+    }
 }
 
 fn site_publisher(site: Option<&Site>) -> Option<&Txt>
@@ -94,27 +89,6 @@ fn app_publisher(app: Option<&App>) -> Option<&Txt>
         Some(app) => app.publisher.as_ref(),
         None => None,
     }
-}
-
-// The site's publisher, or else the app's.
-fn publisher<'a>(site: Option<&'a Site>, app: Option<&'a App>) -> Option<&'a Txt>
-    ensures { option_map (λ t. t.now) result ≡ publisher_of (option_map (λ s. s.now) site.entry) (option_map (λ a. a.now) app.entry) }
-{
-    match site_publisher(site) {
-        Some(publisher) => Some(publisher),
-        None => app_publisher(app),
-    }
-}
-
-/// Appends the row of the publisher.
-pub(crate) fn push_publisher(
-    pairs: &mut List<(Attr, Txt)>,
-    site: Option<&Site>,
-    app: Option<&App>,
-) -> Result<(), AllocError>
-    ensures { OnOk result (pairs.new ≡ pairs.old ++ present (Publisher, publisher_of (option_map (λ s. s.now) site.entry) (option_map (λ a. a.now) app.entry))) }
-{
-    push_text(pairs, Attr::Publisher, publisher(site, app))
 }
 
 /// Appends the rows of the device's place.
@@ -152,6 +126,32 @@ pub(crate) fn push_device(
     Ok(())
 }
 
+// Appends the row of a number, where it is present.
+fn push_number(
+    alloc: Global,
+    pairs: &mut List<(Attr, Txt)>,
+    attr: Attr,
+    number: Option<i32>,
+) -> Result<(), AllocError>
+    ensures { OnOk result (pairs.new ≡ pairs.old ++ present (attr, number_text number)) }
+{
+    if let Some(n) = number {
+        let value = decimal_text(alloc, n)?;
+        pairs.push((attr, value))?;
+    }
+    Ok(())
+}
+
+// The decimal text of a number.
+fn decimal_text(alloc: Global, n: i32) -> Result<Txt, AllocError>
+    ensures { IfOk result (λ t. t ≡ signed_decimal n) }
+{
+    let mut text = Txt::new(alloc);
+    let mut buffer = Buffer::new();
+    text.extend(buffer.format(n).as_bytes())?;
+    Ok(text)
+}
+
 /// Appends the rows of the user.
 pub(crate) fn push_user(
     alloc: Global,
@@ -167,15 +167,6 @@ pub(crate) fn push_user(
     Ok(())
 }
 
-fn pos_of(banner: Option<&Banner>) -> Option<i32>
-    ensures { result ≡ option_and_then (λ b. b.pos) (option_map (λ b. b.now) banner.entry) }
-{
-    match banner {
-        Some(banner) => banner.pos,
-        None => None,
-    }
-}
-
 /// Appends the rows of the impression.
 pub(crate) fn push_imp(
     alloc: Global,
@@ -187,4 +178,13 @@ pub(crate) fn push_imp(
     push_text(pairs, Attr::TagId, imp.tagid.as_ref())?;
     push_number(alloc, pairs, Attr::Pos, pos_of(imp.banner.as_ref()))?;
     Ok(())
+}
+
+fn pos_of(banner: Option<&Banner>) -> Option<i32>
+    ensures { result ≡ option_and_then (λ b. b.pos) (option_map (λ b. b.now) banner.entry) }
+{
+    match banner {
+        Some(banner) => banner.pos,
+        None => None,
+    }
 }

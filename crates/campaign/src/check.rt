@@ -30,13 +30,6 @@ pub(crate) fn first_fault(parts: &FactParts) -> Option<FactFault>
         .or(adid_fault(&parts.adid))
 }
 
-// Whether it has 1 to 255 bytes.
-fn is_text(text: &Txt) -> bool
-    ensures { result ≡ is_text text.now }
-{
-    1 <= text.len() && text.len() <= LONGEST_TEXT
-}
-
 fn text_fault(field: CampField, text: &Txt) -> Option<FactFault>
     ensures { result ≡ slice_get (text_faults field text.now) 0 }
 {
@@ -47,18 +40,11 @@ fn text_fault(field: CampField, text: &Txt) -> Option<FactFault>
     }
 }
 
-// Whether a list may have so many items.
-fn is_few(items: usize) -> bool
-    ensures { result ≡ nat_le items 64 }
+// Whether it has 1 to 255 bytes.
+fn is_text(text: &Txt) -> bool
+    ensures { result ≡ is_text text.now }
 {
-    items <= MOST_ITEMS
-}
-
-// The place of the first text that is empty or too long.
-fn first_misfit(texts: &[Txt]) -> Option<usize>
-    ensures { result ≡ position (λ t. not (is_text t)) texts.now }
-{
-    texts.iter().position(|text| !is_text(text))
+    1 <= text.len() && text.len() <= LONGEST_TEXT
 }
 
 fn cat_fault(cat: &[Txt]) -> Option<FactFault>
@@ -75,25 +61,18 @@ fn cat_fault(cat: &[Txt]) -> Option<FactFault>
     })
 }
 
-fn deals_fault(deals: &[Txt]) -> Option<FactFault>
-    ensures { result ≡ slice_get (texts_faults Deals DealsItem deals.now) 0 }
+// Whether a list may have so many items.
+fn is_few(items: usize) -> bool
+    ensures { result ≡ nat_le items 64 }
 {
-    if !is_few(deals.len()) {
-        return Some(FactFault::ListLength {
-            field: CampField::Deals,
-        });
-    }
-    let at = first_misfit(deals)?;
-    Some(FactFault::TextLength {
-        field: CampField::DealsItem(at),
-    })
+    items <= MOST_ITEMS
 }
 
-// Whether it has 1 to 32767 pixels.
-fn is_side(pixels: i32) -> bool
-    ensures { result ≡ is_side pixels }
+// The place of the first text that is empty or too long.
+fn first_misfit(texts: &[Txt]) -> Option<usize>
+    ensures { result ≡ position (λ t. not (is_text t)) texts.now }
 {
-    1 <= pixels && pixels <= LONGEST_SIDE
+    texts.iter().position(|text| !is_text(text))
 }
 
 fn size_fault(w: Option<i32>, h: Option<i32>) -> Option<FactFault>
@@ -107,17 +86,11 @@ fn size_fault(w: Option<i32>, h: Option<i32>) -> Option<FactFault>
     if is_size { None } else { Some(FactFault::Size) }
 }
 
-// The place of the first negative number.
-fn first_negative(ints: &[i32]) -> Option<usize>
-    ensures place { result ≡ position (λ z. not (int_le (pos 0) z)) ints.now }
-    ensures range { IfNone result (All (FitsSigned w32) ints.now) }
+// Whether it has 1 to 32767 pixels.
+fn is_side(pixels: i32) -> bool
+    ensures { result ≡ is_side pixels }
 {
-    for (at, n) in ints.iter().enumerate() {
-        if *n < 0 {
-            return Some(at);
-        }
-    }
-    None
+    1 <= pixels && pixels <= LONGEST_SIDE
 }
 
 fn attr_fault(attr: &[i32]) -> Option<FactFault>
@@ -135,6 +108,19 @@ fn attr_fault(attr: &[i32]) -> Option<FactFault>
     })
 }
 
+// The place of the first negative number.
+fn first_negative(ints: &[i32]) -> Option<usize>
+    ensures place { result ≡ position (λ z. not (int_le (pos 0) z)) ints.now }
+    ensures range { IfNone result (All (FitsSigned w32) ints.now) }
+{
+    for (at, n) in ints.iter().enumerate() {
+        if *n < 0 {
+            return Some(at);
+        }
+    }
+    None
+}
+
 fn bid_fault(bid: Micros) -> Option<FactFault>
     ensures value { result ≡ slice_get (fault_unless (nat_le 1 bid) BidZero) 0 }
     ensures range { bid ≤ 10 ^ 12 }
@@ -144,6 +130,20 @@ fn bid_fault(bid: Micros) -> Option<FactFault>
     } else {
         Some(FactFault::BidZero)
     }
+}
+
+fn deals_fault(deals: &[Txt]) -> Option<FactFault>
+    ensures { result ≡ slice_get (texts_faults Deals DealsItem deals.now) 0 }
+{
+    if !is_few(deals.len()) {
+        return Some(FactFault::ListLength {
+            field: CampField::Deals,
+        });
+    }
+    let at = first_misfit(deals)?;
+    Some(FactFault::TextLength {
+        field: CampField::DealsItem(at),
+    })
 }
 
 fn markup_fault(adm: &Txt) -> Option<FactFault>

@@ -6,44 +6,20 @@ use itoa::Buffer;
 use rtb_num::Txt;
 use std::alloc::AllocError;
 
-// Appends these bytes, or nothing.
-fn put(bytes: &[u8], out: &mut Txt) -> Result<(), AllocError>
-    ensures ok { OnOk result (out.new ≡ out.old ++ bytes.now) }
-    ensures grows { (more : List ℕ) × (out.new ≡ out.old ++ more) }
-{
-    out.extend(bytes)
-}
-
-// Appends a place in an array, or a front of it.
-fn put_place(index: usize, out: &mut Txt) -> Result<(), AllocError>
-    ensures ok { OnOk result (out.new ≡ out.old ++ place index) }
-    ensures grows { (more : List ℕ) × (out.new ≡ out.old ++ more) }
-{
-    let mut buffer = Buffer::new();
-    put(b"[", out)?;
-    put(buffer.format(index).as_bytes(), out)?;
-    put(b"]", out)?;
-    Ok(())
-}
-
-// Appends a name and a place in its list, or a front of it.
-fn put_item(name: &[u8], index: usize, out: &mut Txt) -> Result<(), AllocError>
-    ensures ok { OnOk result (out.new ≡ out.old ++ (name.now ++ place index)) }
-    ensures grows { (more : List ℕ) × (out.new ≡ out.old ++ more) }
-{
-    put(name, out)?;
-    put_place(index, out)?;
-    Ok(())
-}
-
-// Appends the path of a predicate, or a front of it.
-fn put_predicate(conjunction: usize, predicate: usize, out: &mut Txt) -> Result<(), AllocError>
-    ensures ok { OnOk result (out.new ≡ out.old ++ predicate_path conjunction predicate) }
-    ensures grows { (more : List ℕ) × (out.new ≡ out.old ++ more) }
-{
-    put_item(b"target", conjunction, out)?;
-    put_place(predicate, out)?;
-    Ok(())
+impl CampField {
+    /// Appends its path, as `cat[2]` and `target[0][1].in[3]`. Where memory is refused the text stays
+    /// as it was.
+    pub fn write(&self, out: &mut Txt) -> Result<(), AllocError>
+        ensures ok { OnOk result (out.new ≡ out.old ++ camp_path self.now) }
+        ensures err { OnErr result (out.new ≡ out.old) }
+    {
+        let before = out.len();
+        let written = put_path(self, out);
+        if written.is_err() {
+            out.truncate(before);
+        }
+        written
+    }
 }
 
 // Appends the path of the field, or a front of it.
@@ -98,18 +74,42 @@ fn put_path(field: &CampField, out: &mut Txt) -> Result<(), AllocError>
     Ok(())
 }
 
-impl CampField {
-    /// Appends its path, as `cat[2]` and `target[0][1].in[3]`. Where memory is refused the text stays
-    /// as it was.
-    pub fn write(&self, out: &mut Txt) -> Result<(), AllocError>
-        ensures ok { OnOk result (out.new ≡ out.old ++ camp_path self.now) }
-        ensures err { OnErr result (out.new ≡ out.old) }
-    {
-        let before = out.len();
-        let written = put_path(self, out);
-        if written.is_err() {
-            out.truncate(before);
-        }
-        written
-    }
+// Appends these bytes, or nothing.
+fn put(bytes: &[u8], out: &mut Txt) -> Result<(), AllocError>
+    ensures ok { OnOk result (out.new ≡ out.old ++ bytes.now) }
+    ensures grows { (more : List ℕ) × (out.new ≡ out.old ++ more) }
+{
+    out.extend(bytes)
+}
+
+// Appends a name and a place in its list, or a front of it.
+fn put_item(name: &[u8], index: usize, out: &mut Txt) -> Result<(), AllocError>
+    ensures ok { OnOk result (out.new ≡ out.old ++ (name.now ++ place index)) }
+    ensures grows { (more : List ℕ) × (out.new ≡ out.old ++ more) }
+{
+    put(name, out)?;
+    put_place(index, out)?;
+    Ok(())
+}
+
+// Appends a place in an array, or a front of it.
+fn put_place(index: usize, out: &mut Txt) -> Result<(), AllocError>
+    ensures ok { OnOk result (out.new ≡ out.old ++ place index) }
+    ensures grows { (more : List ℕ) × (out.new ≡ out.old ++ more) }
+{
+    let mut buffer = Buffer::new();
+    put(b"[", out)?;
+    put(buffer.format(index).as_bytes(), out)?;
+    put(b"]", out)?;
+    Ok(())
+}
+
+// Appends the path of a predicate, or a front of it.
+fn put_predicate(conjunction: usize, predicate: usize, out: &mut Txt) -> Result<(), AllocError>
+    ensures ok { OnOk result (out.new ≡ out.old ++ predicate_path conjunction predicate) }
+    ensures grows { (more : List ℕ) × (out.new ≡ out.old ++ more) }
+{
+    put_item(b"target", conjunction, out)?;
+    put_place(predicate, out)?;
+    Ok(())
 }

@@ -16,12 +16,6 @@ use json_fields::{Bounds, ListFlaw};
 use rtb_num::{List, Txt};
 use std::alloc::Global;
 
-// An attribute of the creative is not negative.
-const ATTR: Bounds = Bounds {
-    least: 0,
-    greatest: i32::MAX,
-};
-
 // A list of a campaign, or of a predicate by the places of its conjunction and of its own.
 #[derive(Clone, Copy)]
 pub(crate) enum ListField {
@@ -72,16 +66,6 @@ impl ListField {
     }
 }
 
-fn list_fault(list: ListField, flaw: ListFlaw) -> CampFault
-    ensures { result ≡ list_fault list flaw }
-{
-    match flaw {
-        ListFlaw::Whole(flaw) => fault(list.whole(), flaw),
-        ListFlaw::Item(place, flaw) => fault(list.item(place), flaw),
-        ListFlaw::Memory => CampFault::Memory,
-    }
-}
-
 // A list of texts, which may be absent.
 pub(crate) fn texts_field(
     alloc: Global,
@@ -95,6 +79,22 @@ pub(crate) fn texts_field(
         Err(flaw) => Err(list_fault(list, flaw)),
     }
 }
+
+fn list_fault(list: ListField, flaw: ListFlaw) -> CampFault
+    ensures { result ≡ list_fault list flaw }
+{
+    match flaw {
+        ListFlaw::Whole(flaw) => fault(list.whole(), flaw),
+        ListFlaw::Item(place, flaw) => fault(list.item(place), flaw),
+        ListFlaw::Memory => CampFault::Memory,
+    }
+}
+
+// An attribute of the creative is not negative.
+const ATTR: Bounds = Bounds {
+    least: 0,
+    greatest: i32::MAX,
+};
 
 // The attributes of the creative, which may be absent.
 pub(crate) fn attr_field(alloc: Global, object: &Value) -> Result<List<i32>, CampFault>

@@ -18,12 +18,6 @@ use json_fields::{Bounds, Flaw};
 use rtb_num::{Micros, Nanos, Txt};
 use std::alloc::{AllocError, Global};
 
-// A side of the creative has 1 to 32767 pixels.
-const SIDE: Bounds = Bounds {
-    least: 1,
-    greatest: 32_767,
-};
-
 // The flaw of the field.
 pub(crate) fn fault(field: CampField, flaw: Flaw) -> CampFault
     ensures { result ≡ fault_of field flaw }
@@ -46,23 +40,49 @@ pub(crate) fn text_field(object: &Value, name: &[u8], field: CampField) -> Resul
     }
 }
 
-fn copy_of(text: Option<&Txt>) -> Result<Option<Txt>, AllocError>
-    ensures { IfOk result (λ t. t ≡ option_map (λ s. s.now) text.entry) }
+// The fields other than the target, in the order in which they are read.
+#[tactic(auto, using(json_fields::proofs::First::in_front, json_fields::proofs::First::behind, json_fields::proofs::First::neither), unfolding(crate::specs::Campaign::parts_faults, crate::specs::Campaign::parts_from))]
+pub(crate) fn parts_in(alloc: Global, body: &Value) -> Result<FactParts, CampFault>
+    requires forms { HasForms (tree_of body.now) }
+    ensures { Answers CampFault.Memory (parts_faults (tree_of body.now)) (parts_from (tree_of body.now)) result }
 {
-    match text {
-        Some(text) => Ok(Some(text.copy()?)),
-        None => Ok(None),
-    }
+    let seat = text_field(body, b"seat", CampField::Seat)?;
+    let adomain = text_field(body, b"adomain", CampField::Adomain)?;
+    let cat = texts_field(alloc, body, ListField::Cat)?;
+    let w = side_field(body, b"w", CampField::W)?;
+    let h = side_field(body, b"h", CampField::H)?;
+    let attr = attr_field(alloc, body)?;
+    let secure = secure_field(body)?;
+    let bid = amount_field(body, b"bid", CampField::Bid)?;
+    let deals = texts_field(alloc, body, ListField::Deals)?;
+    let budget = nanos(amount_field(body, b"budget", CampField::Budget)?);
+    let adm = text_field(body, b"adm", CampField::Adm)?;
+    let crid = text_field(body, b"crid", CampField::Crid)?;
+    let adid = adid_field(body)?;
+    let cap = cap_field(body)?;
+    Ok(FactParts {
+        seat,
+        adomain,
+        cat,
+        w,
+        h,
+        attr,
+        secure,
+        bid,
+        deals,
+        budget,
+        adm,
+        crid,
+        adid,
+        cap,
+    })
 }
 
-fn adid_field(body: &Value) -> Result<Option<Txt>, CampFault>
-    ensures { Answers CampFault.Memory (faults_at CampField.Adid (optional as_text (present (codes "adid") (tree_of body.now)))) (value_or None (optional as_text (present (codes "adid") (tree_of body.now)))) result }
-{
-    match fields::text(body, b"adid") {
-        Ok(found) => Ok(copy_of(found)?),
-        Err(flaw) => Err(fault(CampField::Adid, flaw)),
-    }
-}
+// A side of the creative has 1 to 32767 pixels.
+const SIDE: Bounds = Bounds {
+    least: 1,
+    greatest: 32_767,
+};
 
 // A side of the creative, which may be absent.
 fn side_field(body: &Value, name: &[u8], field: CampField) -> Result<Option<i32>, CampFault>
@@ -103,40 +123,20 @@ fn nanos(amount: Micros) -> Nanos
     Nanos::new(amount.get() * 1000).unwrap()
 }
 
-// The fields other than the target, in the order in which they are read.
-#[tactic(auto, using(json_fields::proofs::First::in_front, json_fields::proofs::First::behind, json_fields::proofs::First::neither), unfolding(crate::specs::Campaign::parts_faults, crate::specs::Campaign::parts_from))]
-pub(crate) fn parts_in(alloc: Global, body: &Value) -> Result<FactParts, CampFault>
-    requires forms { HasForms (tree_of body.now) }
-    ensures { Answers CampFault.Memory (parts_faults (tree_of body.now)) (parts_from (tree_of body.now)) result }
+fn adid_field(body: &Value) -> Result<Option<Txt>, CampFault>
+    ensures { Answers CampFault.Memory (faults_at CampField.Adid (optional as_text (present (codes "adid") (tree_of body.now)))) (value_or None (optional as_text (present (codes "adid") (tree_of body.now)))) result }
 {
-    let seat = text_field(body, b"seat", CampField::Seat)?;
-    let adomain = text_field(body, b"adomain", CampField::Adomain)?;
-    let cat = texts_field(alloc, body, ListField::Cat)?;
-    let w = side_field(body, b"w", CampField::W)?;
-    let h = side_field(body, b"h", CampField::H)?;
-    let attr = attr_field(alloc, body)?;
-    let secure = secure_field(body)?;
-    let bid = amount_field(body, b"bid", CampField::Bid)?;
-    let deals = texts_field(alloc, body, ListField::Deals)?;
-    let budget = nanos(amount_field(body, b"budget", CampField::Budget)?);
-    let adm = text_field(body, b"adm", CampField::Adm)?;
-    let crid = text_field(body, b"crid", CampField::Crid)?;
-    let adid = adid_field(body)?;
-    let cap = cap_field(body)?;
-    Ok(FactParts {
-        seat,
-        adomain,
-        cat,
-        w,
-        h,
-        attr,
-        secure,
-        bid,
-        deals,
-        budget,
-        adm,
-        crid,
-        adid,
-        cap,
-    })
+    match fields::text(body, b"adid") {
+        Ok(found) => Ok(copy_of(found)?),
+        Err(flaw) => Err(fault(CampField::Adid, flaw)),
+    }
+}
+
+fn copy_of(text: Option<&Txt>) -> Result<Option<Txt>, AllocError>
+    ensures { IfOk result (λ t. t ≡ option_map (λ s. s.now) text.entry) }
+{
+    match text {
+        Some(text) => Ok(Some(text.copy()?)),
+        None => Ok(None),
+    }
 }

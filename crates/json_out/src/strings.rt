@@ -5,12 +5,31 @@ ghost use Rattle.json_out.specs.Strings.{IsString, escaped, hexadecimal, quoted}
 use rtb_num::Txt;
 use std::alloc::AllocError;
 
-// A hexadecimal digit, in lower case.
-fn hexadecimal(n: u8) -> u8
-    requires { n < 16 }
-    ensures { result ≡ hexadecimal n }
+/// Appends the string of these bytes; where memory is refused, its front may stay.
+pub fn push_string(out: &mut Txt, text: &[u8]) -> Result<(), AllocError>
+    ensures ok { OnOk result (out.new ≡ out.old ++ quoted text.now) }
+    ensures front { (more : List ℕ) × (out.new ≡ out.old ++ more) }
 {
-    if n < 10 { b'0' + n } else { b'a' + (n - 10) }
+    out.push(b'"')?;
+    push_escaped(out, text)?;
+    out.push(b'"')
+}
+
+// Appends the inside of a string; where memory is refused, its front may stay.
+fn push_escaped(out: &mut Txt, text: &[u8]) -> Result<(), AllocError>
+    ensures ok { OnOk result (out.new ≡ out.old ++ flat_map escaped text.now) }
+    ensures front { (more : List ℕ) × (out.new ≡ out.old ++ more) }
+{
+    let mut rest = text;
+    loop {
+        let plain = plain_len(rest);
+        out.extend(&rest[..plain])?;
+        let Some((byte, behind)) = rest[plain..].split_first() else {
+            return Ok(());
+        };
+        push_byte(out, *byte)?;
+        rest = behind;
+    }
 }
 
 // How many bytes at the front stand in a string as they are.
@@ -49,31 +68,12 @@ fn push_control(out: &mut Txt, byte: u8) -> Result<(), AllocError>
     out.extend(&[b'\\', b'u', b'0', b'0', high, low])
 }
 
-// Appends the inside of a string; where memory is refused, its front may stay.
-fn push_escaped(out: &mut Txt, text: &[u8]) -> Result<(), AllocError>
-    ensures ok { OnOk result (out.new ≡ out.old ++ flat_map escaped text.now) }
-    ensures front { (more : List ℕ) × (out.new ≡ out.old ++ more) }
+// A hexadecimal digit, in lower case.
+fn hexadecimal(n: u8) -> u8
+    requires { n < 16 }
+    ensures { result ≡ hexadecimal n }
 {
-    let mut rest = text;
-    loop {
-        let plain = plain_len(rest);
-        out.extend(&rest[..plain])?;
-        let Some((byte, behind)) = rest[plain..].split_first() else {
-            return Ok(());
-        };
-        push_byte(out, *byte)?;
-        rest = behind;
-    }
-}
-
-/// Appends the string of these bytes; where memory is refused, its front may stay.
-pub fn push_string(out: &mut Txt, text: &[u8]) -> Result<(), AllocError>
-    ensures ok { OnOk result (out.new ≡ out.old ++ quoted text.now) }
-    ensures front { (more : List ℕ) × (out.new ≡ out.old ++ more) }
-{
-    out.push(b'"')?;
-    push_escaped(out, text)?;
-    out.push(b'"')
+    if n < 10 { b'0' + n } else { b'a' + (n - 10) }
 }
 
 /// Appends a name and the colon behind it; where memory is refused, its front may stay.

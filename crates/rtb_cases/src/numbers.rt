@@ -26,6 +26,39 @@ pub fn answer(alloc: Global, call: &[u8], args: &[Txt], out: &mut Txt) -> Result
     Ok(true)
 }
 
+fn say(out: &mut Txt, yes: bool) -> Result<(), AllocError> {
+    out.extend(if yes {
+        b"yes".as_slice()
+    } else {
+        b"no".as_slice()
+    })
+}
+
+fn micros_text(text: &[u8], out: &mut Txt) -> Result<(), AllocError> {
+    match number_in(text) {
+        Some(n) => match Micros::new(n) {
+            Some(m) => write_micros(m, out),
+            None => out.extend(b"too-large"),
+        },
+        None => out.extend(b"unreadable"),
+    }
+}
+
+// A whole number of 64 bits.
+fn number_in(text: &[u8]) -> Option<u64> {
+    str::from_utf8(text).ok()?.parse::<u64>().ok()
+}
+
+fn nanos_text(text: &[u8], out: &mut Txt) -> Result<(), AllocError> {
+    match number_in(text) {
+        Some(n) => match Nanos::new(n) {
+            Some(m) => write_nanos(m, out),
+            None => out.extend(b"too-large"),
+        },
+        None => out.extend(b"unreadable"),
+    }
+}
+
 // The calls that take a number of JSON.
 fn of_number(alloc: Global, call: &[u8], text: &[u8], out: &mut Txt) -> Result<bool, AllocError> {
     if !is_number(text) {
@@ -44,14 +77,6 @@ fn of_number(alloc: Global, call: &[u8], text: &[u8], out: &mut Txt) -> Result<b
     Ok(true)
 }
 
-fn say(out: &mut Txt, yes: bool) -> Result<(), AllocError> {
-    out.extend(if yes {
-        b"yes".as_slice()
-    } else {
-        b"no".as_slice()
-    })
-}
-
 fn amount(
     alloc: Global,
     amount: Result<Micros, PriceFault>,
@@ -65,30 +90,5 @@ fn amount(
         Err(PriceFault::Negative) => out.extend(b"negative"),
         Err(PriceFault::TooLarge) => out.extend(b"too-large"),
         Err(PriceFault::TooFine) => out.extend(b"too-fine"),
-    }
-}
-
-// A whole number of 64 bits.
-fn number_in(text: &[u8]) -> Option<u64> {
-    str::from_utf8(text).ok()?.parse::<u64>().ok()
-}
-
-fn micros_text(text: &[u8], out: &mut Txt) -> Result<(), AllocError> {
-    match number_in(text) {
-        Some(n) => match Micros::new(n) {
-            Some(m) => write_micros(m, out),
-            None => out.extend(b"too-large"),
-        },
-        None => out.extend(b"unreadable"),
-    }
-}
-
-fn nanos_text(text: &[u8], out: &mut Txt) -> Result<(), AllocError> {
-    match number_in(text) {
-        Some(n) => match Nanos::new(n) {
-            Some(m) => write_nanos(m, out),
-            None => out.extend(b"too-large"),
-        },
-        None => out.extend(b"unreadable"),
     }
 }

@@ -35,31 +35,6 @@ fn judge(alloc: Global, text: &[u8], out: &mut Txt) -> Result<(), AllocError> {
     }
 }
 
-// What stands before the members, and behind them.
-fn frame(place: &[u8]) -> Option<(&'static [u8], &'static [u8])> {
-    match place {
-        b"request" => Some((br#"{"id":"1","imp":[{"id":"1"}],"#, b"}")),
-        b"imp" => Some((br#"{"id":"1","imp":[{"id":"1","#, b"}]}")),
-        b"banner" => Some((br#"{"id":"1","imp":[{"id":"1","banner":{"#, b"}}]}")),
-        b"pmp" => Some((br#"{"id":"1","imp":[{"id":"1","pmp":{"#, b"}}]}")),
-        b"deal" => Some((
-            br#"{"id":"1","imp":[{"id":"1","pmp":{"deals":[{"id":"d"},{"id":"e","#,
-            b"}]}}]}",
-        )),
-        _ => None,
-    }
-}
-
-fn judge_in(alloc: Global, place: &[u8], members: &[u8], out: &mut Txt) -> Result<(), AllocError> {
-    let Some((before, behind)) = frame(place) else {
-        return out.extend(b"unreadable");
-    };
-    let mut text = Txt::from_slice(alloc, before)?;
-    text.extend(members)?;
-    text.extend(behind)?;
-    judge(alloc, text.as_bytes(), out)
-}
-
 fn put_fault(alloc: Global, fault: ReqFault, out: &mut Txt) -> Result<(), AllocError> {
     match fault {
         ReqFault::NotObject => out.extend(b"not-object"),
@@ -78,6 +53,12 @@ fn put_fault(alloc: Global, fault: ReqFault, out: &mut Txt) -> Result<(), AllocE
     }
 }
 
+// A word and the path of the field.
+fn put_field(word: &[u8], field: Field, out: &mut Txt) -> Result<(), AllocError> {
+    out.extend(word)?;
+    field.write(out)
+}
+
 fn price_word(fault: PriceFault) -> &'static [u8] {
     match fault {
         PriceFault::Negative => b"negative ",
@@ -86,15 +67,34 @@ fn price_word(fault: PriceFault) -> &'static [u8] {
     }
 }
 
-// A word and the path of the field.
-fn put_field(word: &[u8], field: Field, out: &mut Txt) -> Result<(), AllocError> {
-    out.extend(word)?;
-    field.write(out)
-}
-
 fn put_count(alloc: Global, word: &[u8], count: usize, out: &mut Txt) -> Result<(), AllocError> {
     out.extend(word)?;
     put_number(alloc, count as u64, out)
+}
+
+fn judge_in(alloc: Global, place: &[u8], members: &[u8], out: &mut Txt) -> Result<(), AllocError> {
+    let Some((before, behind)) = frame(place) else {
+        return out.extend(b"unreadable");
+    };
+    let mut text = Txt::from_slice(alloc, before)?;
+    text.extend(members)?;
+    text.extend(behind)?;
+    judge(alloc, text.as_bytes(), out)
+}
+
+// What stands before the members, and behind them.
+fn frame(place: &[u8]) -> Option<(&'static [u8], &'static [u8])> {
+    match place {
+        b"request" => Some((br#"{"id":"1","imp":[{"id":"1"}],"#, b"}")),
+        b"imp" => Some((br#"{"id":"1","imp":[{"id":"1","#, b"}]}")),
+        b"banner" => Some((br#"{"id":"1","imp":[{"id":"1","banner":{"#, b"}}]}")),
+        b"pmp" => Some((br#"{"id":"1","imp":[{"id":"1","pmp":{"#, b"}}]}")),
+        b"deal" => Some((
+            br#"{"id":"1","imp":[{"id":"1","pmp":{"deals":[{"id":"d"},{"id":"e","#,
+            b"}]}}]}",
+        )),
+        _ => None,
+    }
 }
 
 // ---- the fields of a request
@@ -126,6 +126,30 @@ fn put_request(alloc: Global, request: &BidRequest, out: &mut Txt) -> Result<(),
     Ok(())
 }
 
+fn put_amount(alloc: Global, word: &[u8], n: u64, out: &mut Txt) -> Result<(), AllocError> {
+    out.extend(word)?;
+    put_number(alloc, n, out)
+}
+
+fn put_flag(word: &[u8], flag: bool, out: &mut Txt) -> Result<(), AllocError> {
+    if flag {
+        return out.extend(word);
+    }
+    Ok(())
+}
+
+// A list that has a text, each behind the first behind a comma.
+fn put_texts(word: &[u8], texts: &List<Txt>, out: &mut Txt) -> Result<(), AllocError> {
+    if !texts.is_empty() {
+        out.extend(word)?;
+    }
+    for (i, text) in texts.as_slice().iter().enumerate() {
+        put_comma(i, out)?;
+        out.extend(text.as_bytes())?;
+    }
+    Ok(())
+}
+
 fn put_context(alloc: Global, request: &BidRequest, out: &mut Txt) -> Result<(), AllocError> {
     if let Some(site) = &request.site {
         put_site(site, out)?;
@@ -148,6 +172,14 @@ fn put_site(site: &Site, out: &mut Txt) -> Result<(), AllocError> {
     put_text(b" domain=", &site.domain, out)?;
     put_text(b" publisher=", &site.publisher, out)?;
     out.extend(b" }")
+}
+
+fn put_text(word: &[u8], text: &Option<Txt>, out: &mut Txt) -> Result<(), AllocError> {
+    if let Some(text) = text {
+        out.extend(word)?;
+        out.extend(text.as_bytes())?;
+    }
+    Ok(())
 }
 
 fn put_app(app: &App, out: &mut Txt) -> Result<(), AllocError> {
@@ -182,6 +214,19 @@ fn put_geo(geo: &Geo, out: &mut Txt) -> Result<(), AllocError> {
     put_text(b" city=", &geo.city, out)?;
     put_text(b" zip=", &geo.zip, out)?;
     out.extend(b" }")
+}
+
+fn put_integer(
+    alloc: Global,
+    word: &[u8],
+    n: Option<i32>,
+    out: &mut Txt,
+) -> Result<(), AllocError> {
+    if let Some(n) = n {
+        out.extend(word)?;
+        out.extend(format!(in alloc; "{n}")?.as_bytes())?;
+    }
+    Ok(())
 }
 
 fn put_user(alloc: Global, user: &User, out: &mut Txt) -> Result<(), AllocError> {
@@ -238,49 +283,4 @@ fn put_deal(alloc: Global, deal: &Deal, out: &mut Txt) -> Result<(), AllocError>
     put_texts(b" wseat=", &deal.wseat, out)?;
     put_texts(b" wadomain=", &deal.wadomain, out)?;
     out.extend(b" }")
-}
-
-fn put_flag(word: &[u8], flag: bool, out: &mut Txt) -> Result<(), AllocError> {
-    if flag {
-        return out.extend(word);
-    }
-    Ok(())
-}
-
-fn put_amount(alloc: Global, word: &[u8], n: u64, out: &mut Txt) -> Result<(), AllocError> {
-    out.extend(word)?;
-    put_number(alloc, n, out)
-}
-
-fn put_integer(
-    alloc: Global,
-    word: &[u8],
-    n: Option<i32>,
-    out: &mut Txt,
-) -> Result<(), AllocError> {
-    if let Some(n) = n {
-        out.extend(word)?;
-        out.extend(format!(in alloc; "{n}")?.as_bytes())?;
-    }
-    Ok(())
-}
-
-fn put_text(word: &[u8], text: &Option<Txt>, out: &mut Txt) -> Result<(), AllocError> {
-    if let Some(text) = text {
-        out.extend(word)?;
-        out.extend(text.as_bytes())?;
-    }
-    Ok(())
-}
-
-// A list that has a text, each behind the first behind a comma.
-fn put_texts(word: &[u8], texts: &List<Txt>, out: &mut Txt) -> Result<(), AllocError> {
-    if !texts.is_empty() {
-        out.extend(word)?;
-    }
-    for (i, text) in texts.as_slice().iter().enumerate() {
-        put_comma(i, out)?;
-        out.extend(text.as_bytes())?;
-    }
-    Ok(())
 }

@@ -14,6 +14,32 @@ pub fn is_number(text: &[u8]) -> bool
     }
 }
 
+// Where the mark of the exponent stands.
+fn exponent_mark_of(text: &[u8]) -> Option<usize>
+    ensures { result ≡ position is_exponent_mark text.now }
+{
+    text.iter().position(|c| *c == b'e' || *c == b'E')
+}
+
+// Of what stands behind the exponent's mark.
+fn is_exponent(part: &[u8]) -> bool
+    ensures { result ≡ is_exponent_text part.now }
+{
+    is_fraction(without_sign(part))
+}
+
+fn is_fraction(text: &[u8]) -> bool
+    ensures { result ≡ (list_all is_digit_code text.now && not (length text.now == 0)) }
+{
+    are_digits(text) && !text.is_empty()
+}
+
+fn are_digits(text: &[u8]) -> bool
+    ensures { result ≡ list_all is_digit_code text.now }
+{
+    text.iter().all(|c| c.is_ascii_digit())
+}
+
 /// Whether the text is a number of RFC 8259, section 6, without sign and without exponent.
 pub fn is_decimal(text: &[u8]) -> bool
     ensures { result ≡ is_decimal_text text.now }
@@ -31,19 +57,6 @@ fn point_of(text: &[u8]) -> Option<usize>
     text.iter().position(|c| *c == b'.')
 }
 
-// Where the mark of the exponent stands.
-fn exponent_mark_of(text: &[u8]) -> Option<usize>
-    ensures { result ≡ position is_exponent_mark text.now }
-{
-    text.iter().position(|c| *c == b'e' || *c == b'E')
-}
-
-fn are_digits(text: &[u8]) -> bool
-    ensures { result ≡ list_all is_digit_code text.now }
-{
-    text.iter().all(|c| c.is_ascii_digit())
-}
-
 fn is_whole_part(text: &[u8]) -> bool
     ensures { result ≡ is_whole_text text.now }
 {
@@ -51,19 +64,6 @@ fn is_whole_part(text: &[u8]) -> bool
         [] => false,
         [first, rest @ ..] => are_digits(text) && (*first != b'0' || rest.is_empty()),
     }
-}
-
-fn is_fraction(text: &[u8]) -> bool
-    ensures { result ≡ (list_all is_digit_code text.now && not (length text.now == 0)) }
-{
-    are_digits(text) && !text.is_empty()
-}
-
-// Of what stands behind the exponent's mark.
-fn is_exponent(part: &[u8]) -> bool
-    ensures { result ≡ is_exponent_text part.now }
-{
-    is_fraction(without_sign(part))
 }
 
 pub(crate) fn has_minus(text: &[u8]) -> bool

@@ -6,12 +6,6 @@ ghost use Rattle.rtb_num.specs.Parts.{IsParted, units_of, is_finer};
 
 use crate::number_form::{has_minus, split_at_exponent, split_at_point, unsigned, without_sign};
 
-// Above every amount: a greater number is taken for this one.
-const TOO_MANY: u64 = 1_000_000_000_001;
-
-// As many zeros behind a digit that is not 0 make a number above `TOO_MANY`.
-const MANY_ZEROS: usize = 13;
-
 // A number's text in its parts. Powers of ten that `usize` cannot hold are its greatest value.
 #[derive(Clone, Copy)]
 struct NumberParts<'a> {
@@ -112,6 +106,22 @@ fn saturated(digits: &[u8]) -> usize
     number
 }
 
+// Above every amount: a greater number is taken for this one.
+const TOO_MANY: u64 = 1_000_000_000_001;
+
+// As many zeros behind a digit that is not 0 make a number above `TOO_MANY`.
+const MANY_ZEROS: usize = 13;
+
+// The number with so many zeros behind it, or `TOO_MANY` where that is less.
+fn with_zeros(number: u64, zeros: usize) -> u64
+    requires { number ≤ 1000000000001 }
+    ensures value { result ≡ min (number * 10 ^ zeros) 1000000000001 }
+    ensures bound { result ≤ 1000000000001 }
+{
+    let power = 10u64.pow(zeros.min(MANY_ZEROS) as u32);
+    number.saturating_mul(power).min(TOO_MANY)
+}
+
 // What the digits spell behind the digits of the number, or `TOO_MANY` where that is less.
 fn read_on(start: u64, digits: &[u8]) -> u64
     requires small { start ≤ 1000000000001 }
@@ -125,24 +135,14 @@ fn read_on(start: u64, digits: &[u8]) -> u64
     number
 }
 
-// The number with so many zeros behind it, or `TOO_MANY` where that is less.
-fn with_zeros(number: u64, zeros: usize) -> u64
-    requires { number ≤ 1000000000001 }
-    ensures value { result ≡ min (number * 10 ^ zeros) 1000000000001 }
-    ensures bound { result ≤ 1000000000001 }
+fn are_both_zeros(digits: &[u8], more: &[u8]) -> bool
+    ensures { result ≡ (list_all (λ c. c == 48) digits.now && list_all (λ c. c == 48) more.now) }
 {
-    let power = 10u64.pow(zeros.min(MANY_ZEROS) as u32);
-    number.saturating_mul(power).min(TOO_MANY)
+    are_zeros(digits) && are_zeros(more)
 }
 
 fn are_zeros(digits: &[u8]) -> bool
     ensures { result ≡ list_all (λ c. c == 48) digits.now }
 {
     digits.iter().all(|c| *c == b'0')
-}
-
-fn are_both_zeros(digits: &[u8], more: &[u8]) -> bool
-    ensures { result ≡ (list_all (λ c. c == 48) digits.now && list_all (λ c. c == 48) more.now) }
-{
-    are_zeros(digits) && are_zeros(more)
 }

@@ -42,15 +42,6 @@ impl Model for Txt {
     ghost view = { λ t. bytes_of t.kept };
 }
 
-// Says of a slice of bytes what its type says.
-#[inline]
-fn as_known(bytes: &[u8]) -> &[u8]
-    ensures same { result.now ≡ bytes.now }
-    ensures bytes { IsBytes result.now }
-{
-    bytes
-}
-
 impl Txt {
     /// The empty text. It takes no memory.
     #[inline]
@@ -229,6 +220,15 @@ impl Txt {
             Kept::Long(bytes) => Txt::from_slice(*bytes.allocator(), bytes.as_slice()),
         }
     }
+}
+
+// Says of a slice of bytes what its type says.
+#[inline]
+fn as_known(bytes: &[u8]) -> &[u8]
+    ensures same { result.now ≡ bytes.now }
+    ensures bytes { IsBytes result.now }
+{
+    bytes
 }
 
 // Appends these pieces one after the other; where memory is refused, the first of them may stay.

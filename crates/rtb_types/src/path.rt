@@ -5,90 +5,17 @@ use crate::field::Field;
 use rtb_num::{Txt, write_decimal};
 use std::alloc::AllocError;
 
-// Appends these bytes, or nothing.
-fn put(bytes: &[u8], out: &mut Txt) -> Result<(), AllocError>
-    ensures ok { OnOk result (out.new ≡ out.old ++ bytes.now) }
-    ensures grows { (more : List ℕ) × (out.new ≡ out.old ++ more) }
-{
-    out.extend(bytes)
-}
-
-// Appends a place in an array, or a front of it.
-fn put_place(index: usize, out: &mut Txt) -> Result<(), AllocError>
-    ensures ok { OnOk result (out.new ≡ out.old ++ place index) }
-    ensures grows { (more : List ℕ) × (out.new ≡ out.old ++ more) }
-{
-    put(b"[", out)?;
-    write_decimal(index as u64, out)?;
-    put(b"]", out)?;
-    Ok(())
-}
-
-fn put_imp(imp: usize, out: &mut Txt) -> Result<(), AllocError>
-    ensures ok { OnOk result (out.new ≡ out.old ++ imp_path imp) }
-    ensures grows { (more : List ℕ) × (out.new ≡ out.old ++ more) }
-{
-    put(b"imp", out)?;
-    put_place(imp, out)?;
-    Ok(())
-}
-
-fn put_banner(imp: usize, out: &mut Txt) -> Result<(), AllocError>
-    ensures ok { OnOk result (out.new ≡ out.old ++ banner_path imp) }
-    ensures grows { (more : List ℕ) × (out.new ≡ out.old ++ more) }
-{
-    put_imp(imp, out)?;
-    put(b".banner", out)?;
-    Ok(())
-}
-
-fn put_pmp(imp: usize, out: &mut Txt) -> Result<(), AllocError>
-    ensures ok { OnOk result (out.new ≡ out.old ++ pmp_path imp) }
-    ensures grows { (more : List ℕ) × (out.new ≡ out.old ++ more) }
-{
-    put_imp(imp, out)?;
-    put(b".pmp", out)?;
-    Ok(())
-}
-
-fn put_deal(imp: usize, deal: usize, out: &mut Txt) -> Result<(), AllocError>
-    ensures ok { OnOk result (out.new ≡ out.old ++ deal_path imp deal) }
-    ensures grows { (more : List ℕ) × (out.new ≡ out.old ++ more) }
-{
-    put_pmp(imp, out)?;
-    put(b".deals", out)?;
-    put_place(deal, out)?;
-    Ok(())
-}
-
-// Appends a name behind a prefix.
-fn put_name(prefix: &[u8], name: &[u8], out: &mut Txt) -> Result<(), AllocError>
-    ensures ok { OnOk result (out.new ≡ out.old ++ (prefix.now ++ name.now)) }
-    ensures grows { (more : List ℕ) × (out.new ≡ out.old ++ more) }
-{
-    put(prefix, out)?;
-    put(name, out)?;
-    Ok(())
-}
-
-// Appends a name and a place in its list.
-fn put_item(name: &[u8], index: usize, out: &mut Txt) -> Result<(), AllocError>
-    ensures ok { OnOk result (out.new ≡ out.old ++ (name.now ++ place index)) }
-    ensures grows { (more : List ℕ) × (out.new ≡ out.old ++ more) }
-{
-    put(name, out)?;
-    put_place(index, out)?;
-    Ok(())
-}
-
-// Appends what stands behind a point.
-fn put_member(name: &[u8], out: &mut Txt) -> Result<(), AllocError>
-    ensures ok { OnOk result (out.new ≡ out.old ++ (46 ∷ name.now)) }
-    ensures grows { (more : List ℕ) × (out.new ≡ out.old ++ more) }
-{
-    put(b".", out)?;
-    put(name, out)?;
-    Ok(())
+impl Field {
+    /// Appends its path, as `imp[0].pmp.deals[1].bidfloor`. Where memory is refused the text stays as
+    /// it was.
+    pub fn write(&self, out: &mut Txt) -> Result<(), AllocError>
+        ensures ok { OnOk result (out.new ≡ out.old ++ path self.now) }
+        ensures err { OnErr result (out.new ≡ out.old) }
+    {
+        let before = out.len();
+        let written = put_path(self, out);
+        out.settle(before, written)
+    }
 }
 
 // Appends the path of the field, or a front of it.
@@ -140,15 +67,88 @@ fn put_path(field: &Field, out: &mut Txt) -> Result<(), AllocError>
     Ok(())
 }
 
-impl Field {
-    /// Appends its path, as `imp[0].pmp.deals[1].bidfloor`. Where memory is refused the text stays as
-    /// it was.
-    pub fn write(&self, out: &mut Txt) -> Result<(), AllocError>
-        ensures ok { OnOk result (out.new ≡ out.old ++ path self.now) }
-        ensures err { OnErr result (out.new ≡ out.old) }
-    {
-        let before = out.len();
-        let written = put_path(self, out);
-        out.settle(before, written)
-    }
+// Appends these bytes, or nothing.
+fn put(bytes: &[u8], out: &mut Txt) -> Result<(), AllocError>
+    ensures ok { OnOk result (out.new ≡ out.old ++ bytes.now) }
+    ensures grows { (more : List ℕ) × (out.new ≡ out.old ++ more) }
+{
+    out.extend(bytes)
+}
+
+// Appends a name and a place in its list.
+fn put_item(name: &[u8], index: usize, out: &mut Txt) -> Result<(), AllocError>
+    ensures ok { OnOk result (out.new ≡ out.old ++ (name.now ++ place index)) }
+    ensures grows { (more : List ℕ) × (out.new ≡ out.old ++ more) }
+{
+    put(name, out)?;
+    put_place(index, out)?;
+    Ok(())
+}
+
+// Appends a place in an array, or a front of it.
+fn put_place(index: usize, out: &mut Txt) -> Result<(), AllocError>
+    ensures ok { OnOk result (out.new ≡ out.old ++ place index) }
+    ensures grows { (more : List ℕ) × (out.new ≡ out.old ++ more) }
+{
+    put(b"[", out)?;
+    write_decimal(index as u64, out)?;
+    put(b"]", out)?;
+    Ok(())
+}
+
+// Appends a name behind a prefix.
+fn put_name(prefix: &[u8], name: &[u8], out: &mut Txt) -> Result<(), AllocError>
+    ensures ok { OnOk result (out.new ≡ out.old ++ (prefix.now ++ name.now)) }
+    ensures grows { (more : List ℕ) × (out.new ≡ out.old ++ more) }
+{
+    put(prefix, out)?;
+    put(name, out)?;
+    Ok(())
+}
+
+fn put_imp(imp: usize, out: &mut Txt) -> Result<(), AllocError>
+    ensures ok { OnOk result (out.new ≡ out.old ++ imp_path imp) }
+    ensures grows { (more : List ℕ) × (out.new ≡ out.old ++ more) }
+{
+    put(b"imp", out)?;
+    put_place(imp, out)?;
+    Ok(())
+}
+
+// Appends what stands behind a point.
+fn put_member(name: &[u8], out: &mut Txt) -> Result<(), AllocError>
+    ensures ok { OnOk result (out.new ≡ out.old ++ (46 ∷ name.now)) }
+    ensures grows { (more : List ℕ) × (out.new ≡ out.old ++ more) }
+{
+    put(b".", out)?;
+    put(name, out)?;
+    Ok(())
+}
+
+fn put_banner(imp: usize, out: &mut Txt) -> Result<(), AllocError>
+    ensures ok { OnOk result (out.new ≡ out.old ++ banner_path imp) }
+    ensures grows { (more : List ℕ) × (out.new ≡ out.old ++ more) }
+{
+    put_imp(imp, out)?;
+    put(b".banner", out)?;
+    Ok(())
+}
+
+fn put_pmp(imp: usize, out: &mut Txt) -> Result<(), AllocError>
+    ensures ok { OnOk result (out.new ≡ out.old ++ pmp_path imp) }
+    ensures grows { (more : List ℕ) × (out.new ≡ out.old ++ more) }
+{
+    put_imp(imp, out)?;
+    put(b".pmp", out)?;
+    Ok(())
+}
+
+fn put_deal(imp: usize, deal: usize, out: &mut Txt) -> Result<(), AllocError>
+    ensures ok { OnOk result (out.new ≡ out.old ++ deal_path imp deal) }
+    ensures grows { (more : List ℕ) × (out.new ≡ out.old ++ more) }
+{
+    put_pmp(imp, out)?;
+    put(b".deals", out)?;
+    put_place(deal, out)?;
+    Ok(())
 }
