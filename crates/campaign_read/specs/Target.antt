@@ -1,5 +1,5 @@
 -- The target of a campaign: an array of conjunctions, each an array of predicates.
-use Rattle.std.specs.Prelude.{ℕ, List, [], ◌∷◌, ◌++◌, map, Bool, ◌&&◌, cond, Option, Some, None, is_some, is_none, Result, Ok, Err, codes}
+use Rattle.std.specs.Prelude.{ℕ, List, [], ◌∷◌, ◌++◌, map, Bool, ◌&&◌, if◌then◌else◌, Option, Some, None, is_some, is_none, Result, Ok, Err, codes}
 use Rattle.exact_json.specs.Tree.{Tree}
 use Rattle.json_fields.specs.Answers.{value_or}
 use Rattle.json_fields.specs.Fields.{present, as_array, as_object, as_text, optional}
@@ -12,7 +12,7 @@ use Rattle.campaign_read.specs.declared.lists.ListField.{ListField}
 use Rattle.campaign_read.specs.Parts.{element_faults, fault_of, list_faults, list_from, text_faults, text_from}
 
 abbrev pub fault_where : Bool → CampFault → List CampFault
-fault_where b fault = cond b (fault ∷ []) []
+fault_where b fault = if b then fault ∷ [] else []
 
 abbrev pub has_in : Tree → Bool
 has_in t = is_some (present (codes "in") t)
@@ -33,7 +33,7 @@ unfoldable pub pred_from : Tree → RawPred
 pred_from t = record {
   attr = text_from (codes "attr") t;
   negated = has_not t;
-  values = cond (has_not t) (list_from (ListField.Not 0 0) as_text t) (list_from (ListField.In 0 0) as_text t);
+  values = if has_not t then list_from (ListField.Not 0 0) as_text t else list_from (ListField.In 0 0) as_text t;
 }
 
 abbrev pub pred_at : ℕ → ℕ → Tree → List CampFault

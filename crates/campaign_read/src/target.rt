@@ -1,6 +1,6 @@
 #![tactic(auto, using(json_fields::proofs::First::in_front, json_fields::proofs::First::behind, json_fields::proofs::First::neither), unfolding(crate::specs::Target::conjunction_faults, crate::specs::Target::conjunction_from, crate::specs::Target::conjunctions_faults, crate::specs::Target::conjunctions_of, crate::specs::Target::target_faults, crate::specs::Target::target_from, crate::specs::Parts::element_faults))]
 
-ghost use Rattle.std.specs.Prelude.{◌≡◌, ◌&&◌, [], ◌∷◌, codes, cond, is_none, map, IfOk};
+ghost use Rattle.std.specs.Prelude.{◌≡◌, ◌&&◌, [], ◌∷◌, codes, if◌then◌else◌, is_none, map, IfOk};
 ghost use Rattle.exact_json.specs.View.{tree_of};
 ghost use Rattle.json_fields.specs.Answers.{Answers, map_ok, value_or};
 ghost use Rattle.json_fields.specs.Fields.{as_array, present};
@@ -128,7 +128,7 @@ fn one_list(i: usize, j: usize, pred: &Value) -> Result<(), CampFault>
 }
 
 fn chosen(negated: bool, admitted: List<Txt>, excluded: List<Txt>) -> List<Txt>
-    ensures { result ≡ cond negated excluded admitted }
+    ensures { result ≡ (if negated then excluded else admitted) }
 {
     if negated { excluded } else { admitted }
 }

@@ -1,5 +1,5 @@
 -- Strings (RFC 8259, section 7): which bytes spell one, and the text that it is.
-use Rattle.std.specs.Prelude.{◌≡◌, ℕ, ◌+◌, ◌-◌, ◌*◌, ◌/◌, ◌%◌, List, [], ◌∷◌, ◌++◌, Bool, true, cond, not, ◌==◌, ◌&&◌, ◌||◌, nat_le, Option, None, Some}
+use Rattle.std.specs.Prelude.{◌≡◌, ℕ, ◌+◌, ◌-◌, ◌*◌, ◌/◌, ◌%◌, List, [], ◌∷◌, ◌++◌, Bool, true, if◌then◌else◌, not, ◌==◌, ◌&&◌, ◌||◌, nat_le, Option, None, Some}
 use Rattle.exact_json.specs.Shapes.{InTurn, After, Passes}
 
 abbrev pub in_range : ℕ → ℕ → ℕ → Bool
@@ -16,14 +16,15 @@ is_plain c = in_range 32 127 c && (not (c == 34) && not (c == 92))
 -- what must follow the first byte of an unescaped character: no byte, or UTF8-2, UTF8-3 and UTF8-4 (RFC 3629, section 4)
 abbrev pub followers : ℕ → Option (List (ℕ → Bool))
 followers c =
-    cond (is_plain c) (Some [])
-    (cond (in_range 194 223 c) (Some (is_tail ∷ []))
-    (cond (c == 224) (Some (in_range 160 191 ∷ is_tail ∷ []))
-    (cond (c == 237) (Some (in_range 128 159 ∷ is_tail ∷ []))
-    (cond (in_range 225 239 c) (Some (is_tail ∷ is_tail ∷ []))
-    (cond (c == 240) (Some (in_range 144 191 ∷ is_tail ∷ is_tail ∷ []))
-    (cond (c == 244) (Some (in_range 128 143 ∷ is_tail ∷ is_tail ∷ []))
-    (cond (in_range 241 243 c) (Some (is_tail ∷ is_tail ∷ is_tail ∷ [])) None)))))))
+    if is_plain c then Some []
+    else if in_range 194 223 c then Some (is_tail ∷ [])
+    else if c == 224 then Some (in_range 160 191 ∷ is_tail ∷ [])
+    else if c == 237 then Some (in_range 128 159 ∷ is_tail ∷ [])
+    else if in_range 225 239 c then Some (is_tail ∷ is_tail ∷ [])
+    else if c == 240 then Some (in_range 144 191 ∷ is_tail ∷ is_tail ∷ [])
+    else if c == 244 then Some (in_range 128 143 ∷ is_tail ∷ is_tail ∷ [])
+    else if in_range 241 243 c then Some (is_tail ∷ is_tail ∷ is_tail ∷ [])
+    else None
 
 abbrev pub Follow : Option (List (ℕ → Bool)) → List ℕ → Type 0
 Follow None s = ⊥
@@ -40,14 +41,23 @@ is_escape c = (c == 34) || ((c == 92) || ((c == 47) || ((c == 98) || ((c == 102)
 
 -- the character that it stands for
 abbrev pub escaped : ℕ → ℕ
-escaped c = cond (c == 98) 8 (cond (c == 102) 12 (cond (c == 110) 10 (cond (c == 114) 13 (cond (c == 116) 9 c))))
+escaped c =
+    if c == 98 then 8
+    else if c == 102 then 12
+    else if c == 110 then 10
+    else if c == 114 then 13
+    else if c == 116 then 9
+    else c
 
 -- HEXDIG, in either case
 abbrev pub is_hex : ℕ → Bool
 is_hex c = in_range 48 57 c || (in_range 65 70 c || in_range 97 102 c)
 
 abbrev pub hex_digit : ℕ → ℕ
-hex_digit c = cond (in_range 48 57 c) (c - 48) (cond (in_range 65 70 c) (c - 55) (c - 87))
+hex_digit c =
+    if in_range 48 57 c then c - 48
+    else if in_range 65 70 c then c - 55
+    else c - 87
 
 abbrev pub hex_onto : ℕ → List ℕ → ℕ
 hex_onto n [] = n
@@ -75,10 +85,10 @@ SpellsPieces (p ∷ ps) bytes = InTurn (SpellsPiece p) (SpellsPieces ps) bytes
 -- a character in UTF-8 (RFC 3629, section 3)
 abbrev pub utf8 : ℕ → List ℕ
 utf8 n =
-    cond (nat_le n 127) (n ∷ [])
-    (cond (nat_le n 2047) ((192 + n / 64) ∷ (128 + n % 64) ∷ [])
-    (cond (nat_le n 65535) ((224 + n / 4096) ∷ (128 + n / 64 % 64) ∷ (128 + n % 64) ∷ [])
-    ((240 + n / 262144) ∷ (128 + n / 4096 % 64) ∷ (128 + n / 64 % 64) ∷ (128 + n % 64) ∷ [])))
+    if nat_le n 127 then n ∷ []
+    else if nat_le n 2047 then (192 + n / 64) ∷ (128 + n % 64) ∷ []
+    else if nat_le n 65535 then (224 + n / 4096) ∷ (128 + n / 64 % 64) ∷ (128 + n % 64) ∷ []
+    else (240 + n / 262144) ∷ (128 + n / 4096 % 64) ∷ (128 + n / 64 % 64) ∷ (128 + n % 64) ∷ []
 
 -- the surrogates (RFC 3629, section 3), of which two are one character: 0xD800 to 0xDBFF, 0xDC00 to 0xDFFF
 abbrev pub is_high : ℕ → Bool
@@ -101,15 +111,15 @@ alone (Some high) = replacement
 
 -- a number that is no high surrogate, behind the high surrogate that stands directly before it
 abbrev pub unit_text : Option ℕ → ℕ → List ℕ
-unit_text None n = cond (is_low n) replacement (utf8 n)
-unit_text (Some high) n = cond (is_low n) (utf8 (paired high n)) (replacement ++ utf8 n)
+unit_text None n = if is_low n then replacement else utf8 n
+unit_text (Some high) n = if is_low n then utf8 (paired high n) else replacement ++ utf8 n
 
 -- the text of the pieces behind a high surrogate, or none
 abbrev pub text_behind : Option ℕ → List Piece → List ℕ
 text_behind high [] = alone high
 text_behind high (character w ∷ ps) = alone high ++ (w ++ text_behind None ps)
 text_behind high (escape c ∷ ps) = alone high ++ (escaped c ∷ text_behind None ps)
-text_behind high (code_unit n ∷ ps) = cond (is_high n) (alone high ++ text_behind (Some n) ps) (unit_text high n ++ text_behind None ps)
+text_behind high (code_unit n ∷ ps) = if is_high n then alone high ++ text_behind (Some n) ps else unit_text high n ++ text_behind None ps
 
 abbrev pub text_of : List Piece → List ℕ
 text_of = text_behind None

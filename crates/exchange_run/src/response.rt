@@ -1,4 +1,4 @@
-ghost use Rattle.std.specs.Prelude.{◌≡◌, ◌==◌, ◌++◌, [], ◌∷◌, cond, decimal, map, OnOk, IfOk};
+ghost use Rattle.std.specs.Prelude.{◌≡◌, ◌==◌, ◌++◌, [], ◌∷◌, if◌then◌else◌, decimal, map, OnOk, IfOk};
 ghost use Rattle.std.specs.List.{concat, join_with_byte, list_any};
 ghost use Rattle.exchange_run.specs.Response.{bid_head, bid_tail, bid_text, response_head, response_text, seat_bids, seat_tail, seat_text, seats_of};
 ghost use Rattle.exchange_run.specs.View.{sale_view};
@@ -44,7 +44,7 @@ fn push_new<'a>(
     seats: &mut Vec<&'a NumberedCampaign>,
     campaign: &'a NumberedCampaign,
 ) -> Result<(), AllocError>
-    ensures { OnOk result (seats.new.items ≡ seats.old.items ++ cond (list_any (λ s. s.now.0 == campaign.now.0) seats.old.items) [] (campaign.entry ∷ [])) }
+    ensures { OnOk result (seats.new.items ≡ seats.old.items ++ (if list_any (λ s. s.now.0 == campaign.now.0) seats.old.items then [] else campaign.entry ∷ [])) }
 {
     if !has_seat(seats.as_slice(), campaign) {
         if seats.push(campaign).is_err() {
@@ -81,7 +81,7 @@ fn put_seats(out: &mut Txt, sold: &[SoldImp], seats: &[&NumberedCampaign]) -> Re
 
 // Appends a comma, but before the first of a list.
 fn put_comma(out: &mut Txt, is_first: bool) -> Result<(), AllocError>
-    ensures { OnOk result (out.new ≡ out.old ++ cond is_first [] (44 ∷ [])) }
+    ensures { OnOk result (out.new ≡ out.old ++ (if is_first then [] else 44 ∷ [])) }
 {
     if !is_first {
         out.push(b',')?;

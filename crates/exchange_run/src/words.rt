@@ -1,4 +1,4 @@
-ghost use Rattle.std.specs.Prelude.{◌≡◌, ◌==◌, ◌<◌, ◌≤◌, position, length, IfSome, Option, None, Some, cond, option_map, is_some, IfOk, IsSome, IsTrue};
+ghost use Rattle.std.specs.Prelude.{◌≡◌, ◌==◌, ◌<◌, ◌≤◌, position, length, IfSome, Option, None, Some, if◌then◌else◌, option_map, is_some, IfOk, IsSome, IsTrue};
 ghost use Rattle.std.specs.List.{after_first, before_first, list_all, list_any};
 ghost use Rattle.exchange_run.specs.Words.{amount_of, campaign_of, campaign_words, campaigns_of, command_of, domain_of, bid_of, is_at};
 ghost use Rattle.exchange_run.specs.Numbered.{AreNumbered, is_short, campaigns_only};
@@ -95,7 +95,7 @@ fn domain(word: &[u8]) -> Option<Option<&[u8]>>
 
 // What stands behind the first `@`, if there is one.
 fn domain_part(word: &[u8]) -> Option<&[u8]>
-    ensures { option_map (λ d. d.now) result ≡ cond (list_any is_at word.now) (Some (after_first is_at word.now)) None }
+    ensures { option_map (λ d. d.now) result ≡ (if list_any is_at word.now then Some (after_first is_at word.now) else None) }
 {
     match place_of(word, b'@') {
         Some(at) => Some(&word[at + 1..]),

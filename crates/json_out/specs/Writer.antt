@@ -1,5 +1,5 @@
 -- A JSON text (RFC 8259) as far as it is written, and what may stand next in it.
-use Rattle.std.specs.Prelude.{ℕ, ◌==◌, ◌&&◌, not, Bool, true, false, List, [], ◌∷◌, ◌++◌, length, drop, cond}
+use Rattle.std.specs.Prelude.{ℕ, ◌==◌, ◌&&◌, not, Bool, true, false, List, [], ◌∷◌, ◌++◌, length, drop, if◌then◌else◌}
 use Rattle.json_out.specs.declared.places.Place.{Place}
 use Rattle.json_out.specs.declared.places.Place.TheVariants.{Array, Object}
 use Rattle.json_out.specs.Strings.{quoted}
@@ -31,7 +31,7 @@ wants_value _ = false
 -- A value may stand next: as the whole text (section 2), as an element of an array (section 5) and
 -- behind a name (section 4).
 abbrev pub takes_value : Written → Bool
-takes_value w = cond (is_open w.places) (not (wants_name w.places)) (length w.text == 0)
+takes_value w = if is_open w.places then not (wants_name w.places) else length w.text == 0
 
 -- a name may stand next (section 4)
 abbrev pub takes_name : Written → Bool

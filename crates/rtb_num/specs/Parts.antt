@@ -1,5 +1,5 @@
 -- A number's parts as they are read, and what is made of them: which the crate's private clauses cite.
-use Rattle.std.specs.Prelude.{◌≡◌, ℕ, ◌+◌, ◌-◌, ◌*◌, ◌/◌, ◌%◌, ◌^◌, ◌<◌, ◌⊎◌, ◌==◌, List, ◌++◌, length, min, Bool, true, not, cond, ℤ, pos, neg_ℤ}
+use Rattle.std.specs.Prelude.{◌≡◌, ℕ, ◌+◌, ◌-◌, ◌*◌, ◌/◌, ◌%◌, ◌^◌, ◌<◌, ◌⊎◌, ◌==◌, List, ◌++◌, length, min, Bool, true, not, if◌then◌else◌, ℤ, pos, neg_ℤ}
 use Rattle.std.specs.List.{list_all}
 use Rattle.rtb_num.specs.Amounts.{is_digit, number_of}
 use Rattle.rtb_num.specs.Numbers.{Number}
@@ -25,4 +25,4 @@ is_finer n places = not (number_of n.digits * 10 ^ (n.up + places) % 10 ^ n.down
 
 -- the whole number m, or -m
 abbrev pub with_sign : Bool → ℕ → ℤ
-with_sign minus m = cond minus (neg_ℤ (pos m)) (pos m)
+with_sign minus m = if minus then neg_ℤ (pos m) else pos m

@@ -1,5 +1,5 @@
 -- Expressions as they are written, their faults, and how they are kept.
-use Rattle.std.specs.Prelude.{ℕ, ◌==◌, ◌&&◌, ◌||◌, nat_lt, nat_le, List, [], ◌∷◌, ◌++◌, length, take, map, ◌≡◌, Bool, true, cond, Option, Some, is_none, option_map, find}
+use Rattle.std.specs.Prelude.{ℕ, ◌==◌, ◌&&◌, ◌||◌, nat_lt, nat_le, List, [], ◌∷◌, ◌++◌, length, take, map, ◌≡◌, Bool, true, if◌then◌else◌, Option, Some, is_none, option_map, find}
 use Rattle.std.specs.List.{list_all, list_any, flat_map, filter_map, enumerate_from}
 use Rattle.std.specs.Str.{bytes_eq}
 use Rattle.std.specs.Ordering.{nat_cmp, is_lt}
@@ -16,7 +16,7 @@ use Rattle.target_expr.specs.Attributes.{attributes, name_of, named, number_of}
 -- ---- faults, in the order of reading
 
 abbrev pub fault_where : Bool → ExprFault → List ExprFault
-fault_where b f = cond b (f ∷ []) []
+fault_where b f = if b then f ∷ [] else []
 
 -- more values than the limit as they are written, or one that is too long
 abbrev pub is_too_much : RawPred → Bool
