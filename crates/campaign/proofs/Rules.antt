@@ -6,6 +6,7 @@ use Rattle.std.specs.Int.{w32}
 use Rattle.std.proofs.lemmas.Bool.Decides.{nat_tests}
 use Rattle.std.proofs.lemmas.Int.{ints}
 use Rattle.std.proofs.lemmas.List.Elements.{All-nil, All-cons, All-weaker}
+use Rattle.rtb_num.proofs.Plain.{both_nil}
 use Rattle.byte_fields.specs.Encodings.{IsShort, IsOptionOf, IsListWithin}
 use Rattle.campaign.specs.declared.parts.FactParts.{FactParts}
 use Rattle.campaign.specs.declared.parts.FactFault.{FactFault}
@@ -14,10 +15,6 @@ use Rattle.campaign.specs.Faults.{fault_unless, is_text, text_faults, is_list, t
 use Rattle.campaign.specs.Groups.{IsWhole, AreSides, AreNames, IsLook, IsMoney, IsCreative, AreGroups, Creative, Names, groups_of, joined, names_of, look_of, money_of, creative_of, IsLoose}
 use Rattle.campaign.specs.Caps.{CapTerms}
 use Rattle.campaign.specs.Kept.{IsKept, IsEncodable, with_cap, without_cap}
-
-pub both_nil : {A : Type 0} (xs ys : List A) → xs ++ ys ≡ [] → (xs ≡ []) × (ys ≡ [])
-both_nil [] ys e = (refl, e)
-both_nil (x ∷ xs) ys e = (cc, cc)
 
 unless_right : (b : Bool) (f : FactFault) → fault_unless b f ≡ [] → b ≡ true
 unless_right true f e = refl

@@ -1,6 +1,7 @@
 -- The faults of what is made of the fields: facts and an expression.
 use Rattle.std.specs.Prelude.{codes}
 use Rattle.std.proofs.Common.{◌≡◌, ℕ, ◌*◌, ◌%◌, List, [], ◌∷◌, ◌++◌, map, subst, Some, Ok, Err, inl, inr, refl, ap, ◌∙◌, arith}
+use Rattle.rtb_num.proofs.Plain.{both_same}
 use Rattle.exact_json.specs.Tree.{Tree}
 use Rattle.json_fields.specs.Answers.{IsFirst}
 use Rattle.json_fields.proofs.First.{behind, in_front, neither}
@@ -63,9 +64,6 @@ target_first t p raw f a b e none r h =
     behind CampFault.Memory (parts_faults t ++ target_faults t ++ facts) (map CampFault.Target (faults (target_from t))) f
     (neither (parts_faults t ++ target_faults t) facts (neither (parts_faults t) (target_faults t) a b) no_fact)
     (subst (λ q. IsFirst CampFault.Memory (map CampFault.Target (faults q)) f) r h)
-
-both_same : {A B : Type 0} (x x' : A) (y y' : B) → x ≡ x' → y ≡ y' → ◌≡◌ {A = A × B} (x, y) (x', y')
-both_same x x' y y' e f = cc
 
 pub body_right : (t : Tree) (p facts : FactParts) (raw : List (List RawPred)) (expr : List (List Pred)) → parts_faults t ≡ [] → target_faults t ≡ [] → p ≡ parts_from t → map CampFault.Fact (fact_faults p) ≡ [] → raw ≡ target_from t → map CampFault.Target (faults raw) ≡ []
     → facts ≡ p → expr ≡ kept raw → (body_faults t ≡ []) × ((facts, expr) ≡ campaign_from t)

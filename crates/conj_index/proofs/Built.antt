@@ -3,7 +3,7 @@ use Rattle.std.proofs.Common.{◌≡◌, ℕ, zero, suc, ◌+◌, ◌==◌, List
 use Rattle.std.specs.List.{IsDistinct, list_any}
 use Rattle.std.proofs.lemmas.List.{length-map, map-append}
 use Rattle.std.proofs.lemmas.List.Elements.{All-append, All-cons, All-map, All-nil, All-same}
-use Rattle.std.proofs.lemmas.Option.{slice_get-get_or}
+use Rattle.std.proofs.lemmas.Option.{slice_get-get_or, same_Some}
 use Rattle.indexmap.specs.IndexMap.{keys}
 use Rattle.postings.specs.declared.entry.Entry.{Entry}
 use Rattle.postings.specs.Order.{IsRising}
@@ -17,7 +17,7 @@ use Rattle.conj_index.specs.declared.part.Part.{Part}
 use Rattle.conj_index.specs.Campaigns.{AreKept, Campaigns, DoRise, expression_of}
 use Rattle.conj_index.specs.Content.{IsIndexOf, IsPartOf, Listed, conjunctions_of, entries_of, owned, same_key, zero_entries, zero_lists}
 use Rattle.conj_index.specs.Growing.{AreFull, AreGrown, HasZeroList, IsFull, IsGrown, finished, greatest, is_of, lists_of, pair_entries, zero_of}
-use Rattle.conj_index.proofs.Entering.{map_agree, some_none, some_same}
+use Rattle.conj_index.proofs.Entering.{map_agree, some_none}
 use Rattle.conj_index.proofs.Members.{Has}
 use Rattle.conj_index.proofs.Pairs.{AllKept, entries_by_pairs, greatest_by_sizes, named_by_pairs, preds_of, zero_by_sizes}
 use Rattle.conj_index.proofs.Rising.{entries_rise, zeros_rise}
@@ -82,7 +82,7 @@ full_rise cs full each = λ k d h.
 
 mapped_get : (full : List Growing) (k : ℕ) (part : Part) → slice_get (map finished full) k ≡ Some part → (x : Growing) × (slice_get full k ≡ Some x) × (finished x ≡ part)
 mapped_get [] k part there = absurd (some_none part there)
-mapped_get (x ∷ full) zero part there = (x, refl, some_same (finished x) part there)
+mapped_get (x ∷ full) zero part there = (x, refl, same_Some (finished x) part there)
 mapped_get (x ∷ full) (suc k) part there = mapped_get full k part there
 
 -- the index of the finished parts

@@ -7,6 +7,7 @@ use Rattle.std.proofs.lemmas.List.{length-map, take_all, take_more}
 use Rattle.std.proofs.lemmas.List.FromFn.{get_or-enumerate_from, length-enumerate_from}
 use Rattle.std.proofs.lemmas.List.Sums.{sum_by-append, sum_by-cons, sum_by-take-le}
 use Rattle.std.proofs.lemmas.Map.Steps.{length-le_from_distinct_below}
+use Rattle.std.proofs.lemmas.Option.{same_Some}
 use Rattle.conj_match.specs.Matching.{IsAnswer, is_match}
 use Rattle.target_expr.specs.declared.attr.Attr.{Attr}
 use Rattle.target_expr.specs.declared.attr.Attr.TheVariants.{Domain, Site, Bundle, App, Publisher, Country, Region, Metro, City, Zip, DeviceType, Make, Model, Os, Osv, Language, Carrier, ConnectionType, Yob, Gender, TagId, Pos}
@@ -22,9 +23,6 @@ abbrev Pairs : Type 0
 Pairs = List (Attr × List ℕ)
 
 -- ---- what is found
-
-some_same : {X : Type 0} (x y : X) → Some x ≡ Some y → x ≡ y
-some_same x y e = cc
 
 pub found_none : (a : Pairs) (owners : List ℕ) (parts : List Part) → AreFound a owners parts 0 []
 found_none a owners parts = record {
@@ -45,7 +43,7 @@ found_next a owners parts n part numbers ids new found there answer is = record 
   whole = λ k id z at h is_at f. subst (λ (l : List ℕ). Contains l z) (sym is) (contains_from_has (numbers ++ filter_map (slice_get owners) ids) z (
       elim (cases_eq k n) [
         | inl e ↦
-            let same : at ≡ part = some_same at part (sym is_at ∙ ap (slice_get parts) e ∙ there) in
+            let same : at ≡ part = same_Some at part (sym is_at ∙ ap (slice_get parts) e ∙ there) in
             let matched : is_match (found_lists a n part) (max n 1) id ≡ true = ap (λ (m : ℕ). is_match (found_lists a m part) (max m 1) id) (sym e) ∙ ap (λ (p : Part). is_match (found_lists a k p) (max k 1) id) (sym same) ∙ f.matched in
             has_right numbers (filter_map (slice_get owners) ids) z (has_found (slice_get owners) ids id z (has_from_contains ids id ((answer.exact id).1 matched)) f.owned)
         | inr other ↦ has_left numbers (filter_map (slice_get owners) ids) z (has_from_contains numbers z (found.whole k id z at (below k n h other) is_at f))

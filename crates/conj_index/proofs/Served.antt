@@ -11,6 +11,7 @@ use Rattle.std.proofs.Math.Seq.{get_or-append_seam}
 use Rattle.std.proofs.Math.ListN.{get_or-append}
 use Rattle.std.proofs.lemmas.List.Quantifiers.{position-Some}
 use Rattle.std.proofs.lemmas.Slice.Eq.{bytes_eq-Decides}
+use Rattle.std.proofs.lemmas.Option.{same_Some}
 use Rattle.indexmap.specs.IndexMap.{keys}
 use Rattle.postings.specs.declared.entry.Entry.{Entry}
 use Rattle.target_expr.specs.declared.attr.Attr.{Attr}
@@ -32,13 +33,10 @@ Pairs = List (Attr × List ℕ)
 
 -- ---- keys that are one
 
-some_same : {X : Type 0} (x y : X) → Some x ≡ Some y → x ≡ y
-some_same x y e = cc
-
 pub attr_same : (a b : Attr) → same_attr a b ≡ true → a ≡ b
 attr_same a b e =
     let same : number_of a ≡ number_of b = eqb-true (number_of a) (number_of b) e in
-    some_same a b (sym (numbered_again a) ∙ ap numbered same ∙ numbered_again b)
+    same_Some a b (sym (numbered_again a) ∙ ap numbered same ∙ numbered_again b)
 
 pub key_same : (a b : Key) → same_key a b ≡ true → a ≡ b
 key_same a b e =

@@ -1,6 +1,6 @@
 -- What a number's text (RFC 8259, section 6) is worth as a whole number and as an amount.
 use Rattle.std.specs.Prelude.{ℕ, ℤ, pos, negsuc, neg_ℤ, ◌+◌, ◌*◌, ◌/◌, ◌%◌, ◌^◌, ◌==◌, ◌&&◌, nat_le, int_le, List, Bool, if◌then◌else◌, Option, Some, None, option_and_then, Ok, Err, Result}
-use Rattle.rtb_num.specs.Numbers.{Number, number_in, is_below_zero}
+use Rattle.rtb_num.specs.Numbers.{Number, number_in, is_below_zero, with_sign}
 use Rattle.rtb_num.specs.Amounts.{number_of}
 use Rattle.rtb_num.specs.declared.read_amounts.PriceFault.{PriceFault}
 
@@ -16,9 +16,6 @@ is_exactly_units places n = number_of n.digits * 10 ^ (n.up + places) % 10 ^ n.d
 abbrev pub units_up : ℕ → Number → ℕ
 units_up places n = units_in places n + (if is_exactly_units places n then 0 else 1)
 
-abbrev pub signed : Bool → ℕ → ℤ
-signed minus m = if minus then neg_ℤ (pos m) else pos m
-
 -- from a to b
 abbrev pub is_between : ℤ → ℤ → ℤ → Bool
 is_between a b z = int_le a z && int_le z b
@@ -27,7 +24,7 @@ is_between a b z = int_le a z && int_le z b
 unfoldable pub whole_of : List ℕ → Option ℤ
 whole_of text =
     if is_exactly_units 0 (number_in text) then
-        Some (signed (is_below_zero (number_in text)) (units_in 0 (number_in text)))
+    Some (with_sign (is_below_zero (number_in text)) (units_in 0 (number_in text)))
     else None
 
 -- the value, where it is whole and fits 32 bits with a sign
@@ -46,5 +43,5 @@ unfoldable pub exact_of : List ℕ → Result ℕ PriceFault
 exact_of text =
     if is_below_zero (number_in text) then Err PriceFault.Negative
     else if nat_le (units_up 6 (number_in text)) (10 ^ 12) then
-        (if is_exactly_units 6 (number_in text) then Ok (units_in 6 (number_in text)) else Err PriceFault.TooFine)
+    (if is_exactly_units 6 (number_in text) then Ok (units_in 6 (number_in text)) else Err PriceFault.TooFine)
     else Err PriceFault.TooLarge

@@ -1,5 +1,5 @@
 -- The numbers of RFC 8259, section 6, and what they are worth.
-use Rattle.std.specs.Prelude.{ℕ, ◌+◌, ◌*◌, ◌^◌, ◌≤◌, ◌==◌, ◌&&◌, ◌||◌, ◌≡◌, not, List, [], ◌∷◌, length, Bool, true, false, if◌then◌else◌, ℤ, pos, negsuc}
+use Rattle.std.specs.Prelude.{ℕ, ◌+◌, ◌*◌, ◌^◌, ◌≤◌, ◌==◌, ◌&&◌, ◌||◌, ◌≡◌, not, List, [], ◌∷◌, length, Bool, true, false, if◌then◌else◌, ℤ, pos, negsuc, neg_ℤ}
 use Rattle.std.specs.List.{list_all, list_any, before_first, after_first}
 use Rattle.rtb_num.specs.Amounts.{is_digit, is_decimal, number_of, digits_of, places_of}
 
@@ -69,6 +69,10 @@ number_in text = record {
 -- below 0, so that -0 is not
 abbrev pub is_below_zero : Number → Bool
 is_below_zero n = n.minus && not (number_of n.digits == 0)
+
+-- the whole number m, or -m
+abbrev pub with_sign : Bool → ℕ → ℤ
+with_sign minus m = if minus then neg_ℤ (pos m) else pos m
 
 -- Without its sign, the number is at most m millionths.
 abbrev pub IsWithinMillionths : Number → ℕ → Type 0

@@ -1,13 +1,13 @@
 ghost use Rattle.std.specs.Prelude.{◌≡◌, ◌+◌, ◌==◌, ◌&&◌, not, length, position};
 ghost use Rattle.std.specs.List.{before_first, after_first, list_all};
 ghost use Rattle.rtb_num.specs.Amounts.{is_decimal as is_decimal_text, is_whole_part as is_whole_text, is_digit as is_digit_code, is_point};
-ghost use Rattle.rtb_num.specs.Numbers.{is_number as is_number_text, is_exponent as is_exponent_text, is_exponent_mark, without_minus, without_sign as without_sign_text, has_minus as has_minus_text};
+ghost use Rattle.rtb_num.specs.Numbers.{is_number as is_number_text, is_exponent as is_exponent_text, is_exponent_mark, without_minus as without_minus_text, without_sign as without_sign_text, has_minus as has_minus_text};
 
 /// Whether the text is a number of RFC 8259, section 6: `-0.5e+10`.
 pub fn is_number(text: &[u8]) -> bool
     ensures { result ≡ is_number_text text.now }
 {
-    let unsigned = unsigned(text);
+    let unsigned = without_minus(text);
     match exponent_mark_of(unsigned) {
         None => is_decimal(unsigned),
         Some(at) => is_decimal(&unsigned[..at]) && is_exponent(&unsigned[at + 1..]),
@@ -72,8 +72,8 @@ pub(crate) fn has_minus(text: &[u8]) -> bool
     matches!(text, [b'-', ..])
 }
 
-pub(crate) fn unsigned(text: &[u8]) -> &[u8]
-    ensures { result.now ≡ without_minus text.now }
+pub(crate) fn without_minus(text: &[u8]) -> &[u8]
+    ensures { result.now ≡ without_minus_text text.now }
 {
     match text {
         [b'-', rest @ ..] => rest,

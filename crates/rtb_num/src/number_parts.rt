@@ -4,7 +4,9 @@ ghost use Rattle.rtb_num.specs.Amounts.{is_digit as is_digit_code, number_of};
 ghost use Rattle.rtb_num.specs.Numbers.{is_number, number_in, is_below_zero, up_by, down_by, without_sign as without_sign_text};
 ghost use Rattle.rtb_num.specs.Parts.{IsParted, units_of, is_finer};
 
-use crate::number_form::{has_minus, split_at_exponent, split_at_point, unsigned, without_sign};
+use crate::number_form::{
+    has_minus, split_at_exponent, split_at_point, without_minus, without_sign,
+};
 
 // A number's text in its parts. Powers of ten that `usize` cannot hold are its greatest value.
 #[derive(Clone, Copy)]
@@ -66,7 +68,7 @@ fn parts(text: &[u8]) -> NumberParts<'_>
     requires { IsTrue (is_number text.now) }
     ensures { IsParted (number_in text.now) result.minus result.whole.now result.fraction.now result.up result.down }
 {
-    let (decimal, exponent) = split_at_exponent(unsigned(text));
+    let (decimal, exponent) = split_at_exponent(without_minus(text));
     let (whole, fraction) = split_at_point(decimal);
     let (up, down) = powers(exponent);
     NumberParts {
@@ -84,7 +86,7 @@ fn powers(exponent: &[u8]) -> (usize, usize)
     ensures up { result.0 ≡ min (up_by exponent.now) (2 ^ 64 - 1) }
     ensures down { result.1 ≡ min (down_by exponent.now) (2 ^ 64 - 1) }
 {
-    let power = saturated(without_sign(exponent));
+    let power = read_usize(without_sign(exponent));
     if has_minus(exponent) {
         (0, power)
     } else {
@@ -93,7 +95,7 @@ fn powers(exponent: &[u8]) -> (usize, usize)
 }
 
 // What the digits spell, or the greatest `usize` where that is less.
-fn saturated(digits: &[u8]) -> usize
+fn read_usize(digits: &[u8]) -> usize
     requires { IsTrue (list_all is_digit_code digits.now) }
     ensures { result ≡ min (number_of digits.now) (2 ^ 64 - 1) }
 {

@@ -134,7 +134,7 @@ impl Txt {
         match &mut self.kept {
             Kept::Short(short) if short.has_room(1) => short.push(byte),
             Kept::Short(short) => {
-                let longer = short.spilled(&[byte])?;
+                let longer = short.spill(&[byte])?;
                 self.kept = Kept::Long(longer);
             }
             Kept::Long(bytes) => bytes.push(byte)?,
@@ -151,7 +151,7 @@ impl Txt {
         match &mut self.kept {
             Kept::Short(short) if short.has_room(bytes.len()) => short.append(bytes),
             Kept::Short(short) => {
-                let longer = short.spilled(bytes)?;
+                let longer = short.spill(bytes)?;
                 self.kept = Kept::Long(longer);
             }
             Kept::Long(kept) => kept.extend_from_slice(bytes)?,
@@ -200,7 +200,7 @@ impl Txt {
         match &mut self.kept {
             Kept::Short(short) if short.has_room(more) => {}
             Kept::Short(short) => {
-                let mut longer = short.spilled(&[])?;
+                let mut longer = short.spill(&[])?;
                 longer.reserve(more)?;
                 self.kept = Kept::Long(longer);
             }

@@ -2,6 +2,7 @@
 use Rattle.std.proofs.Common.{◌≡◌, ℕ, ◌<◌, ◌≤◌, List, ◌∷◌, length, get_or, Bool, true, false, cond, Some, None, All, leb, refl, sym, ◌∙◌, ap, arith, lit<}
 use Rattle.std.specs.List.{list_all}
 use Rattle.std.proofs.lemmas.Bool.{and_parts, leb-true}
+use Rattle.rtb_num.proofs.Plain.{heads, tails}
 use Rattle.byte_fields.specs.Codes.{IsReadAt, IsCode, BothValid, both_bytes}
 use Rattle.byte_fields.specs.Encodings.{IsByte, byte_bytes, IsFlag, flag_bytes, IsShort, text_bytes, IsListWithin, list_bytes}
 use Rattle.byte_fields.proofs.Codes.{both_code, code_as, narrow_code, read_both, read_no_first, read_no_second, read_none_as}
@@ -69,12 +70,6 @@ same_number : (a b : Attr) → number_of a ≡ number_of b → a ≡ b
 same_number a b e =
     let one : Some a ≡ Some b = sym (numbered_again a) ∙ ap numbered e ∙ numbered_again b in
     cc
-
-heads : (c d : ℕ) (s t : List ℕ) → c ∷ s ≡ d ∷ t → c ≡ d
-heads c d s t e = cc
-
-tails : (c d : ℕ) (s t : List ℕ) → c ∷ s ≡ d ∷ t → s ≡ t
-tails c d s t e = cc
 
 pub attr_code : IsCode IsAttr attr_bytes
 attr_code = record { unique = λ a b s t v w h. (same_number a b (heads (number_of a) (number_of b) s t h), tails (number_of a) (number_of b) s t h) }

@@ -7,6 +7,7 @@ use Rattle.std.proofs.lemmas.Bool.{and_from, and_parts, or_parts, lt-ltb, ltb-fa
 use Rattle.std.proofs.lemmas.List.{take_more, length-map}
 use Rattle.std.proofs.lemmas.List.Elements.{filter_map-append}
 use Rattle.std.proofs.lemmas.List.Sums.{sum_by-cons}
+use Rattle.rtb_num.proofs.Plain.{both_nil}
 use Rattle.target_expr.specs.declared.attr.Attr.{Attr}
 use Rattle.target_expr.specs.declared.pred.Pred.{Pred}
 use Rattle.target_expr.specs.declared.pred.RawPred.{RawPred}
@@ -18,10 +19,6 @@ use Rattle.target_expr.proofs.ByteOrder.{all_from_has, has_in_order, has_passes,
 
 pub kept_more : (c : List RawPred) (attrs : List Attr) (i : ℕ) (d : Attr) → i < length attrs → kept_in c (take (i + 1) attrs) ≡ kept_in c (take i attrs) ++ kept_in c (get_or attrs i d ∷ [])
 kept_more c attrs i d h = ap (kept_in c) (take_more attrs i d h) ∙ filter_map-append (kept_at c) (take i attrs) (get_or attrs i d ∷ [])
-
-pub nil_parts : {A : Type 0} (xs ys : List A) → xs ++ ys ≡ [] → (xs ≡ []) × (ys ≡ [])
-nil_parts [] ys e = (refl, e)
-nil_parts (x ∷ xs) ys e = cc
 
 pub where_false : (b : Bool) (f : ExprFault) → fault_where b f ≡ [] → b ≡ false
 where_false true f e = cc
@@ -38,14 +35,14 @@ not_false b e = ap not e
 
 pred_fine : (i n : ℕ) (c : List RawPred) (q : RawPred) → pred_faults i c (n, q) ≡ [] → is_fine q ≡ true
 pred_fine i n c q e =
-    let last = nil_parts _ (fault_where (is_too_much q) (TooMany i n)) e in
-    let third = nil_parts _ (fault_where (nat_eq (length q.values) 0) (EmptyList i n)) last.0 in
+    let last = both_nil _ (fault_where (is_too_much q) (TooMany i n)) e in
+    let third = both_nil _ (fault_where (nat_eq (length q.values) 0) (EmptyList i n)) last.0 in
     and_from _ _ (not_false _ (where_false _ (EmptyList i n) third.1)) (not_false _ (where_false _ (TooMany i n) last.1))
 
 preds_fine : (i n : ℕ) (whole c : List RawPred) → flat_map (pred_faults i whole) (enumerate_from n c) ≡ [] → list_all is_fine c ≡ true
 preds_fine i n whole [] e = refl
 preds_fine i n whole (q ∷ c) e =
-    let parts = nil_parts (pred_faults i whole (n, q)) (flat_map (pred_faults i whole) (enumerate_from (n + 1) c)) e in
+    let parts = both_nil (pred_faults i whole (n, q)) (flat_map (pred_faults i whole) (enumerate_from (n + 1) c)) e in
     and_from (is_fine q) (list_all is_fine c) (pred_fine i n whole q parts.0) (preds_fine i (n + 1) whole c parts.1)
 
 none_long : (vs : List (List ℕ)) → list_any (λ v. ltb 255 (length v)) vs ≡ false → list_all (λ v. leb (length v) 255) vs ≡ true
@@ -187,7 +184,7 @@ length_kept (q ∷ c) attrs e = omega (arith, length_one_more q c attrs, one_hav
 
 conjunction_kept : (i : ℕ) (c : List RawPred) → conjunction_faults (i, c) ≡ [] → is_kept_conjunction (kept_conjunction c) ≡ true
 conjunction_kept i c e =
-    let parts = nil_parts (fault_where (ltb 16 (length c)) (TooMany i 0)) (flat_map (pred_faults i c) (enumerate_from 0 c)) e in
+    let parts = both_nil (fault_where (ltb 16 (length c)) (TooMany i 0)) (flat_map (pred_faults i c) (enumerate_from 0 c)) e in
     let most : length c ≤ 16 = ltb-false 16 (length c) (where_false _ (TooMany i 0) parts.0) in
     and_from _ _ (and_from _ _
     (le-leb (length (kept_conjunction c)) 16 (omega (arith, length_kept c attributes refl)))
@@ -197,14 +194,14 @@ conjunction_kept i c e =
 conjunctions_kept : (n : ℕ) (raw : List (List RawPred)) → flat_map conjunction_faults (enumerate_from n raw) ≡ [] → list_all is_kept_conjunction (kept raw) ≡ true
 conjunctions_kept n [] e = refl
 conjunctions_kept n (c ∷ raw) e =
-    let parts = nil_parts (conjunction_faults (n, c)) (flat_map conjunction_faults (enumerate_from (n + 1) raw)) e in
+    let parts = both_nil (conjunction_faults (n, c)) (flat_map conjunction_faults (enumerate_from (n + 1) raw)) e in
     and_from (is_kept_conjunction (kept_conjunction c)) (list_all is_kept_conjunction (kept raw)) (conjunction_kept n c parts.0) (conjunctions_kept (n + 1) raw parts.1)
 
 -- what has no fault is kept within the limits
 pub kept_is : (raw : List (List RawPred)) → faults raw ≡ [] → is_kept (kept raw) ≡ true
 kept_is raw e =
-    let parts = nil_parts (fault_where (nat_eq (length raw) 0) NoConjunction ++ fault_where (ltb 64 (length raw)) (TooMany 0 0)) (flat_map conjunction_faults (enumerate_from 0 raw)) e in
-    let limits = nil_parts (fault_where (nat_eq (length raw) 0) NoConjunction) (fault_where (ltb 64 (length raw)) (TooMany 0 0)) parts.0 in
+    let parts = both_nil (fault_where (nat_eq (length raw) 0) NoConjunction ++ fault_where (ltb 64 (length raw)) (TooMany 0 0)) (flat_map conjunction_faults (enumerate_from 0 raw)) e in
+    let limits = both_nil (fault_where (nat_eq (length raw) 0) NoConjunction) (fault_where (ltb 64 (length raw)) (TooMany 0 0)) parts.0 in
     let most : length raw ≤ 64 = ltb-false 64 (length raw) (where_false _ (TooMany 0 0) limits.1) in
     let some : 0 < length raw = some_values (length raw) (not_false _ (where_false _ NoConjunction limits.0)) in
     and_from _ _ (and_from _ _

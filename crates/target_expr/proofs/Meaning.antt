@@ -7,6 +7,8 @@ use Rattle.std.specs.Cmp.Lexicographic.{bytes_decides}
 use Rattle.std.proofs.lemmas.Bool.{and_parts, and_from, false_from_ne_true, not-true, not_from_false, or_left, or_right, or_cases, both_ways}
 use Rattle.std.proofs.lemmas.List.Folds.{list_any_at}
 use Rattle.std.proofs.lemmas.List.{get_or-take, get_or_at}
+use Rattle.std.specs.Cmp.{both_ways}
+use Rattle.rtb_num.proofs.Plain.{both_nil}
 use Rattle.target_expr.specs.declared.attr.Attr.{Attr}
 use Rattle.target_expr.specs.declared.attr.Attr.TheVariants.{Domain, Site, Bundle, App, Publisher, Country, Region, Metro, City, Zip, DeviceType, Make, Model, Os, Osv, Language, Carrier, ConnectionType, Yob, Gender, TagId, Pos}
 use Rattle.target_expr.specs.declared.pred.Pred.{Pred}
@@ -17,7 +19,7 @@ use Rattle.target_expr.specs.Truth.{conjunction_holds, holds, pred_holds, value_
 use Rattle.target_expr.specs.Written.{written_holds, written_pred_holds}
 use Rattle.target_expr.specs.Kept.{conjunction_faults, fault_where, faults, in_order, is_too_much, kept, kept_at, kept_conjunction, kept_in, kept_pred, pred_faults}
 use Rattle.target_expr.proofs.ByteOrder.{Has, has_in_order, in_order_has}
-use Rattle.target_expr.proofs.Keeping.{is_of, nil_parts, where_false}
+use Rattle.target_expr.proofs.Keeping.{is_of, where_false}
 
 -- ---- the values
 
@@ -33,14 +35,9 @@ has_from_any p (x ∷ xs) e = elim (or_cases (p x) (list_any p xs) e) [
   | inr f ↦ let (z, (h, g)) = has_from_any p xs f in (z, (inr h, g))
 ]
 
-same_bool : (a b : Bool) → (a ≡ true → b ≡ true) → (b ≡ true → a ≡ true) → a ≡ b
-same_bool true b f g = sym (f refl)
-same_bool false true f g = g refl
-same_bool false false f g = refl
-
 -- a text is one of the values where it is one of those that are kept
 same_any : (p : List ℕ → Bool) (vs : List (List ℕ)) → list_any p (in_order vs) ≡ list_any p vs
-same_any p vs = same_bool _ _
+same_any p vs = both_ways _ _
     (λ e. let (z, (h, g)) = has_from_any p (in_order vs) e in any_from_has p vs z (has_in_order vs z h) g)
     (λ e. let (z, (h, g)) = has_from_any p vs e in any_from_has p (in_order vs) z (in_order_has vs z h) g)
 
@@ -169,10 +166,10 @@ fresh_from : (i : ℕ) (whole : List RawPred) (q : RawPred) (m : ℕ) → m < le
     → flat_map (pred_faults i whole) (enumerate_from n c) ≡ [] → is_fresh q.attr c ≡ true
 fresh_from i whole q m within is n [] before e = refl
 fresh_from i whole q m within is n (p ∷ c) before e =
-    let parts = nil_parts (pred_faults i whole (n, p)) (flat_map (pred_faults i whole) (enumerate_from (n + 1) c)) e in
-    let last = nil_parts _ (fault_where (is_too_much p) (TooMany i n)) parts.0 in
-    let third = nil_parts _ (fault_where (nat_eq (length p.values) 0) (EmptyList i n)) last.0 in
-    let second = nil_parts (fault_where (is_none (named p.attr)) (UnknownAttr i n)) (fault_where (list_any (λ (r : RawPred). bytes_eq r.attr p.attr) (take n whole)) (AttrTwice i n)) third.0 in
+    let parts = both_nil (pred_faults i whole (n, p)) (flat_map (pred_faults i whole) (enumerate_from (n + 1) c)) e in
+    let last = both_nil _ (fault_where (is_too_much p) (TooMany i n)) parts.0 in
+    let third = both_nil _ (fault_where (nat_eq (length p.values) 0) (EmptyList i n)) last.0 in
+    let second = both_nil (fault_where (is_none (named p.attr)) (UnknownAttr i n)) (fault_where (list_any (λ (r : RawPred). bytes_eq r.attr p.attr) (take n whole)) (AttrTwice i n)) third.0 in
     let none : list_any (λ (r : RawPred). bytes_eq r.attr p.attr) (take n whole) ≡ false = where_false _ (AttrTwice i n) second.1 in
     let there : m < length (take n whole) = omega (arith, length-take n whole) in
     let differ : bytes_eq q.attr p.attr ≡ false = false_from_ne_true _ (λ f.
@@ -183,10 +180,10 @@ fresh_from i whole q m within is n (p ∷ c) before e =
 apart_from : (i : ℕ) (whole pre c : List RawPred) (n : ℕ) → whole ≡ pre ++ c → length pre ≡ n → flat_map (pred_faults i whole) (enumerate_from n c) ≡ [] → are_apart c ≡ true
 apart_from i whole pre [] n is size e = refl
 apart_from i whole pre (q ∷ c) n is size e =
-    let parts = nil_parts (pred_faults i whole (n, q)) (flat_map (pred_faults i whole) (enumerate_from (n + 1) c)) e in
-    let last = nil_parts _ (fault_where (is_too_much q) (TooMany i n)) parts.0 in
-    let third = nil_parts _ (fault_where (nat_eq (length q.values) 0) (EmptyList i n)) last.0 in
-    let second = nil_parts (fault_where (is_none (named q.attr)) (UnknownAttr i n)) (fault_where (list_any (λ (r : RawPred). bytes_eq r.attr q.attr) (take n whole)) (AttrTwice i n)) third.0 in
+    let parts = both_nil (pred_faults i whole (n, q)) (flat_map (pred_faults i whole) (enumerate_from (n + 1) c)) e in
+    let last = both_nil _ (fault_where (is_too_much q) (TooMany i n)) parts.0 in
+    let third = both_nil _ (fault_where (nat_eq (length q.values) 0) (EmptyList i n)) last.0 in
+    let second = both_nil (fault_where (is_none (named q.attr)) (UnknownAttr i n)) (fault_where (list_any (λ (r : RawPred). bytes_eq r.attr q.attr) (take n whole)) (AttrTwice i n)) third.0 in
     let known : is_none (named q.attr) ≡ false = where_false _ (UnknownAttr i n) second.0 in
     let here : get_or whole n q ≡ q = ap (λ l. get_or l n q) is ∙ get_or_at pre q c q n size in
     let within : n < length whole = omega (arith, ap length is, length-append pre (q ∷ c), size) in
@@ -196,15 +193,15 @@ apart_from i whole pre (q ∷ c) n is size e =
 
 conjunction_means : (pairs : List (Attr × List ℕ)) (i : ℕ) (c : List RawPred) → conjunction_faults (i, c) ≡ [] → conjunction_holds pairs (kept_conjunction c) ≡ list_all (written_pred_holds pairs) c
 conjunction_means pairs i c e =
-    let parts = nil_parts (fault_where (ltb 16 (length c)) (TooMany i 0)) (flat_map (pred_faults i c) (enumerate_from 0 c)) e in
+    let parts = both_nil (fault_where (ltb 16 (length c)) (TooMany i 0)) (flat_map (pred_faults i c) (enumerate_from 0 c)) e in
     same_conjunction pairs c (apart_from i c [] c 0 refl refl parts.1)
 
 conjunctions_mean : (pairs : List (Attr × List ℕ)) (n : ℕ) (raw : List (List RawPred)) → flat_map conjunction_faults (enumerate_from n raw) ≡ [] → holds pairs (kept raw) ≡ written_holds pairs raw
 conjunctions_mean pairs n [] e = refl
 conjunctions_mean pairs n (c ∷ raw) e =
-    let parts = nil_parts (conjunction_faults (n, c)) (flat_map conjunction_faults (enumerate_from (n + 1) raw)) e in
+    let parts = both_nil (conjunction_faults (n, c)) (flat_map conjunction_faults (enumerate_from (n + 1) raw)) e in
     ap (λ b. b || holds pairs (kept raw)) (conjunction_means pairs n c parts.0) ∙ ap (λ b. list_all (written_pred_holds pairs) c || b) (conjunctions_mean pairs (n + 1) raw parts.1)
 
 pub kept_means : (raw : List (List RawPred)) (pairs : List (Attr × List ℕ)) → faults raw ≡ [] → holds pairs (kept raw) ≡ written_holds pairs raw
 kept_means raw pairs e =
-    conjunctions_mean pairs 0 raw (nil_parts (fault_where (nat_eq (length raw) 0) NoConjunction ++ fault_where (ltb 64 (length raw)) (TooMany 0 0)) (flat_map conjunction_faults (enumerate_from 0 raw)) e).1
+    conjunctions_mean pairs 0 raw (both_nil (fault_where (nat_eq (length raw) 0) NoConjunction ++ fault_where (ltb 64 (length raw)) (TooMany 0 0)) (flat_map conjunction_faults (enumerate_from 0 raw)) e).1

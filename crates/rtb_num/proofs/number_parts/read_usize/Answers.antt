@@ -1,7 +1,7 @@
 use Rattle.std.proofs.Common.{◌+◌, ◌∙◌, ◌-◌, ◌^◌, min, arith, ap, sym}
 use Rattle.rtb_num.proofs.Numbers.{number_none, number_push}
 use Rattle.rtb_num.proofs.Scaling.{saturated_step}
-use Rattle.rtb_num.proofs.number_parts.saturated.Goals as goal
+use Rattle.rtb_num.proofs.number_parts.read_usize.Goals as goal
 
 pub loop-c-init : goal.loop-c-init
 loop-c-init c = ap (λ n. min n (2 ^ 64 - 1)) (sym number_none)
