@@ -6,8 +6,7 @@ ghost use Rattle.std.specs.List.{flat_map};
 ghost use Rattle.target_expr.specs.declared.attr.Attr.TheVariants.{Publisher};
 ghost use Rattle.assign.specs.Rows.{app_rows, device_rows, geo_rows, imp_rows, number_text, present, publisher_of, site_rows, user_rows};
 
-use itoa::Buffer;
-use rtb_num::{List, Txt};
+use rtb_num::{List, Txt, write_signed};
 use rtb_types::{App, Banner, Device, Geo, Imp, Site, User};
 use std::alloc::{AllocError, Global};
 use target_expr::Attr;
@@ -147,8 +146,7 @@ fn decimal_text(alloc: Global, n: i32) -> Result<Txt, AllocError>
     ensures { IfOk result (λ t. t ≡ signed_decimal n) }
 {
     let mut text = Txt::new(alloc);
-    let mut buffer = Buffer::new();
-    text.extend(buffer.format(n).as_bytes())?;
+    write_signed(n, &mut text)?;
     Ok(text)
 }
 

@@ -5,8 +5,7 @@ ghost use Rattle.conj_index.specs.Campaigns.{DoRise, conjunctions_in};
 
 use crate::draws::Draws;
 use crate::profile::{Field, Profile};
-use itoa::Buffer;
-use rtb_num::{List, Txt};
+use rtb_num::{List, Txt, write_decimal};
 use std::alloc::{AllocError, Global};
 use target_expr::{Assignment, Attr, Expr, RawPred};
 
@@ -85,7 +84,9 @@ fn raw_pred(
 fn value(alloc: Global, field: &Field, draws: &mut Draws) -> Result<Txt, AllocError> {
     let bits = u64::from(field.least) + draws.below(u64::from(field.widths.max(1)));
     let value = draws.below(1 << bits.min(32));
-    Txt::from_slice(alloc, Buffer::new().format(value).as_bytes())
+    let mut text = Txt::new(alloc);
+    write_decimal(value, &mut text)?;
+    Ok(text)
 }
 
 /// So many impressions. Only want of memory is a fault.

@@ -1,11 +1,12 @@
 -- The faults of what is made of the fields: facts and an expression.
-use Rattle.std.specs.Prelude.{codes}
 use Rattle.std.proofs.Common.{◌≡◌, ℕ, ◌*◌, ◌%◌, List, [], ◌∷◌, ◌++◌, map, subst, Some, Ok, Err, inl, inr, refl, ap, ◌∙◌, arith}
 use Rattle.rtb_num.proofs.Plain.{both_same}
 use Rattle.exact_json.specs.Tree.{Tree}
 use Rattle.json_fields.specs.Answers.{IsFirst}
 use Rattle.json_fields.proofs.First.{behind, in_front, neither}
 use Rattle.campaign.specs.declared.parts.FactParts.{FactParts}
+use Rattle.campaign.specs.Paths.{member_name}
+use Rattle.campaign.specs.declared.field.CampField.{CampField}
 use Rattle.campaign.specs.Faults.{checked, fact_faults}
 use Rattle.target_expr.specs.declared.pred.RawPred.{RawPred}
 use Rattle.target_expr.specs.declared.pred.Pred.{Pred}
@@ -41,7 +42,7 @@ expr_first fs ExprFault.Memory h = record { first = inl refl }
 
 pub whole_budget : (t : Tree) → (parts_from t).budget % 1000 ≡ 0
 unfolding parts_from
-whole_budget t = whole (amount_from (codes "budget") t)
+whole_budget t = whole (amount_from (member_name CampField.Budget) t)
   where
     whole : (n : ℕ) → n * 1000 % 1000 ≡ 0
     whole n = omega arith

@@ -5,7 +5,7 @@ ghost use Rattle.exact_json.specs.Forms.{HasForms};
 ghost use Rattle.exact_json.specs.View.{tree_of};
 ghost use Rattle.json_fields.specs.Answers.{Answers};
 ghost use Rattle.json_fields.specs.Fields.{as_text, as_whole};
-ghost use Rattle.campaign_read.specs.Parts.{attr_bounds, list_fault, list_faults, list_from, list_item, list_name, list_whole};
+ghost use Rattle.campaign_read.specs.Parts.{attr_bounds, list_fault, list_faults, list_from, list_item, list_whole};
 
 use crate::fault::CampFault;
 use crate::parts::fault;
@@ -27,18 +27,6 @@ pub(crate) enum ListField {
 }
 
 impl ListField {
-    fn name(self) -> &'static [u8]
-        ensures { result.now ≡ list_name self }
-    {
-        match self {
-            ListField::Cat => b"cat",
-            ListField::Attr => b"attr",
-            ListField::Deals => b"deals",
-            ListField::In(_, _) => b"in",
-            ListField::Not(_, _) => b"not",
-        }
-    }
-
     // The list itself.
     fn whole(self) -> CampField
         ensures { result ≡ list_whole self }
@@ -74,7 +62,7 @@ pub(crate) fn texts_field(
 ) -> Result<List<Txt>, CampFault>
     ensures { Answers CampFault.Memory (list_faults list as_text (tree_of object.now)) (list_from list as_text (tree_of object.now)) result }
 {
-    match fields::texts(alloc, object, list.name()) {
+    match fields::texts(alloc, object, list.whole().member()) {
         Ok(texts) => Ok(texts),
         Err(flaw) => Err(list_fault(list, flaw)),
     }
@@ -101,7 +89,7 @@ pub(crate) fn attr_field(alloc: Global, object: &Value) -> Result<List<i32>, Cam
     requires forms { HasForms (tree_of object.now) }
     ensures { Answers CampFault.Memory (list_faults ListField.Attr (as_whole attr_bounds) (tree_of object.now)) (list_from ListField.Attr (as_whole attr_bounds) (tree_of object.now)) result }
 {
-    match fields::whole_numbers(alloc, object, b"attr", &ATTR) {
+    match fields::whole_numbers(alloc, object, CampField::Attr.member(), &ATTR) {
         Ok(attr) => Ok(attr),
         Err(flaw) => Err(list_fault(ListField::Attr, flaw)),
     }

@@ -1,9 +1,9 @@
 #![tactic(auto, using(json_fields::proofs::First::in_front, json_fields::proofs::First::behind, json_fields::proofs::First::neither), unfolding(crate::specs::Target::conjunction_faults, crate::specs::Target::conjunction_from, crate::specs::Target::conjunctions_faults, crate::specs::Target::conjunctions_of, crate::specs::Target::target_faults, crate::specs::Target::target_from, crate::specs::Parts::element_faults))]
 
-ghost use Rattle.std.specs.Prelude.{◌≡◌, ◌&&◌, [], ◌∷◌, codes, if◌then◌else◌, is_none, map, IfOk};
+ghost use Rattle.std.specs.Prelude.{◌≡◌, ◌&&◌, [], ◌∷◌, if◌then◌else◌, map, not, IfOk};
 ghost use Rattle.exact_json.specs.View.{tree_of};
 ghost use Rattle.json_fields.specs.Answers.{Answers, map_ok, value_or};
-ghost use Rattle.json_fields.specs.Fields.{as_array, present};
+ghost use Rattle.json_fields.specs.Fields.{as_array};
 ghost use Rattle.json_fields.specs.Items.{each_at};
 ghost use Rattle.campaign.specs.declared.field.CampField.{CampField};
 ghost use Rattle.campaign_read.specs.declared.fault.CampFault.{CampFault};
@@ -23,7 +23,7 @@ use target_expr::RawPred;
 pub(crate) fn target_field(alloc: Global, body: &Value) -> Result<List<List<RawPred>>, CampFault>
     ensures { Answers CampFault.Memory (target_faults (tree_of body.now)) (target_from (tree_of body.now)) result }
 {
-    match fields::array(body, b"target") {
+    match fields::array(body, CampField::Target.member()) {
         Ok(Some(values)) => Ok(List::from_vec(all_conjunctions(alloc, values)?)),
         Ok(None) => Ok(everything(alloc)?),
         Err(flaw) => Err(fault(CampField::Target, flaw)),
@@ -72,7 +72,7 @@ fn pred_entry(alloc: Global, i: usize, j: usize, value: &Value) -> Result<RawPre
 fn pred_in(alloc: Global, i: usize, j: usize, pred: &Value) -> Result<RawPred, CampFault>
     ensures { Answers CampFault.Memory (pred_faults i j (tree_of pred.now)) (pred_from (tree_of pred.now)) result }
 {
-    let attr = text_field(pred, b"attr", CampField::PredicateAttr(i, j))?;
+    let attr = text_field(pred, CampField::PredicateAttr(i, j))?;
     some_list(i, j, pred)?;
     let admitted = texts_field(alloc, pred, ListField::In(i, j))?;
     one_list(i, j, pred)?;
@@ -81,13 +81,13 @@ fn pred_in(alloc: Global, i: usize, j: usize, pred: &Value) -> Result<RawPred, C
     Ok(RawPred {
         attr,
         negated,
-        values: chosen(negated, admitted, excluded),
+        values: choose(negated, admitted, excluded),
     })
 }
 
 // A predicate lists what it admits or what it excludes.
 fn some_list(i: usize, j: usize, pred: &Value) -> Result<(), CampFault>
-    ensures { Answers CampFault.Memory (fault_where (is_none (present (codes "in") (tree_of pred.now)) && is_none (present (codes "not") (tree_of pred.now))) (CampFault.Missing (CampField.In i j))) tt result }
+    ensures { Answers CampFault.Memory (fault_where (not (has_in (tree_of pred.now)) && not (has_not (tree_of pred.now))) (CampFault.Missing (CampField.In i j))) tt result }
 {
     if has_in(pred) {
         return Ok(());
@@ -103,13 +103,13 @@ fn some_list(i: usize, j: usize, pred: &Value) -> Result<(), CampFault>
 fn has_in(pred: &Value) -> bool
     ensures { result ≡ has_in (tree_of pred.now) }
 {
-    fields::present(pred, b"in").is_some()
+    fields::present(pred, CampField::In(0, 0).member()).is_some()
 }
 
 fn has_not(pred: &Value) -> bool
     ensures { result ≡ has_not (tree_of pred.now) }
 {
-    fields::present(pred, b"not").is_some()
+    fields::present(pred, CampField::Not(0, 0).member()).is_some()
 }
 
 // It does not list both.
@@ -127,7 +127,7 @@ fn one_list(i: usize, j: usize, pred: &Value) -> Result<(), CampFault>
     })
 }
 
-fn chosen(negated: bool, admitted: List<Txt>, excluded: List<Txt>) -> List<Txt>
+fn choose(negated: bool, admitted: List<Txt>, excluded: List<Txt>) -> List<Txt>
     ensures { result ≡ (if negated then excluded else admitted) }
 {
     if negated { excluded } else { admitted }
