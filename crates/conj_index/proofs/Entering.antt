@@ -9,7 +9,7 @@ use Rattle.std.proofs.lemmas.List.{append-nil}
 use Rattle.std.proofs.lemmas.List.Elements.{filter_map-append}
 use Rattle.std.proofs.lemmas.List.Folds.{list_any-append}
 use Rattle.std.proofs.lemmas.Slice.Eq.{bytes_eq-Decides}
-use Rattle.std.specs.Cmp.{both_ways}
+use Rattle.std.specs.Cmp.Derive.{one_truth}
 use Rattle.indexmap.specs.IndexMap.{insert_entry, keys}
 use Rattle.postings.specs.declared.entry.Entry.{Entry}
 use Rattle.target_expr.specs.declared.pred.Pair.{Pair}
@@ -32,7 +32,7 @@ turned : (a b : Key) → same_key a b ≡ true → same_key b a ≡ true
 turned a b h = let e : a ≡ b = key_same a b h in ap (λ k. same_key k a) (sym e) ∙ own_key a
 
 same_turned : (a b : Key) → same_key a b ≡ same_key b a
-same_turned a b = both_ways (same_key a b) (same_key b a) (turned a b) (turned b a)
+same_turned a b = one_truth (same_key a b) (same_key b a) (turned a b) (turned b a)
 
 or_nil : (b : Bool) → (b || false) ≡ b
 or_nil true = refl

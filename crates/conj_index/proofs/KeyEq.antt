@@ -4,7 +4,7 @@ use Rattle.std.specs.List.{position_or_len}
 use Rattle.std.specs.Str.{bytes_eq}
 use Rattle.std.proofs.lemmas.Bool.{false≢true}
 use Rattle.std.proofs.lemmas.Bool.Decides.{nat_tests}
-use Rattle.std.specs.Cmp.{both_ways}
+use Rattle.std.specs.Cmp.Derive.{one_truth}
 use denote.Enum.Bare.{same_true, sameb, true_same}
 use Rattle.target_expr.specs.contracts.attr.Attr.{the_type}
 use Rattle.target_expr.specs.declared.attr.Attr.{Attr}
@@ -19,7 +19,7 @@ itself : (n : ℕ) → (n == n) ≡ true
 itself n = grind (arith, nat_tests)
 
 attr_eq : (a b : Attr) → sameb the_type a b ≡ same_attr a b
-attr_eq a b = both_ways (sameb the_type a b) (same_attr a b)
+attr_eq a b = one_truth (sameb the_type a b) (same_attr a b)
     (λ h. ap (λ n. number_of a == n) (ap number_of (sym (same_true the_type (search rules) a b h))) ∙ itself (number_of a))
     (λ h. true_same the_type a b (attr_same a b h))
 

@@ -8,7 +8,7 @@ use Rattle.std.proofs.lemmas.Option.{slice_get-get_or, slice_get_past}
 use Rattle.std.proofs.lemmas.List.Elements.{All-head, All-tail}
 use Rattle.std.proofs.lemmas.List.Folds.{list_any_at}
 use Rattle.std.proofs.lemmas.List.Sums.{sum_by-cons}
-use Rattle.std.specs.Cmp.{both_ways}
+use Rattle.std.specs.Cmp.Derive.{one_truth}
 use Rattle.postings.specs.declared.entry.Entry.{Entry}
 use Rattle.postings.specs.Order.{IsRising, entry_at, rank_of}
 use Rattle.conj_match.specs.Place.{Place, shown}
@@ -91,7 +91,7 @@ shown_from : (p : Entry → Bool) (b : ℕ) (c : Place) → Stands b c → c.pla
 shown_from p b c s k h = ap (λ o. option_map_or p o false) (shown_here b c s k) ∙ h
 
 pub negated_agrees : (b id : ℕ) (c : Place) → Stands b c → b ≤ id → AtLeast id c → has_negated id c.entries ≡ shows_negated id c
-negated_agrees b id c s h least = both_ways _ _
+negated_agrees b id c s h least = one_truth _ _
     (λ has.
     let (i, within, test) = some_at (λ (e : Entry). (e.id == id) && e.negated) c.entries has in
     let (is, sign) = both_parts _ _ _ test in
@@ -104,7 +104,7 @@ negated_agrees b id c s h least = both_ways _ _
     list_any_at (λ (e : Entry). (e.id == id) && e.negated) c.entries c.place _ within test)
 
 pub plain_agrees : (b id : ℕ) (c : Place) → Stands b c → b ≤ id → AtLeast id c → shows_negated id c ≡ false → has_plain id c.entries ≡ shows_plain id c
-plain_agrees b id c s h least none = both_ways _ _
+plain_agrees b id c s h least none = one_truth _ _
     (λ has.
     let (i, within, test) = some_at (λ (e : Entry). (e.id == id) && not e.negated) c.entries has in
     let (is, sign) = both_parts _ _ _ test in

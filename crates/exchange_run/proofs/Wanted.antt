@@ -5,7 +5,7 @@ use Rattle.std.specs.Option.{option_map_or}
 use Rattle.std.specs.Str.{bytes_eq}
 use Rattle.std.specs.Cmp.Lexicographic.{bytes_decides}
 use Rattle.std.proofs.lemmas.Bool.Decides.{nat_tests}
-use Rattle.std.specs.Cmp.{both_ways}
+use Rattle.std.specs.Cmp.Derive.{one_truth}
 use Rattle.rtb_types.specs.declared.request.BidRequest.{BidRequest}
 use Rattle.rtb_types.specs.declared.request.Imp.{Imp}
 use Rattle.target_expr.specs.declared.attr.Attr.TheVariants.{Domain}
@@ -33,7 +33,7 @@ kept_as None = refl
 kept_as (Some domain) = refl
 
 turned : (x y : List ℕ) → bytes_eq x y ≡ bytes_eq y x
-turned x y = both_ways (bytes_eq x y) (bytes_eq y x)
+turned x y = one_truth (bytes_eq x y) (bytes_eq y x)
     (λ e. (bytes_decides y x).1 (sym ((bytes_decides x y).0 e)))
     (λ e. (bytes_decides x y).1 (sym ((bytes_decides y x).0 e)))
 

@@ -5,12 +5,13 @@ use Rattle.std.specs.Option.{option_map_or}
 use Rattle.std.specs.Str.{bytes_eq}
 use Rattle.std.specs.Cmp.Lexicographic.{bytes_decides}
 use Rattle.std.proofs.lemmas.Bool.{and_parts, and_from, false_from_ne_true, not-true, not_from_false, or_left, or_right, or_cases, both_ways}
+use Rattle.std.proofs.Math.Bool.{and-true}
 use Rattle.std.proofs.lemmas.List.Folds.{list_any_at}
 use Rattle.std.proofs.lemmas.List.{get_or-take, get_or_at}
-use Rattle.std.specs.Cmp.{both_ways}
+use Rattle.std.specs.Cmp.Derive.{one_truth}
+use Rattle.target_expr.proofs.Attributes.{in_table, own}
 use Rattle.rtb_num.proofs.Plain.{both_nil}
 use Rattle.target_expr.specs.declared.attr.Attr.{Attr}
-use Rattle.target_expr.specs.declared.attr.Attr.TheVariants.{Domain, Site, Bundle, App, Publisher, Country, Region, Metro, City, Zip, DeviceType, Make, Model, Os, Osv, Language, Carrier, ConnectionType, Yob, Gender, TagId, Pos}
 use Rattle.target_expr.specs.declared.pred.Pred.{Pred}
 use Rattle.target_expr.specs.declared.pred.RawPred.{RawPred}
 use Rattle.target_expr.specs.declared.fault.ExprFault.TheVariants.{NoConjunction, EmptyList, AttrTwice, TooMany, UnknownAttr}
@@ -37,7 +38,7 @@ has_from_any p (x ∷ xs) e = elim (or_cases (p x) (list_any p xs) e) [
 
 -- a text is one of the values where it is one of those that are kept
 same_any : (p : List ℕ → Bool) (vs : List (List ℕ)) → list_any p (in_order vs) ≡ list_any p vs
-same_any p vs = both_ways _ _
+same_any p vs = one_truth _ _
     (λ e. let (z, (h, g)) = has_from_any p (in_order vs) e in any_from_has p vs z (has_in_order vs z h) g)
     (λ e. let (z, (h, g)) = has_from_any p vs e in any_from_has p (in_order vs) z (in_order_has vs z h) g)
 
@@ -54,38 +55,6 @@ same_pred pairs a q = ap (λ b. cond q.negated (not b) b) (same_in (value_at pai
 
 -- ---- one predicate among the attributes
 
-and_true : (b : Bool) → (b && true) ≡ b
-and_true true = refl
-and_true false = refl
-
--- where it has its attribute's name, its own test
-abbrev own : (Attr → Bool) → List ℕ → List Attr → Bool
-own test t attrs = list_all (λ a. not (bytes_eq t (name_of a)) || test a) attrs
-
-own_named : (test : Attr → Bool) (b : Attr) → own test (name_of b) attributes ≡ test b
-own_named test Domain = and_true (test Domain)
-own_named test Site = and_true (test Site)
-own_named test Bundle = and_true (test Bundle)
-own_named test App = and_true (test App)
-own_named test Publisher = and_true (test Publisher)
-own_named test Country = and_true (test Country)
-own_named test Region = and_true (test Region)
-own_named test Metro = and_true (test Metro)
-own_named test City = and_true (test City)
-own_named test Zip = and_true (test Zip)
-own_named test DeviceType = and_true (test DeviceType)
-own_named test Make = and_true (test Make)
-own_named test Model = and_true (test Model)
-own_named test Os = and_true (test Os)
-own_named test Osv = and_true (test Osv)
-own_named test Language = and_true (test Language)
-own_named test Carrier = and_true (test Carrier)
-own_named test ConnectionType = and_true (test ConnectionType)
-own_named test Yob = and_true (test Yob)
-own_named test Gender = and_true (test Gender)
-own_named test TagId = and_true (test TagId)
-own_named test Pos = and_true (test Pos)
-
 found_name : (t : List ℕ) (attrs : List Attr) (b : Attr) → find (λ a. bytes_eq (name_of a) t) attrs ≡ Some b → name_of b ≡ t
 found_name t [] b e = cc
 found_name t (a ∷ attrs) b e =
@@ -96,7 +65,7 @@ found_name t (a ∷ attrs) b e =
 
 own_is : (test : Attr → Bool) (t : List ℕ) (o : Option Attr) → named t ≡ o → is_none o ≡ false → own test t attributes ≡ option_map_or test o false
 own_is test t None e known = cc
-own_is test t (Some b) e known = ap (λ s. own test s attributes) (sym (found_name t attributes b e)) ∙ own_named test b
+own_is test t (Some b) e known = ap (λ s. own test s attributes) (sym (found_name t attributes b e)) ∙ (in_table b).named test
 
 -- ---- one predicate more
 
@@ -127,7 +96,7 @@ add_at P a q o false none = refl
 
 split_cons : (P : Pred → Bool) (o : Option Pred) (ps : List Pred) → list_all P (cons_option o ps) ≡ (list_all P (cons_option o []) && list_all P ps)
 split_cons P None ps = refl
-split_cons P (Some p) ps = ap (λ b. b && list_all P ps) (sym (and_true (P p)))
+split_cons P (Some p) ps = ap (λ b. b && list_all P ps) (sym (and-true (P p)))
 
 add_all : (P : Pred → Bool) (q : RawPred) (c : List RawPred) (attrs : List Attr) → is_fresh q.attr c ≡ true
     → list_all P (kept_in (q ∷ c) attrs) ≡ (own (λ a. P (kept_pred a q)) q.attr attrs && list_all P (kept_in c attrs))
