@@ -4,7 +4,7 @@ ghost use Rattle.target_expr.specs.Truth.{are_single, value_at};
 ghost use Rattle.rtb_types.specs.declared.request.BidRequest.{BidRequest as Request};
 ghost use Rattle.rtb_types.specs.declared.request.Imp.{Imp as Impression};
 ghost use Rattle.target_expr.specs.declared.attr.Attr.{Attr as Attribute};
-ghost use Rattle.assign.specs.Rows.{pairs_of, rows, present, text_at};
+ghost use Rattle.assign.specs.Rows.{pairs_of, rows, pair_of, text_at};
 
 use crate::rows::{
     push_app, push_device, push_geo, push_imp, push_publisher, push_site, push_user,

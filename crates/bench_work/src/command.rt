@@ -66,8 +66,8 @@ fn work_of(way: &[u8], profile: &[u8], campaigns: &[u8], impressions: &[u8]) -> 
     ensures some { IfSome result (AreWorkWords way.now profile.now campaigns.now impressions.now) }
     ensures none { result ≡ None → (work : Work) → AreWorkWords way.now profile.now campaigns.now impressions.now work → ⊥ }
 {
-    let way = Way::named(way)?;
-    let profile = Profile::named(profile)?;
+    let way = Way::from_word(way)?;
+    let profile = Profile::from_word(profile)?;
     let campaigns = campaigns_in(campaigns)?;
     let impressions = times_in(impressions)?;
     Some(Work {

@@ -56,6 +56,6 @@ fact_faults p = text_faults Seat p.seat
     ++ flat_map (text_faults Adid) (option_to_list p.adid)
 
 -- the first of the faults, or the value where there is none
-abbrev pub checked : {A E : Type 0} → List E → A → Result A E
-checked [] x = Ok x
-checked (e ∷ es) x = Err e
+abbrev pub ok_unless : {A E : Type 0} → List E → A → Result A E
+ok_unless [] x = Ok x
+ok_unless (e ∷ es) x = Err e

@@ -7,7 +7,7 @@ use Rattle.json_fields.proofs.First.{behind, in_front, neither}
 use Rattle.campaign.specs.declared.parts.FactParts.{FactParts}
 use Rattle.campaign.specs.Paths.{member_name}
 use Rattle.campaign.specs.declared.field.CampField.{CampField}
-use Rattle.campaign.specs.Faults.{checked, fact_faults}
+use Rattle.campaign.specs.Faults.{ok_unless, fact_faults}
 use Rattle.target_expr.specs.declared.pred.RawPred.{RawPred}
 use Rattle.target_expr.specs.declared.pred.Pred.{Pred}
 use Rattle.target_expr.specs.declared.fault.ExprFault.{ExprFault}
@@ -17,11 +17,11 @@ use Rattle.campaign_read.specs.Campaign.{body_faults, campaign_from, fault_of_ta
 use Rattle.campaign_read.specs.Parts.{amount_from}
 use Rattle.campaign_read.specs.Target.{target_faults, target_from}
 
-pub checked_ok : {A E : Type 0} (fs : List E) (x y : A) → Ok y ≡ checked fs x → (fs ≡ []) × (y ≡ x)
+pub checked_ok : {A E : Type 0} (fs : List E) (x y : A) → Ok y ≡ ok_unless fs x → (fs ≡ []) × (y ≡ x)
 checked_ok [] x y e = (refl, cc)
 checked_ok (f ∷ fs) x y e = cc
 
-pub checked_err : {A E : Type 0} (fs : List E) (x : A) (f : E) → Err f ≡ checked fs x → (rest : List E) × (fs ≡ f ∷ rest)
+pub checked_err : {A E : Type 0} (fs : List E) (x : A) (f : E) → Err f ≡ ok_unless fs x → (rest : List E) × (fs ≡ f ∷ rest)
 checked_err [] x f e = cc
 checked_err (g ∷ fs) x f e = (fs, let same : g ≡ f = cc in ap (λ h. h ∷ fs) same)
 

@@ -104,7 +104,7 @@ module _ (a : Pairs) (single : are_single a ≡ true) (added : Campaigns) (index
   found_is_true : (k id z : ℕ) (part : Part) → slice_get (take (length a + 1) index.parts) k ≡ Some part → IsFoundIn a index.owners k part id z → Has z (true_under a added)
   found_is_true k id z part at f =
       let part_of = is.parts k part (taken_at index.parts (length a + 1) k part at) in
-      let (c, there, owner) = owned_by cs id z (ap (λ (o : List ℕ). slice_get o id) (sym is.owners) ∙ f.owned) in
+      let (c, there, owner) = owned_by cs id z (ap (λ (o : List ℕ). slice_get o id) (sym is.owners) ∙ f.with_owner) in
       let member : Has c cs = stands_has cs id c there in
       let apart = apart_from_kept c.preds (kept_member added is.kept c member) in
       let size : size_of c.preds ≡ k = elim (by_size (size_of c.preds) k) [ inl e ↦ e | inr other ↦ absurd (sized k cs part a id c part_of there f.matched other) ] in
@@ -121,8 +121,8 @@ module _ (a : Pairs) (single : are_single a ≡ true) (added : Campaigns) (index
       let (part, at) = within_at index.parts (size_of c.preds) (omega (arith, most, is.sizes)) in
       let taken : slice_get (take (length a + 1) index.parts) (size_of c.preds) ≡ Some part = at_taken index.parts (length a + 1) (size_of c.preds) part (omega (arith, small)) at in
       let matched : is_match (found_lists a (size_of c.preds) part) (max (size_of c.preds) 1) id ≡ true = match_holds (size_of c.preds) cs part a id c (is.parts (size_of c.preds) part at) there refl apart single ∙ holds_c in
-      let owned : slice_get index.owners id ≡ Some z = ap (λ (o : List ℕ). slice_get o id) is.owners ∙ owner_at cs id c there ∙ ap Some owner in
-      found.whole (size_of c.preds) id z part (omega (arith, slice_get_within (take (length a + 1) index.parts) (size_of c.preds) part taken, all)) taken (record { matched = matched; owned = owned })
+      let with_owner : slice_get index.owners id ≡ Some z = ap (λ (o : List ℕ). slice_get o id) is.owners ∙ owner_at cs id c there ∙ ap Some owner in
+      found.whole (size_of c.preds) id z part (omega (arith, slice_get_within (take (length a + 1) index.parts) (size_of c.preds) part taken, all)) taken (record { matched = matched; with_owner = with_owner })
 
   -- sorted and each once, the numbers found are those of the campaigns that are true
   pub answer_is : (n : ℕ) (numbers sorted : List ℕ) → length (take (length a + 1) index.parts) ≤ n → AreFound a index.owners (take (length a + 1) index.parts) n numbers

@@ -6,7 +6,7 @@ use Rattle.std.proofs.lemmas.List.Elements.{filter_more}
 use Rattle.conj_index.proofs.BuildLoops.{expression_more}
 use Rattle.target_expr.specs.declared.attr.Attr.{Attr}
 use Rattle.target_expr.specs.declared.pred.Pred.{Pred}
-use Rattle.target_expr.specs.Truth.{holds, tested}
+use Rattle.target_expr.specs.Truth.{holds, tests_in}
 use Rattle.conj_index.specs.Campaigns.{Campaigns, conjunctions_in, expression_of}
 use Rattle.conj_index.specs.Find.{true_under}
 
@@ -31,7 +31,7 @@ asked_step a xs i d old new b h at was pushed is =
 
 -- the conjunctions that one campaign more has looked at
 pub cost_step : (a : List (Attr × List ℕ)) (xs : Campaigns) (i : ℕ) (d : ℕ × List (List Pred)) (start old new : ℕ) → i < length xs
-    → old ≤ start + conjunctions_in (take i xs) → new ≡ old + tested a (get_or xs i d).1 → new ≤ start + conjunctions_in (take (i + 1) xs)
+    → old ≤ start + conjunctions_in (take i xs) → new ≡ old + tests_in a (get_or xs i d).1 → new ≤ start + conjunctions_in (take (i + 1) xs)
 cost_step a xs i d start old new h was looked =
     let more = ap length (expression_more xs i d h) ∙ length-append (expression_of (take i xs)) (get_or xs i d).1 in
     omega (arith, more, looked, was)

@@ -37,15 +37,15 @@ found_next a owners parts n part numbers ids new found there answer is = record 
       elim (has_either numbers (filter_map (slice_get owners) ids) z (has_from_contains (numbers ++ filter_map (slice_get owners) ids) z (subst (λ (l : List ℕ). Contains l z) is h))) [
         | inl l ↦ let (k, id, at, below, is_at, f) = found.sound z (contains_from_has numbers z l) in (k, id, at, omega (arith, below), is_at, f)
         | inr r ↦
-            let (id, has, owned) = found_has (slice_get owners) ids z r in
-            (n, id, part, omega arith, there, record { matched = (answer.exact id).0 (contains_from_has ids id has); owned = owned })
+            let (id, has, with_owner) = found_has (slice_get owners) ids z r in
+            (n, id, part, omega arith, there, record { matched = (answer.exact id).0 (contains_from_has ids id has); with_owner = with_owner })
       ];
   whole = λ k id z at h is_at f. subst (λ (l : List ℕ). Contains l z) (sym is) (contains_from_has (numbers ++ filter_map (slice_get owners) ids) z (
       elim (cases_eq k n) [
         | inl e ↦
             let same : at ≡ part = same_Some at part (sym is_at ∙ ap (slice_get parts) e ∙ there) in
             let matched : is_match (found_lists a n part) (max n 1) id ≡ true = ap (λ (m : ℕ). is_match (found_lists a m part) (max m 1) id) (sym e) ∙ ap (λ (p : Part). is_match (found_lists a k p) (max k 1) id) (sym same) ∙ f.matched in
-            has_right numbers (filter_map (slice_get owners) ids) z (has_found (slice_get owners) ids id z (has_from_contains ids id ((answer.exact id).1 matched)) f.owned)
+            has_right numbers (filter_map (slice_get owners) ids) z (has_found (slice_get owners) ids id z (has_from_contains ids id ((answer.exact id).1 matched)) f.with_owner)
         | inr other ↦ has_left numbers (filter_map (slice_get owners) ids) z (has_from_contains numbers z (found.whole k id z at (below k n h other) is_at f))
       ]));
 }

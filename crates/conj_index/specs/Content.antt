@@ -19,12 +19,12 @@ pub record Listed : Type 0 where
   pub owner : ℕ
   pub preds : List Pred
 
-abbrev pub owned : ℕ × List (List Pred) → List Listed
-owned p = map (λ c. record { owner = p.0; preds = c }) p.1
+abbrev pub with_owner : ℕ × List (List Pred) → List Listed
+with_owner p = map (λ c. record { owner = p.0; preds = c }) p.1
 
 -- the conjunctions of the campaigns, numbered from 0 in this order: the number is the id
 abbrev pub conjunctions_of : Campaigns → List Listed
-conjunctions_of added = flat_map owned added
+conjunctions_of added = flat_map with_owner added
 
 -- the predicate speaks of the key's attribute, and lists its value
 abbrev pub names : Key → Pred → Bool

@@ -51,8 +51,8 @@ with_entry (l ∷ ls) zero e = (l ++ e ∷ []) ∷ ls
 with_entry (l ∷ ls) (suc n) e = l ∷ with_entry ls n e
 
 -- the pair with the conjunction's number counted from `first` on
-abbrev pub shifted : ℕ → Pair → Pair
-shifted first p = record p { conjunction = first + p.conjunction }
+abbrev pub shift : ℕ → Pair → Pair
+shift first p = record p { conjunction = first + p.conjunction }
 
 abbrev pub greatest : List ℕ → ℕ
 greatest [] = 0
@@ -79,5 +79,5 @@ abbrev pub HasZeroList : ℕ → List Entry → Growing → Growing → Type 0
 HasZeroList k zeros old new = (new.keys ≡ old.keys) × (lists_of new ≡ lists_of old ++ (if k == 0 then zeros ∷ [] else []))
 
 -- the part with posting lists of its entries
-abbrev pub finished : Growing → Part
-finished part = record { keys = part.keys; lists = lists_of part }
+abbrev pub finish : Growing → Part
+finish part = record { keys = part.keys; lists = lists_of part }

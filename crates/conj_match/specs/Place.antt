@@ -11,15 +11,15 @@ pub record Place : Type 0 where
   pub loaded : Bool
 
 -- the entry at the place, where it was read
-abbrev pub shown : Place → Option Entry
-shown c = if c.loaded then slice_get c.entries c.place else None
+abbrev pub current : Place → Option Entry
+current c = if c.loaded then slice_get c.entries c.place else None
 
 -- the number of the entry, or 2^32 where there is none
 abbrev pub HasHead : Option Entry → ℕ → Type 0
 HasHead entry head = MatchOption entry (head ≡ 2 ^ 32) (λ e. (head ≡ e.id) × (head < 2 ^ 32))
 
 abbrev pub head_of : Place → ℕ
-head_of c = option_map_or (λ (e : Entry). e.id) (shown c) (2 ^ 32)
+head_of c = option_map_or (λ (e : Entry). e.id) (current c) (2 ^ 32)
 
 -- the number that a head stands for
 abbrev pub number_of : ℕ → Option ℕ

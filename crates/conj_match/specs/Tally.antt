@@ -27,8 +27,8 @@ abbrev pub AreTallied : List ℕ → List Entry → Type 0
 AreTallied marks es = (id : ℕ) → id < length marks → slice_index marks id ≡ tally_of id es
 
 -- the mark after one more entry
-abbrev pub marked : ℕ → Bool → ℕ
-marked mark negated =
+abbrev pub next_mark : ℕ → Bool → ℕ
+next_mark mark negated =
     if negated then 255
     else if nat_le 254 mark then mark
     else mark + 1

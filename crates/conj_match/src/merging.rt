@@ -2,7 +2,7 @@ ghost use Rattle.std.specs.Prelude.{◌≡◌, ◌≤◌, ◌<◌, ◌+◌, ◌-
 ghost use Rattle.std.specs.List.{list_any};
 ghost use Rattle.conj_match.specs.Matching.{IsAnswer, lists_at};
 ghost use Rattle.conj_match.specs.Place.{head_of, number_of};
-ghost use Rattle.conj_match.specs.Merge.{ArePassed, Passed, Stands, IsLeast, entries_of, left_in, lesser, shown_id, shows_negated, shows_plain};
+ghost use Rattle.conj_match.specs.Merge.{ArePassed, Passed, Stands, IsLeast, entries_of, left_in, lesser, current_id, shows_negated, shows_plain};
 
 use crate::Cursor;
 use crate::cursor::PAST;
@@ -117,7 +117,7 @@ impl Turn {
         ensures excluded { self.new.is_excluded ≡ (self.old.is_excluded || shows_negated id cursor.old) }
         ensures plain { self.new.plain ≡ self.old.plain + (if shows_plain id cursor.old then 1 else 0) }
         ensures least { self.new.least ≡ min self.old.least (head_of cursor.new) }
-        ensures number { number_of (head_of cursor.new) ≡ shown_id cursor.new }
+        ensures number { number_of (head_of cursor.new) ≡ current_id cursor.new }
         ensures passed { Passed id cursor.old cursor.new }
         ensures cost { steps.new ≤ steps.old + (cursor.new.place - cursor.old.place) }
     {

@@ -227,7 +227,7 @@ fn member_of(alloc: Global, bytes: &[u8], depth: usize) -> Result<((Txt, Value),
     ensures { Gives (λ member. (member.0, tree_of member.1)) result (member_at (value_at depth) bytes.now) }
 {
     let (name, rest) = name_of(alloc, bytes)?;
-    let (value, rest) = valued_of(alloc, skip_spaces(rest), depth)?;
+    let (value, rest) = value_after_colon(alloc, skip_spaces(rest), depth)?;
     Ok(((name, value), rest))
 }
 
@@ -248,7 +248,7 @@ fn name_of(alloc: Global, bytes: &[u8]) -> Result<(Txt, &[u8]), Stop>
 // A colon and the value of a member.
 #[inline(always)]
 #[cycle(reading)]
-fn valued_of(alloc: Global, bytes: &[u8], depth: usize) -> Result<(Value, &[u8]), Stop>
+fn value_after_colon(alloc: Global, bytes: &[u8], depth: usize) -> Result<(Value, &[u8]), Stop>
     ensures { Gives tree_of result (byte_then 58 (λ after. value_at depth (skip after)) bytes.now) }
 {
     let Some((first, rest)) = bytes.split_first() else {

@@ -2,7 +2,7 @@ ghost use Rattle.std.specs.Prelude.{◌≡◌, ◌<◌, ◌≤◌, ◌+◌, ◌+
 ghost use Rattle.exact_json.specs.Gives.{Gives, Runs};
 ghost use Rattle.exact_json.specs.Escapes.{piece_view};
 ghost use Rattle.exact_json.specs.Reading.{EndsRun, after_run, body_at, escape_at, hex_at, is_special, mapped, quoted_at, unit_at};
-ghost use Rattle.exact_json.specs.Strings.{Piece, alone, escaped, hex_digit, is_escape, is_hex, is_high, is_low, paired, text_behind, unit_text, utf8};
+ghost use Rattle.exact_json.specs.Strings.{Piece, alone, escape_value, hex_digit, is_escape, is_hex, is_high, is_low, code_point, text_behind, unit_text, utf8};
 
 use crate::character::{character_end, skip_plain};
 use crate::stop::Stop;
@@ -25,10 +25,10 @@ pub(crate) fn string_of(alloc: Global, bytes: &[u8]) -> Result<(Txt, &[u8]), Sto
 {
     let rest = skip_plain(bytes);
     let Some((first, after)) = rest.split_first() else {
-        return escaped_of(Txt::new(alloc), bytes);
+        return unescape(Txt::new(alloc), bytes);
     };
     if *first != b'"' {
-        return escaped_of(Txt::new(alloc), bytes);
+        return unescape(Txt::new(alloc), bytes);
     }
     let text = Txt::from_front(alloc, bytes, bytes.len() - rest.len())?;
     Ok((text, after))
@@ -36,7 +36,7 @@ pub(crate) fn string_of(alloc: Global, bytes: &[u8]) -> Result<(Txt, &[u8]), Sto
 
 // The text so far and that of the pieces up to the quotation mark.
 #[inline(never)]
-fn escaped_of(mut text: Txt, bytes: &[u8]) -> Result<(Txt, &[u8]), Stop>
+fn unescape(mut text: Txt, bytes: &[u8]) -> Result<(Txt, &[u8]), Stop>
     ensures gives { Gives (λ t. t) result (mapped (λ t. text ++ t) (quoted_at bytes.now)) }
     ensures shorter { IfOk result (λ p. length p.1.now ≤ length bytes.now) }
 {
@@ -211,7 +211,7 @@ fn push_escape(text: &mut Txt, high: Option<u16>, escape: Escape) -> Result<Opti
     match escape {
         Escape::Byte(byte) => {
             push_alone(text, high)?;
-            text.push(escaped(byte))?;
+            text.push(escape_value(byte))?;
             Ok(None)
         }
         Escape::Unit(unit) if is_high(unit) => {
@@ -226,8 +226,8 @@ fn push_escape(text: &mut Txt, high: Option<u16>, escape: Escape) -> Result<Opti
 }
 
 // The character that the byte behind a backslash stands for.
-fn escaped(byte: u8) -> u8
-    ensures { result ≡ escaped byte }
+fn escape_value(byte: u8) -> u8
+    ensures { result ≡ escape_value byte }
 {
     match byte {
         b'b' => 0x08,
@@ -255,7 +255,7 @@ fn push_low(text: &mut Txt, high: Option<u16>, unit: u16) -> Result<(), AllocErr
         return push_utf8(text, unit as u32);
     }
     match high {
-        Some(high) => push_utf8(text, paired(high, unit)),
+        Some(high) => push_utf8(text, code_point(high, unit)),
         None => push_utf8(text, REPLACEMENT),
     }
 }
@@ -267,10 +267,10 @@ fn is_low(unit: u16) -> bool
 }
 
 // The character of a high and a low surrogate.
-fn paired(high: u16, low: u16) -> u32
+fn code_point(high: u16, low: u16) -> u32
     requires high { is_high high ≡ true }
     requires low { is_low low ≡ true }
-    ensures value { result ≡ paired high low }
+    ensures value { result ≡ code_point high low }
     ensures bound { result < 1114112 }
 {
     0x10000 + (high as u32 - 0xD800) * 0x400 + (low as u32 - 0xDC00)
@@ -300,7 +300,7 @@ fn push_escapes<'a>(
         if !is_escape(*byte) {
             return Ok(left);
         }
-        text.push(escaped(*byte))?;
+        text.push(escape_value(*byte))?;
         left = rest;
     }
     Ok(left)

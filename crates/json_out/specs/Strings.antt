@@ -9,16 +9,16 @@ hexadecimal n = if nat_lt n 10 then 48 + n else 87 + n
 
 -- A byte inside a string: a quotation mark and a reverse solidus behind a reverse solidus, a
 -- control character as `\u00` and two hexadecimal digits, and each other byte as it is.
-abbrev pub escaped : ℕ → List ℕ
-escaped c =
+abbrev pub escape : ℕ → List ℕ
+escape c =
     if c == 34 then 92 ∷ 34 ∷ []
     else if c == 92 then 92 ∷ 92 ∷ []
     else if nat_lt c 32 then 92 ∷ 117 ∷ 48 ∷ 48 ∷ hexadecimal (c / 16) ∷ hexadecimal (c % 16) ∷ []
     else c ∷ []
 
 -- the string of these bytes
-abbrev pub quoted : List ℕ → List ℕ
-quoted s = 34 ∷ (flat_map escaped s ++ 34 ∷ [])
+abbrev pub string_text : List ℕ → List ℕ
+string_text s = 34 ∷ (flat_map escape s ++ 34 ∷ [])
 
 -- What a string says. The rules `unescaped` and `char` of section 7 are given byte by byte: bytes
 -- from 0x80 on, of which UTF-8 makes a character, stand as they are. A `\u` escape is given for the

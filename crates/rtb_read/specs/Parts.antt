@@ -72,9 +72,9 @@ type_named n None = Err (TypeFlaw.Field Flaw.Range)
 type_named n (Some z) = if is_between (pos 1) (pos n) z then Ok (nat_abs z) else Err TypeFlaw.Unlisted
 
 -- the same of a number of 32 bits, and why there is none, which private clauses cite
-abbrev pub type_numbered : ℕ → Option ℤ → Option ℕ
-type_numbered n None = None
-type_numbered n (Some z) = if is_between (pos 1) (pos n) z then Some (nat_abs z) else None
+abbrev pub type_number : ℕ → Option ℤ → Option ℕ
+type_number n None = None
+type_number n (Some z) = if is_between (pos 1) (pos n) z then Some (nat_abs z) else None
 
 abbrev pub why_unnamed : Bool → TypeFlaw
 why_unnamed false = TypeFlaw.Field Flaw.Range

@@ -8,7 +8,7 @@ ghost use Rattle.json_fields.specs.Answers.{Answers};
 ghost use Rattle.json_fields.specs.Fields.{present};
 ghost use Rattle.rtb_num.specs.Numbers.{is_number};
 ghost use Rattle.rtb_types.specs.Paths.{member_name};
-ghost use Rattle.rtb_read.specs.Parts.{as_type, type_fault, type_faults, type_from, type_named, type_numbered, why_unnamed};
+ghost use Rattle.rtb_read.specs.Parts.{as_type, type_fault, type_faults, type_from, type_named, type_number, why_unnamed};
 
 use crate::fault::{ReqFault, TypeFlaw};
 use crate::parts::fault;
@@ -51,15 +51,15 @@ fn type_of(text: &[u8], greatest: u8) -> Result<u8, TypeFlaw>
     requires { IsTrue (is_number text.now) }
     ensures { result ≡ type_named greatest (whole_of text.now) }
 {
-    match numbered(whole_i32(text), greatest) {
+    match type_number(whole_i32(text), greatest) {
         Some(kind) => Ok(kind),
         None => Err(why_unnamed(has_whole_value(text))),
     }
 }
 
 // The number as a type, where it is one.
-fn numbered(n: Option<i32>, greatest: u8) -> Option<u8>
-    ensures { result ≡ type_numbered greatest n }
+fn type_number(n: Option<i32>, greatest: u8) -> Option<u8>
+    ensures { result ≡ type_number greatest n }
 {
     match n {
         Some(n) if n >= 1 && n <= i32::from(greatest) => Some(n as u8),

@@ -6,7 +6,7 @@ use Rattle.std.proofs.Math.Bool.{and-true}
 use Rattle.std.proofs.lemmas.Option.{same_Some}
 use Rattle.target_expr.specs.declared.attr.Attr.{Attr}
 use Rattle.target_expr.specs.declared.attr.Attr.TheVariants.{Domain, Site, Bundle, App, Publisher, Country, Region, Metro, City, Zip, DeviceType, Make, Model, Os, Osv, Language, Carrier, ConnectionType, Yob, Gender, TagId, Pos}
-use Rattle.target_expr.specs.Attributes.{attributes, name_of, number_of, numbered}
+use Rattle.target_expr.specs.Attributes.{attributes, name_of, number_of, attr_numbered}
 
 -- where the text is an attribute's name, the test of that attribute
 abbrev pub own : (Attr → Bool) → List ℕ → List Attr → Bool
@@ -15,7 +15,7 @@ own test t attrs = list_all (λ a. not (bytes_eq t (name_of a)) || test a) attrs
 -- its number is a byte and leads back to it, and no other attribute has its name
 pub record IsInTable (a : Attr) : Type 0 where
   pub fits : number_of a < 256
-  pub again : numbered (number_of a) ≡ Some a
+  pub again : attr_numbered (number_of a) ≡ Some a
   pub named : (test : Attr → Bool) → own test (name_of a) attributes ≡ test a
 
 pub in_table : (a : Attr) → IsInTable a
@@ -43,4 +43,4 @@ in_table TagId = record { fits = lit< tt; again = refl; named = λ test. and-tru
 in_table Pos = record { fits = lit< tt; again = refl; named = λ test. and-true (test Pos) }
 
 pub same_number : (a b : Attr) → number_of a ≡ number_of b → a ≡ b
-same_number a b e = same_Some a b (sym (in_table a).again ∙ ap numbered e ∙ (in_table b).again)
+same_number a b e = same_Some a b (sym (in_table a).again ∙ ap attr_numbered e ∙ (in_table b).again)

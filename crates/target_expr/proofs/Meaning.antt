@@ -15,10 +15,10 @@ use Rattle.target_expr.specs.declared.attr.Attr.{Attr}
 use Rattle.target_expr.specs.declared.pred.Pred.{Pred}
 use Rattle.target_expr.specs.declared.pred.RawPred.{RawPred}
 use Rattle.target_expr.specs.declared.fault.ExprFault.TheVariants.{NoConjunction, EmptyList, AttrTwice, TooMany, UnknownAttr}
-use Rattle.target_expr.specs.Attributes.{attributes, name_of, named}
+use Rattle.target_expr.specs.Attributes.{attributes, name_of, attr_named}
 use Rattle.target_expr.specs.Truth.{conjunction_holds, holds, pred_holds, value_at}
 use Rattle.target_expr.specs.Written.{written_holds, written_pred_holds}
-use Rattle.target_expr.specs.Kept.{conjunction_faults, fault_where, faults, in_order, is_too_much, kept, kept_at, kept_conjunction, kept_in, kept_pred, pred_faults}
+use Rattle.target_expr.specs.Kept.{conjunction_faults, fault_where, faults, in_order, is_too_much, kept, keep_at, keep_conjunction, keep_in, keep_pred, pred_faults}
 use Rattle.target_expr.proofs.ByteOrder.{Has, has_in_order, in_order_has}
 use Rattle.target_expr.proofs.Keeping.{is_of, where_false}
 
@@ -50,7 +50,7 @@ same_in : (o : Option (List ℕ)) (vs : List (List ℕ)) → option_map_or (λ x
 same_in None vs = refl
 same_in (Some x) vs = same_any (λ v. bytes_eq v x) vs
 
-same_pred : (pairs : List (Attr × List ℕ)) (a : Attr) (q : RawPred) → pred_holds pairs (kept_pred a q) ≡ pred_holds pairs (as_written a q)
+same_pred : (pairs : List (Attr × List ℕ)) (a : Attr) (q : RawPred) → pred_holds pairs (keep_pred a q) ≡ pred_holds pairs (as_written a q)
 same_pred pairs a q = ap (λ b. cond q.negated (not b) b) (same_in (value_at pairs a) q.values)
 
 -- ---- one predicate among the attributes
@@ -63,7 +63,7 @@ found_name t (a ∷ attrs) b e =
       | false ↦ λ same f. found_name t attrs b f
     ] refl e
 
-own_is : (test : Attr → Bool) (t : List ℕ) (o : Option Attr) → named t ≡ o → is_none o ≡ false → own test t attributes ≡ option_map_or test o false
+own_is : (test : Attr → Bool) (t : List ℕ) (o : Option Attr) → attr_named t ≡ o → is_none o ≡ false → own test t attributes ≡ option_map_or test o false
 own_is test t None e known = cc
 own_is test t (Some b) e known = ap (λ s. own test s attributes) (sym (found_name t attributes b e)) ∙ (in_table b).named test
 
@@ -90,8 +90,8 @@ four false b c d = refl
 
 -- what a predicate of a fresh name adds at one attribute
 add_at : (P : Pred → Bool) (a : Attr) (q : RawPred) (o : Option RawPred) (b : Bool) → (b ≡ true → o ≡ None)
-    → list_all P (cons_option (option_map (kept_pred a) (cond b (Some q) o)) []) ≡ ((not b || P (kept_pred a q)) && list_all P (cons_option (option_map (kept_pred a) o) []))
-add_at P a q o true none = ap (λ p. P (kept_pred a q) && list_all P (cons_option (option_map (kept_pred a) p) [])) (sym (none refl))
+    → list_all P (cons_option (option_map (keep_pred a) (cond b (Some q) o)) []) ≡ ((not b || P (keep_pred a q)) && list_all P (cons_option (option_map (keep_pred a) o) []))
+add_at P a q o true none = ap (λ p. P (keep_pred a q) && list_all P (cons_option (option_map (keep_pred a) p) [])) (sym (none refl))
 add_at P a q o false none = refl
 
 split_cons : (P : Pred → Bool) (o : Option Pred) (ps : List Pred) → list_all P (cons_option o ps) ≡ (list_all P (cons_option o []) && list_all P ps)
@@ -99,34 +99,34 @@ split_cons P None ps = refl
 split_cons P (Some p) ps = ap (λ b. b && list_all P ps) (sym (and-true (P p)))
 
 add_all : (P : Pred → Bool) (q : RawPred) (c : List RawPred) (attrs : List Attr) → is_fresh q.attr c ≡ true
-    → list_all P (kept_in (q ∷ c) attrs) ≡ (own (λ a. P (kept_pred a q)) q.attr attrs && list_all P (kept_in c attrs))
+    → list_all P (keep_in (q ∷ c) attrs) ≡ (own (λ a. P (keep_pred a q)) q.attr attrs && list_all P (keep_in c attrs))
 add_all P q c [] fresh = refl
 add_all P q c (a ∷ attrs) fresh =
-    split_cons P (kept_at (q ∷ c) a) (kept_in (q ∷ c) attrs)
-    ∙ ap (λ b. b && list_all P (kept_in (q ∷ c) attrs)) (add_at P a q (find (is_of a) c) (is_of a q) (λ e. no_other a q.attr c ((bytes_decides q.attr (name_of a)).0 e) fresh))
-    ∙ ap (λ b. ((not (is_of a q) || P (kept_pred a q)) && list_all P (cons_option (kept_at c a) [])) && b) (add_all P q c attrs fresh)
-    ∙ four (not (is_of a q) || P (kept_pred a q)) (list_all P (cons_option (kept_at c a) [])) (own (λ a. P (kept_pred a q)) q.attr attrs) (list_all P (kept_in c attrs))
-    ∙ ap (λ b. ((not (is_of a q) || P (kept_pred a q)) && own (λ a. P (kept_pred a q)) q.attr attrs) && b) (sym (split_cons P (kept_at c a) (kept_in c attrs)))
+    split_cons P (keep_at (q ∷ c) a) (keep_in (q ∷ c) attrs)
+    ∙ ap (λ b. b && list_all P (keep_in (q ∷ c) attrs)) (add_at P a q (find (is_of a) c) (is_of a q) (λ e. no_other a q.attr c ((bytes_decides q.attr (name_of a)).0 e) fresh))
+    ∙ ap (λ b. ((not (is_of a q) || P (keep_pred a q)) && list_all P (cons_option (keep_at c a) [])) && b) (add_all P q c attrs fresh)
+    ∙ four (not (is_of a q) || P (keep_pred a q)) (list_all P (cons_option (keep_at c a) [])) (own (λ a. P (keep_pred a q)) q.attr attrs) (list_all P (keep_in c attrs))
+    ∙ ap (λ b. ((not (is_of a q) || P (keep_pred a q)) && own (λ a. P (keep_pred a q)) q.attr attrs) && b) (sym (split_cons P (keep_at c a) (keep_in c attrs)))
 
 -- ---- conjunctions
 
 -- every name is an attribute's, and none stands twice
 abbrev are_apart : List RawPred → Bool
 are_apart [] = true
-are_apart (q ∷ c) = not (is_none (named q.attr)) && is_fresh q.attr c && are_apart c
+are_apart (q ∷ c) = not (is_none (attr_named q.attr)) && is_fresh q.attr c && are_apart c
 
-same_option : (pairs : List (Attr × List ℕ)) (q : RawPred) (o : Option Attr) → option_map_or (λ a. pred_holds pairs (kept_pred a q)) o false ≡ option_map_or (λ a. pred_holds pairs (as_written a q)) o false
+same_option : (pairs : List (Attr × List ℕ)) (q : RawPred) (o : Option Attr) → option_map_or (λ a. pred_holds pairs (keep_pred a q)) o false ≡ option_map_or (λ a. pred_holds pairs (as_written a q)) o false
 same_option pairs q None = refl
 same_option pairs q (Some a) = same_pred pairs a q
 
-same_conjunction : (pairs : List (Attr × List ℕ)) (c : List RawPred) → are_apart c ≡ true → conjunction_holds pairs (kept_conjunction c) ≡ list_all (written_pred_holds pairs) c
+same_conjunction : (pairs : List (Attr × List ℕ)) (c : List RawPred) → are_apart c ≡ true → conjunction_holds pairs (keep_conjunction c) ≡ list_all (written_pred_holds pairs) c
 same_conjunction pairs [] apart = refl
 same_conjunction pairs (q ∷ c) apart =
-    let parts = and_parts (not (is_none (named q.attr)) && is_fresh q.attr c) (are_apart c) apart in
-    let first = and_parts (not (is_none (named q.attr))) (is_fresh q.attr c) parts.0 in
+    let parts = and_parts (not (is_none (attr_named q.attr)) && is_fresh q.attr c) (are_apart c) apart in
+    let first = and_parts (not (is_none (attr_named q.attr))) (is_fresh q.attr c) parts.0 in
     add_all (pred_holds pairs) q c attributes first.1
-    ∙ ap (λ b. b && list_all (pred_holds pairs) (kept_in c attributes))
-    (own_is (λ a. pred_holds pairs (kept_pred a q)) q.attr (named q.attr) refl (not-true _ first.0) ∙ same_option pairs q (named q.attr))
+    ∙ ap (λ b. b && list_all (pred_holds pairs) (keep_in c attributes))
+    (own_is (λ a. pred_holds pairs (keep_pred a q)) q.attr (attr_named q.attr) refl (not-true _ first.0) ∙ same_option pairs q (attr_named q.attr))
     ∙ ap (λ b. written_pred_holds pairs q && b) (same_conjunction pairs c parts.1)
 
 -- ---- what has no fault
@@ -138,7 +138,7 @@ fresh_from i whole q m within is n (p ∷ c) before e =
     let parts = both_nil (pred_faults i whole (n, p)) (flat_map (pred_faults i whole) (enumerate_from (n + 1) c)) e in
     let last = both_nil _ (fault_where (is_too_much p) (TooMany i n)) parts.0 in
     let third = both_nil _ (fault_where (nat_eq (length p.values) 0) (EmptyList i n)) last.0 in
-    let second = both_nil (fault_where (is_none (named p.attr)) (UnknownAttr i n)) (fault_where (list_any (λ (r : RawPred). bytes_eq r.attr p.attr) (take n whole)) (AttrTwice i n)) third.0 in
+    let second = both_nil (fault_where (is_none (attr_named p.attr)) (UnknownAttr i n)) (fault_where (list_any (λ (r : RawPred). bytes_eq r.attr p.attr) (take n whole)) (AttrTwice i n)) third.0 in
     let none : list_any (λ (r : RawPred). bytes_eq r.attr p.attr) (take n whole) ≡ false = where_false _ (AttrTwice i n) second.1 in
     let there : m < length (take n whole) = omega (arith, length-take n whole) in
     let differ : bytes_eq q.attr p.attr ≡ false = false_from_ne_true _ (λ f.
@@ -152,15 +152,15 @@ apart_from i whole pre (q ∷ c) n is size e =
     let parts = both_nil (pred_faults i whole (n, q)) (flat_map (pred_faults i whole) (enumerate_from (n + 1) c)) e in
     let last = both_nil _ (fault_where (is_too_much q) (TooMany i n)) parts.0 in
     let third = both_nil _ (fault_where (nat_eq (length q.values) 0) (EmptyList i n)) last.0 in
-    let second = both_nil (fault_where (is_none (named q.attr)) (UnknownAttr i n)) (fault_where (list_any (λ (r : RawPred). bytes_eq r.attr q.attr) (take n whole)) (AttrTwice i n)) third.0 in
-    let known : is_none (named q.attr) ≡ false = where_false _ (UnknownAttr i n) second.0 in
+    let second = both_nil (fault_where (is_none (attr_named q.attr)) (UnknownAttr i n)) (fault_where (list_any (λ (r : RawPred). bytes_eq r.attr q.attr) (take n whole)) (AttrTwice i n)) third.0 in
+    let known : is_none (attr_named q.attr) ≡ false = where_false _ (UnknownAttr i n) second.0 in
     let here : get_or whole n q ≡ q = ap (λ l. get_or l n q) is ∙ get_or_at pre q c q n size in
     let within : n < length whole = omega (arith, ap length is, length-append pre (q ∷ c), size) in
     let longer : length (pre ++ q ∷ []) ≡ n + 1 = omega (arith, length-append pre (q ∷ []), size) in
     and_from _ _ (and_from _ _ (not_from_false _ known) (fresh_from i whole q n within here (n + 1) c (omega arith) parts.1))
     (apart_from i whole (pre ++ q ∷ []) c (n + 1) (is ∙ sym (append_assoc pre (q ∷ []) c)) longer parts.1)
 
-conjunction_means : (pairs : List (Attr × List ℕ)) (i : ℕ) (c : List RawPred) → conjunction_faults (i, c) ≡ [] → conjunction_holds pairs (kept_conjunction c) ≡ list_all (written_pred_holds pairs) c
+conjunction_means : (pairs : List (Attr × List ℕ)) (i : ℕ) (c : List RawPred) → conjunction_faults (i, c) ≡ [] → conjunction_holds pairs (keep_conjunction c) ≡ list_all (written_pred_holds pairs) c
 conjunction_means pairs i c e =
     let parts = both_nil (fault_where (ltb 16 (length c)) (TooMany i 0)) (flat_map (pred_faults i c) (enumerate_from 0 c)) e in
     same_conjunction pairs c (apart_from i c [] c 0 refl refl parts.1)

@@ -36,5 +36,5 @@ abbrev pub holds : List (Attr × List ℕ) → List (List Pred) → Bool
 holds pairs e = list_any (conjunction_holds pairs) e
 
 -- the place, from 1 on, of the first conjunction that is true, or how many there are
-abbrev pub tested : List (Attr × List ℕ) → List (List Pred) → ℕ
-tested pairs e = min (position_or_len (conjunction_holds pairs) e + 1) (length e)
+abbrev pub tests_in : List (Attr × List ℕ) → List (List Pred) → ℕ
+tests_in pairs e = min (position_or_len (conjunction_holds pairs) e + 1) (length e)

@@ -1,7 +1,7 @@
 use Rattle.std.proofs.Common.{◌≡◌, ◌≤◌, ◌++◌, length, true, IfSome}
 use Rattle.exact_json.specs.Strings.{is_high}
 use Rattle.exact_json.specs.Reading.{mapped, body_at, quoted_at}
-use Rattle.exact_json.proofs.string.escaped_of.Given as goal
+use Rattle.exact_json.proofs.string.unescape.Given as goal
 
 abbrev pub invariant-loop-text : goal.invariant-loop-text
 invariant-loop-text l =

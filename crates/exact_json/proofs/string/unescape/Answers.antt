@@ -2,7 +2,7 @@ use Rattle.std.proofs.Common.{◌∙◌, sym, arith}
 use Rattle.std.proofs.lemmas.List.{nil_from_length}
 use Rattle.std.proofs.lemmas.Result.{err_from_is_err_and}
 use Rattle.exact_json.proofs.Bodies.{kept, kept_short, kept_quote, kept_fails, kept_more}
-use Rattle.exact_json.proofs.string.escaped_of.Goals as goal
+use Rattle.exact_json.proofs.string.unescape.Goals as goal
 
 pub returns-in_default-clause-gives : goal.returns-in_default-clause-gives
 returns-in_default-clause-gives c =

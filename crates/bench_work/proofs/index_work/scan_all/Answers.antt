@@ -1,7 +1,7 @@
 use Rattle.std.proofs.Common.{take, ◌∙◌}
 use Rattle.bench_work.specs.Found.{all_found}
 use Rattle.bench_work.proofs.Totals.{sums_step}
-use Rattle.bench_work.proofs.index_work.scanned.Goals as goal
+use Rattle.bench_work.proofs.index_work.scan_all.Goals as goal
 
 pub loop-assignment-preserved : goal.loop-assignment-preserved
 loop-assignment-preserved g c =

@@ -1,7 +1,7 @@
 use Rattle.std.proofs.Common.{List, ℕ, ◌++◌, take, subst, ◌∙◌}
 use Rattle.bench_work.specs.Found.{AreSums, all_found}
 use Rattle.bench_work.proofs.Totals.{sums_step}
-use Rattle.bench_work.proofs.index_work.found.Goals as goal
+use Rattle.bench_work.proofs.index_work.find_all.Goals as goal
 
 pub loop-assignment-preserved : goal.loop-assignment-preserved
 loop-assignment-preserved g c = λ added is.
