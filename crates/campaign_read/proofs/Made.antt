@@ -11,7 +11,7 @@ use Rattle.campaign.specs.Faults.{ok_unless, fact_faults}
 use Rattle.target_expr.specs.declared.pred.RawPred.{RawPred}
 use Rattle.target_expr.specs.declared.pred.Pred.{Pred}
 use Rattle.target_expr.specs.declared.fault.ExprFault.{ExprFault}
-use Rattle.target_expr.specs.Kept.{IsFirstUnlessMemory, faults, first_of, kept}
+use Rattle.target_expr.specs.Kept.{IsFirstUnlessMemory, faults, first_of, keep}
 use Rattle.campaign_read.specs.declared.fault.CampFault.{CampFault}
 use Rattle.campaign_read.specs.Campaign.{body_faults, campaign_from, fault_of_target, parts_faults, parts_from}
 use Rattle.campaign_read.specs.Parts.{amount_from}
@@ -67,12 +67,12 @@ target_first t p raw f a b e none r h =
     (subst (λ q. IsFirst CampFault.Memory (map CampFault.Target (faults q)) f) r h)
 
 pub body_right : (t : Tree) (p facts : FactParts) (raw : List (List RawPred)) (expr : List (List Pred)) → parts_faults t ≡ [] → target_faults t ≡ [] → p ≡ parts_from t → map CampFault.Fact (fact_faults p) ≡ [] → raw ≡ target_from t → map CampFault.Target (faults raw) ≡ []
-    → facts ≡ p → expr ≡ kept raw → (body_faults t ≡ []) × ((facts, expr) ≡ campaign_from t)
+    → facts ≡ p → expr ≡ keep raw → (body_faults t ≡ []) × ((facts, expr) ≡ campaign_from t)
 unfolding body_faults campaign_from
 body_right t p facts raw expr a b e none r right f k =
     let fs = map CampFault.Fact (fact_faults (parts_from t)) in
     let no_fact : fs ≡ [] = subst (λ q. map CampFault.Fact (fact_faults q) ≡ []) e none in
     let no_target : map CampFault.Target (faults (target_from t)) ≡ [] = subst (λ q. map CampFault.Target (faults q) ≡ []) r right in (
       neither (parts_faults t ++ target_faults t ++ fs) (map CampFault.Target (faults (target_from t))) (neither (parts_faults t ++ target_faults t) fs (neither (parts_faults t) (target_faults t) a b) no_fact) no_target,
-      both_same facts (parts_from t) expr (kept (target_from t)) (f ∙ e) (k ∙ ap kept r),
+      both_same facts (parts_from t) expr (keep (target_from t)) (f ∙ e) (k ∙ ap keep r),
     )

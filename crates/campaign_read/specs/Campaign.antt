@@ -10,7 +10,7 @@ use Rattle.campaign.specs.Faults.{fact_faults}
 use Rattle.campaign.specs.Paths.{member_name}
 use Rattle.target_expr.specs.declared.fault.ExprFault.{ExprFault}
 use Rattle.target_expr.specs.declared.pred.Pred.{Pred}
-use Rattle.target_expr.specs.Kept.{faults, kept}
+use Rattle.target_expr.specs.Kept.{faults, keep}
 use Rattle.campaign_read.specs.declared.fault.CampFault.{CampFault}
 use Rattle.campaign_read.specs.declared.lists.ListField.{ListField}
 use Rattle.campaign_read.specs.Cap.{cap_faults, cap_from}
@@ -80,4 +80,4 @@ campaign_faults t = faults_unless_object (as_object t)
 
 -- the facts and the target of the campaign
 unfoldable pub campaign_from : Tree → FactParts × List (List Pred)
-campaign_from t = (parts_from t, kept (target_from t))
+campaign_from t = (parts_from t, keep (target_from t))

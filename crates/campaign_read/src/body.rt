@@ -6,7 +6,7 @@ ghost use Rattle.exact_json.specs.Forms.{HasForms};
 ghost use Rattle.exact_json.specs.View.{tree_of};
 ghost use Rattle.json_fields.specs.Answers.{Answers};
 ghost use Rattle.campaign.specs.Faults.{fact_faults};
-ghost use Rattle.target_expr.specs.Kept.{faults, kept};
+ghost use Rattle.target_expr.specs.Kept.{faults, keep};
 ghost use Rattle.campaign_read.specs.Campaign.{body_faults, campaign_faults, campaign_from, fault_of_target};
 ghost use Rattle.campaign_read.specs.declared.fault.CampFault.{CampFault};
 
@@ -54,7 +54,7 @@ fn facts_of(parts: FactParts) -> Result<Facts, CampFault>
 }
 
 fn expr_of(alloc: Global, raw: &List<List<RawPred>>) -> Result<Expr, CampFault>
-    ensures { Answers CampFault.Memory (map CampFault.Target (faults raw.now)) (kept raw.now) result }
+    ensures { Answers CampFault.Memory (map CampFault.Target (faults raw.now)) (keep raw.now) result }
 {
     match Expr::make(alloc, raw) {
         Ok(expr) => Ok(expr),

@@ -13,7 +13,7 @@ use Rattle.target_expr.specs.declared.attr.Attr.{Attr}
 use Rattle.target_expr.specs.declared.fault.ExprFault.{ExprFault}
 use Rattle.target_expr.specs.declared.fault.ExprFault.TheVariants.{AttrTwice, EmptyList, Memory, NoConjunction, TooMany, UnknownAttr}
 use Rattle.target_expr.specs.declared.pred.RawPred.{RawPred}
-use Rattle.target_expr.specs.Kept.{IsFirstUnlessMemory, faults, kept}
+use Rattle.target_expr.specs.Kept.{IsFirstUnlessMemory, faults, keep}
 use Rattle.target_expr.specs.Truth.{holds, value_at}
 use Rattle.assign.specs.Rows.{pairs_of, site_rows}
 use Rattle.assign.proofs.Rising.{pairs_value}
@@ -28,7 +28,7 @@ pub faultless : (o : Option (List ℕ)) → is_short o ≡ true → faults (raw_
 faultless None e = refl
 faultless (Some domain) e = rw (not_long (length domain) e)
 
-pub kept_as : (o : Option (List ℕ)) → kept (raw_target_of o) ≡ target_of o
+pub kept_as : (o : Option (List ℕ)) → keep (raw_target_of o) ≡ target_of o
 kept_as None = refl
 kept_as (Some domain) = refl
 

@@ -14,7 +14,7 @@ use Rattle.target_expr.specs.declared.pred.RawPred.{RawPred}
 use Rattle.target_expr.specs.declared.fault.ExprFault.{ExprFault}
 use Rattle.target_expr.specs.declared.fault.ExprFault.TheVariants.{NoConjunction, EmptyList, TooMany}
 use Rattle.target_expr.specs.Attributes.{attributes, name_of, number_of}
-use Rattle.target_expr.specs.Kept.{attr_below, conjunction_faults, fault_where, faults, in_order, is_kept, is_kept_conjunction, is_kept_pred, is_too_much, kept, keep_at, keep_conjunction, keep_in, keep_pred, pred_faults, rise}
+use Rattle.target_expr.specs.Kept.{attr_below, conjunction_faults, fault_where, faults, in_order, is_kept, is_kept_conjunction, is_kept_pred, is_too_much, keep, keep_at, keep_conjunction, keep_in, keep_pred, pred_faults, rise}
 use Rattle.target_expr.proofs.ByteOrder.{all_from_has, has_in_order, has_passes, length_in_order, rise_from_up, some_in_order, up_in_order}
 
 pub kept_more : (c : List RawPred) (attrs : List Attr) (i : ℕ) (d : Attr) → i < length attrs → keep_in c (take (i + 1) attrs) ≡ keep_in c (take i attrs) ++ keep_in c (get_or attrs i d ∷ [])
@@ -191,20 +191,20 @@ conjunction_kept i c e =
     (all_kept c attributes (preds_fine i 0 c c parts.1)))
     (rises c attributes refl)
 
-conjunctions_kept : (n : ℕ) (raw : List (List RawPred)) → flat_map conjunction_faults (enumerate_from n raw) ≡ [] → list_all is_kept_conjunction (kept raw) ≡ true
+conjunctions_kept : (n : ℕ) (raw : List (List RawPred)) → flat_map conjunction_faults (enumerate_from n raw) ≡ [] → list_all is_kept_conjunction (keep raw) ≡ true
 conjunctions_kept n [] e = refl
 conjunctions_kept n (c ∷ raw) e =
     let parts = both_nil (conjunction_faults (n, c)) (flat_map conjunction_faults (enumerate_from (n + 1) raw)) e in
-    and_from (is_kept_conjunction (keep_conjunction c)) (list_all is_kept_conjunction (kept raw)) (conjunction_kept n c parts.0) (conjunctions_kept (n + 1) raw parts.1)
+    and_from (is_kept_conjunction (keep_conjunction c)) (list_all is_kept_conjunction (keep raw)) (conjunction_kept n c parts.0) (conjunctions_kept (n + 1) raw parts.1)
 
 -- what has no fault is kept within the limits
-pub kept_is : (raw : List (List RawPred)) → faults raw ≡ [] → is_kept (kept raw) ≡ true
+pub kept_is : (raw : List (List RawPred)) → faults raw ≡ [] → is_kept (keep raw) ≡ true
 kept_is raw e =
     let parts = both_nil (fault_where (nat_eq (length raw) 0) NoConjunction ++ fault_where (ltb 64 (length raw)) (TooMany 0 0)) (flat_map conjunction_faults (enumerate_from 0 raw)) e in
     let limits = both_nil (fault_where (nat_eq (length raw) 0) NoConjunction) (fault_where (ltb 64 (length raw)) (TooMany 0 0)) parts.0 in
     let most : length raw ≤ 64 = ltb-false 64 (length raw) (where_false _ (TooMany 0 0) limits.1) in
     let some : 0 < length raw = some_values (length raw) (not_false _ (where_false _ NoConjunction limits.0)) in
     and_from _ _ (and_from _ _
-    (lt-ltb 0 (length (kept raw)) (omega (arith, length-map raw keep_conjunction)))
-    (le-leb (length (kept raw)) 64 (omega (arith, length-map raw keep_conjunction))))
+    (lt-ltb 0 (length (keep raw)) (omega (arith, length-map raw keep_conjunction)))
+    (le-leb (length (keep raw)) 64 (omega (arith, length-map raw keep_conjunction))))
     (conjunctions_kept 0 raw parts.1)

@@ -18,7 +18,7 @@ use Rattle.target_expr.specs.declared.fault.ExprFault.TheVariants.{NoConjunction
 use Rattle.target_expr.specs.Attributes.{attributes, name_of, attr_named}
 use Rattle.target_expr.specs.Truth.{conjunction_holds, holds, pred_holds, value_at}
 use Rattle.target_expr.specs.Written.{written_holds, written_pred_holds}
-use Rattle.target_expr.specs.Kept.{conjunction_faults, fault_where, faults, in_order, is_too_much, kept, keep_at, keep_conjunction, keep_in, keep_pred, pred_faults}
+use Rattle.target_expr.specs.Kept.{conjunction_faults, fault_where, faults, in_order, is_too_much, keep, keep_at, keep_conjunction, keep_in, keep_pred, pred_faults}
 use Rattle.target_expr.proofs.ByteOrder.{Has, has_in_order, in_order_has}
 use Rattle.target_expr.proofs.Keeping.{is_of, where_false}
 
@@ -165,12 +165,12 @@ conjunction_means pairs i c e =
     let parts = both_nil (fault_where (ltb 16 (length c)) (TooMany i 0)) (flat_map (pred_faults i c) (enumerate_from 0 c)) e in
     same_conjunction pairs c (apart_from i c [] c 0 refl refl parts.1)
 
-conjunctions_mean : (pairs : List (Attr × List ℕ)) (n : ℕ) (raw : List (List RawPred)) → flat_map conjunction_faults (enumerate_from n raw) ≡ [] → holds pairs (kept raw) ≡ written_holds pairs raw
+conjunctions_mean : (pairs : List (Attr × List ℕ)) (n : ℕ) (raw : List (List RawPred)) → flat_map conjunction_faults (enumerate_from n raw) ≡ [] → holds pairs (keep raw) ≡ written_holds pairs raw
 conjunctions_mean pairs n [] e = refl
 conjunctions_mean pairs n (c ∷ raw) e =
     let parts = both_nil (conjunction_faults (n, c)) (flat_map conjunction_faults (enumerate_from (n + 1) raw)) e in
-    ap (λ b. b || holds pairs (kept raw)) (conjunction_means pairs n c parts.0) ∙ ap (λ b. list_all (written_pred_holds pairs) c || b) (conjunctions_mean pairs (n + 1) raw parts.1)
+    ap (λ b. b || holds pairs (keep raw)) (conjunction_means pairs n c parts.0) ∙ ap (λ b. list_all (written_pred_holds pairs) c || b) (conjunctions_mean pairs (n + 1) raw parts.1)
 
-pub kept_means : (raw : List (List RawPred)) (pairs : List (Attr × List ℕ)) → faults raw ≡ [] → holds pairs (kept raw) ≡ written_holds pairs raw
+pub kept_means : (raw : List (List RawPred)) (pairs : List (Attr × List ℕ)) → faults raw ≡ [] → holds pairs (keep raw) ≡ written_holds pairs raw
 kept_means raw pairs e =
     conjunctions_mean pairs 0 raw (both_nil (fault_where (nat_eq (length raw) 0) NoConjunction ++ fault_where (ltb 64 (length raw)) (TooMany 0 0)) (flat_map conjunction_faults (enumerate_from 0 raw)) e).1

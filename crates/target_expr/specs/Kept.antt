@@ -75,8 +75,8 @@ keep_in c attrs = filter_map (keep_at c) attrs
 abbrev pub keep_conjunction : List RawPred → List Pred
 keep_conjunction c = keep_in c attributes
 
-abbrev pub kept : List (List RawPred) → List (List Pred)
-kept raw = map keep_conjunction raw
+abbrev pub keep : List (List RawPred) → List (List Pred)
+keep raw = map keep_conjunction raw
 
 -- ---- what every kept expression is
 

@@ -2,7 +2,7 @@ ghost use Rattle.std.specs.Prelude.{◌≡◌, [], ◌∷◌, ◌++◌, IfOk, If
 ghost use Rattle.std.specs.Option.{option_copied};
 ghost use Rattle.std.specs.Str.{bytes_eq};
 ghost use Rattle.target_expr.specs.Attributes.{name_of};
-ghost use Rattle.target_expr.specs.Kept.{IsFirstUnlessMemory, faults, in_order, kept, keep_conjunction, keep_in, keep_pred};
+ghost use Rattle.target_expr.specs.Kept.{IsFirstUnlessMemory, faults, in_order, keep, keep_conjunction, keep_in, keep_pred};
 
 use crate::attr::{ATTRIBUTES, Attr};
 use crate::check::first_fault;
@@ -21,7 +21,7 @@ impl Expr {
     /// `EmptyList`, `TooMany`.
     pub fn make(alloc: Global, raw: &List<List<RawPred>>) -> Result<Expr, ExprFault>
         ensures right { IfOk result (λ _. faults raw.now ≡ []) }
-        ensures value { IfOk result (λ e. e ≡ kept raw.now) }
+        ensures value { IfOk result (λ e. e ≡ keep raw.now) }
         ensures fault { IfErr result (IsFirstUnlessMemory (faults raw.now)) }
     {
         match first_fault(raw.as_slice()) {
@@ -36,7 +36,7 @@ impl Expr {
 
 // The conjunctions as they are kept.
 fn keep_all(alloc: Global, raw: &[List<RawPred>]) -> Result<Vec<List<Pred>>, AllocError>
-    ensures { IfOk result (λ all. all.items ≡ kept raw.now) }
+    ensures { IfOk result (λ all. all.items ≡ keep raw.now) }
 {
     let mut all = Vec::with_capacity(alloc, raw.len())?;
     for conjunction in raw {
