@@ -52,12 +52,12 @@ fn raw_conjunction(
 ) -> Result<List<RawPred>, AllocError> {
     let fields = profile.fields();
     let mut preds = List::new(alloc);
-    let mut at = draws.below(8);
+    let mut place = draws.below(8);
     let stride = 2 * draws.below(4) + 1;
     for i in 0..2 + draws.below(3) {
         let negated = draws.below(8) == 0 && i > 0;
-        preds.push(raw_pred(alloc, &fields[at as usize], negated, draws)?)?;
-        at = (at + stride) % 8;
+        preds.push(raw_pred(alloc, &fields[place as usize], negated, draws)?)?;
+        place = (place + stride) % 8;
     }
     Ok(preds)
 }

@@ -55,9 +55,9 @@ fn cat_fault(cat: &[Txt]) -> Option<FactFault>
             field: CampField::Cat,
         });
     }
-    let at = first_misfit(cat)?;
+    let place = first_misfit(cat)?;
     Some(FactFault::TextLength {
-        field: CampField::CatItem(at),
+        field: CampField::CatItem(place),
     })
 }
 
@@ -102,9 +102,9 @@ fn attr_fault(attr: &[i32]) -> Option<FactFault>
             field: CampField::Attr,
         });
     }
-    let at = first_negative(attr)?;
+    let place = first_negative(attr)?;
     Some(FactFault::ListLength {
-        field: CampField::AttrItem(at),
+        field: CampField::AttrItem(place),
     })
 }
 
@@ -113,9 +113,9 @@ fn first_negative(ints: &[i32]) -> Option<usize>
     ensures place { result ≡ position (λ z. not (int_le (pos 0) z)) ints.now }
     ensures range { IfNone result (All (FitsSigned w32) ints.now) }
 {
-    for (at, n) in ints.iter().enumerate() {
+    for (place, n) in ints.iter().enumerate() {
         if *n < 0 {
-            return Some(at);
+            return Some(place);
         }
     }
     None
@@ -140,9 +140,9 @@ fn deals_fault(deals: &[Txt]) -> Option<FactFault>
             field: CampField::Deals,
         });
     }
-    let at = first_misfit(deals)?;
+    let place = first_misfit(deals)?;
     Some(FactFault::TextLength {
-        field: CampField::DealsItem(at),
+        field: CampField::DealsItem(place),
     })
 }
 

@@ -153,8 +153,8 @@ fn pass_all<L: Ledger>(cursors: &mut Vec<Cursor>, id: u32, steps: &mut Steps<L>)
         plain: 0,
         least: PAST,
     };
-    for at in 0..cursors.len() {
-        turn.visit(&mut cursors[at], id, steps);
+    for i in 0..cursors.len() {
+        turn.visit(&mut cursors[i], id, steps);
     }
     turn
 }
