@@ -18,10 +18,10 @@ use target_expr::Expr;
 pub fn answer(alloc: Global, call: &[u8], args: &[Txt], out: &mut Txt) -> Result<bool, AllocError> {
     match (call, args) {
         (b"read_campaign", [text]) => verdict(alloc, text, out)?,
-        (b"make_facts", said) => made(alloc, said, out)?,
+        (b"make_facts", said) => make_facts(alloc, said, out)?,
         (b"cap", [count, seconds]) => put_cap(alloc, cap_of(count, seconds), out)?,
-        (b"encode_facts", [text]) => encoded(alloc, text, out)?,
-        (b"decode_facts", [bytes, place]) => decoded(alloc, bytes, place, out)?,
+        (b"encode_facts", [text]) => encode(alloc, text, out)?,
+        (b"decode_facts", [bytes, place]) => decode(alloc, bytes, place, out)?,
         (b"torn_fronts", [bytes]) => fronts(alloc, bytes, out)?,
         _ => return Ok(false),
     }
@@ -180,7 +180,7 @@ fn cap_of(count: &Txt, seconds: &Txt) -> Option<Cap> {
 
 // ---- facts by their fields
 
-fn made(alloc: Global, said: &[Txt], out: &mut Txt) -> Result<(), AllocError> {
+fn make_facts(alloc: Global, said: &[Txt], out: &mut Txt) -> Result<(), AllocError> {
     let (Some(bid), Some(budget)) = (Micros::new(2_500_000), Nanos::new(5_000_000_000)) else {
         return out.extend(b"unreadable");
     };
@@ -190,10 +190,10 @@ fn made(alloc: Global, said: &[Txt], out: &mut Txt) -> Result<(), AllocError> {
             return out.extend(b"unreadable");
         }
     }
-    put_made(parts, out)
+    put_facts_of(parts, out)
 }
 
-fn put_made(parts: FactParts, out: &mut Txt) -> Result<(), AllocError> {
+fn put_facts_of(parts: FactParts, out: &mut Txt) -> Result<(), AllocError> {
     if parts.budget.get() % 1000 != 0 {
         return out.extend(b"unreadable");
     }
@@ -317,14 +317,14 @@ fn micros_in(text: &[u8]) -> Option<Micros> {
 
 // ---- bytes
 
-fn encoded(alloc: Global, text: &Txt, out: &mut Txt) -> Result<(), AllocError> {
+fn encode(alloc: Global, text: &Txt, out: &mut Txt) -> Result<(), AllocError> {
     match campaign_of(alloc, text)? {
         Some((facts, _)) => facts.copy()?.encode(out),
         None => out.extend(b"unreadable"),
     }
 }
 
-fn decoded(alloc: Global, bytes: &Txt, place: &Txt, out: &mut Txt) -> Result<(), AllocError> {
+fn decode(alloc: Global, bytes: &Txt, place: &Txt, out: &mut Txt) -> Result<(), AllocError> {
     let Some(place) = number_in(place.as_bytes()) else {
         return out.extend(b"unreadable");
     };

@@ -1,7 +1,7 @@
 use Rattle.std.proofs.Common.{◌≡◌, ℕ, List, ◌≤◌, All}
 use Rattle.target_expr.specs.declared.pred.Pred.{Pred}
 use Rattle.conj_index.specs.Campaigns.{conjunctions_in}
-use Rattle.rtb_cases.proofs.finding.built.Given as goal
+use Rattle.rtb_cases.proofs.finding.index_of.Given as goal
 
 abbrev pub invariant-loop-number : goal.invariant-loop-number
 invariant-loop-number g l = record {

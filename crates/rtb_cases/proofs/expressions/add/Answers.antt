@@ -1,6 +1,6 @@
 use Rattle.std.proofs.Common.{sym, ◌∙◌, ap}
 use Rattle.target_expr.proofs.Singles.{has_attr, single_push}
-use Rattle.rtb_cases.proofs.finding.add.Goals as goal
+use Rattle.rtb_cases.proofs.expressions.add.Goals as goal
 
 pub returns : goal.returns
 returns c =
