@@ -1,4 +1,5 @@
 //! Calls of `rtb_num`: numbers and amounts.
+use crate::texts::number_in;
 use rtb_num::{
     Micros, Nanos, PriceFault, Txt, exact_micros, floor_micros, is_decimal, is_number, is_whole,
     whole, write_micros, write_nanos,
@@ -42,11 +43,6 @@ fn micros_text(text: &[u8], out: &mut Txt) -> Result<(), AllocError> {
         },
         None => out.extend(b"unreadable"),
     }
-}
-
-// A whole number of 64 bits.
-fn number_in(text: &[u8]) -> Option<u64> {
-    str::from_utf8(text).ok()?.parse::<u64>().ok()
 }
 
 fn nanos_text(text: &[u8], out: &mut Txt) -> Result<(), AllocError> {

@@ -13,6 +13,7 @@ use std::alloc::{AllocError, Global};
 ///   whose they are: `request`, `imp` (the only one), `banner` (of that one), `pmp`, or `deal` (the second).
 /// - `request | TEXT`: the fields of the request that are there, as `id=b1 at=2 imp{id=1 ..}`, with
 ///   amounts in micro-dollars.
+/// - `why_no_request | TEXT`: what is wrong with it, in words.
 pub fn answer(alloc: Global, call: &[u8], args: &[Txt], out: &mut Txt) -> Result<bool, AllocError> {
     match (call, args) {
         (b"read_request", [text]) => judge(alloc, text.as_bytes(), out)?,
@@ -20,6 +21,7 @@ pub fn answer(alloc: Global, call: &[u8], args: &[Txt], out: &mut Txt) -> Result
             judge_in(alloc, place.as_bytes(), members.as_bytes(), out)?
         }
         (b"request", [text]) => show(alloc, text.as_bytes(), out)?,
+        (b"why_no_request", [text]) => put_why(alloc, text.as_bytes(), out)?,
         _ => return Ok(false),
     }
     Ok(true)
@@ -38,11 +40,11 @@ fn judge(alloc: Global, text: &[u8], out: &mut Txt) -> Result<(), AllocError> {
 fn put_fault(alloc: Global, fault: ReqFault, out: &mut Txt) -> Result<(), AllocError> {
     match fault {
         ReqFault::NotObject => out.extend(b"not-object"),
-        ReqFault::Missing { field } => put_field(b"missing ", field, out),
-        ReqFault::WrongType { field } => put_field(b"type ", field, out),
-        ReqFault::Range { field } => put_field(b"range ", field, out),
-        ReqFault::Price { field, fault } => put_field(price_word(fault), field, out),
-        ReqFault::AuctionType { field } => put_field(b"auction-type ", field, out),
+        ReqFault::Missing { field } => put_field(alloc, b"missing ", field, out),
+        ReqFault::WrongType { field } => put_field(alloc, b"type ", field, out),
+        ReqFault::Range { field } => put_field(alloc, b"range ", field, out),
+        ReqFault::Price { field, fault } => put_field(alloc, price_word(fault), field, out),
+        ReqFault::AuctionType { field } => put_field(alloc, b"auction-type ", field, out),
         ReqFault::NoImps => out.extend(b"no-imps"),
         ReqFault::TooManyImps { count } => put_count(alloc, b"too-many ", count, out),
         ReqFault::DuplicateImp { first, second } => {
@@ -53,10 +55,16 @@ fn put_fault(alloc: Global, fault: ReqFault, out: &mut Txt) -> Result<(), AllocE
     }
 }
 
-// A word and the path of the field.
-fn put_field(word: &[u8], field: Field, out: &mut Txt) -> Result<(), AllocError> {
-    out.extend(word)?;
-    field.write(out)
+// A word and the path of the field, and how the field is shown where that is something else.
+fn put_field(alloc: Global, word: &[u8], field: Field, out: &mut Txt) -> Result<(), AllocError> {
+    let mut path = Txt::new(alloc);
+    field.write(&mut path)?;
+    out.extend_all(&[word, path.as_bytes()])?;
+    let shown = format!(in alloc; "{field}")?;
+    if shown.as_bytes() != path.as_bytes() {
+        out.extend_all(&[b", but ", shown.as_bytes()])?;
+    }
+    Ok(())
 }
 
 fn price_word(fault: PriceFault) -> &'static [u8] {
@@ -70,6 +78,17 @@ fn price_word(fault: PriceFault) -> &'static [u8] {
 fn put_count(alloc: Global, word: &[u8], count: usize, out: &mut Txt) -> Result<(), AllocError> {
     out.extend(word)?;
     put_number(alloc, count as u64, out)
+}
+
+// Why the text is no request, in words.
+fn put_why(alloc: Global, text: &[u8], out: &mut Txt) -> Result<(), AllocError> {
+    match read(alloc, text) {
+        Ok(doc) => match read_request(alloc, &doc) {
+            Ok(_) => out.extend(b"it is one"),
+            Err(fault) => out.extend(format!(in alloc; "{fault}")?.as_bytes()),
+        },
+        Err(fault) => out.extend(format!(in alloc; "{fault}")?.as_bytes()),
+    }
 }
 
 fn judge_in(alloc: Global, place: &[u8], members: &[u8], out: &mut Txt) -> Result<(), AllocError> {
