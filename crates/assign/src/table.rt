@@ -24,7 +24,7 @@ pub fn assignment(alloc: Global, request: &BidRequest, imp: usize) -> Result<Ass
     Ok(Assignment::make(pairs))
 }
 
-// The rows of the table.
+// Room for the rows of the table.
 const MOST_ROWS: usize = 22;
 
 // The present rows.

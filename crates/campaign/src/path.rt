@@ -1,5 +1,5 @@
-ghost use Rattle.std.specs.Prelude.{◌≡◌, ◌++◌, ℕ, List, OnOk, OnErr};
-ghost use Rattle.campaign.specs.Paths.{camp_path, predicate_path};
+ghost use Rattle.std.specs.Prelude.{◌≡◌, ◌++◌, ℕ, List, OnOk, OnErr, codes};
+ghost use Rattle.campaign.specs.Paths.{camp_path, member_name, predicate_path};
 
 use crate::field::CampField;
 use rtb_num::{PathName, Txt, put_item, put_member, put_name, put_place};
@@ -50,15 +50,23 @@ fn put_path(field: CampField, out: &mut Txt) -> Result<(), AllocError>
         CampField::Conjunction(i) => put_item(field.member(), i, out)?,
         CampField::Predicate(i, j) => put_predicate(i, j, out)?,
         CampField::PredicateAttr(i, j) | CampField::In(i, j) | CampField::Not(i, j) => {
-            put_predicate(i, j, out)?;
-            put_member(field.member(), out)?;
+            put_inside(i, j, field, out)?
         }
         CampField::InItem(i, j, place) | CampField::NotItem(i, j, place) => {
-            put_predicate(i, j, out)?;
-            put_member(field.member(), out)?;
+            put_inside(i, j, field, out)?;
             put_place(place, out)?;
         }
     }
+    Ok(())
+}
+
+// Appends the path of a member of a predicate, or a front of it.
+fn put_inside(i: usize, j: usize, field: CampField, out: &mut Txt) -> Result<(), AllocError>
+    ensures ok { OnOk result (out.new ≡ out.old ++ (predicate_path i j ++ codes "." ++ member_name field)) }
+    ensures front { (more : List ℕ) × (out.new ≡ out.old ++ more) }
+{
+    put_predicate(i, j, out)?;
+    put_member(field.member(), out)?;
     Ok(())
 }
 

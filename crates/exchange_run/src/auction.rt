@@ -181,7 +181,7 @@ fn sell_imp<'a>(
     if let Some(win) = win_of(offers, imp) {
         let sale = SoldImp {
             imp: &imp.id,
-            campaign: winner(campaigns, win.campaign),
+            campaign: campaign_there(campaigns, win.campaign),
             price: win.price,
         };
         if sold.push(sale).is_err() {
@@ -205,7 +205,7 @@ fn win_of(offers: &[Offer], imp: &Imp) -> Option<Win>
 }
 
 // The campaign that won.
-fn winner(campaigns: &[NumberedCampaign], number: u32) -> &NumberedCampaign
+fn campaign_there(campaigns: &[NumberedCampaign], number: u32) -> &NumberedCampaign
     requires { IsTrue (list_any (λ p. p.0 == number) campaigns.now) }
     ensures { result.now.0 ≡ number }
 {

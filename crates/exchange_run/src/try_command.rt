@@ -52,7 +52,7 @@ pub fn try_run<S: Source, K: Sink>(alloc: Global, words: &[Txt], source: &mut S,
     ensures unread { command_of words.now ≡ None → source.new ≡ source.old }
     ensures taken { TakesAtMost 266240 (S.left source.old) (S.left source.new) }
 {
-    match outcome(alloc, words, source) {
+    match reply_or_status(alloc, words, source) {
         Ok(reply) => tell(reply.status, reply.line.as_bytes(), sink).code(),
         Err(status) => end_with(status, sink).code(),
     }
@@ -62,7 +62,7 @@ pub fn try_run<S: Source, K: Sink>(alloc: Global, words: &[Txt], source: &mut S,
 const MAX_INPUT: usize = 262_144;
 
 // What the run comes to, before it is written: a reply, or the status of what stands in its place.
-fn outcome<S: Source>(alloc: Global, words: &[Txt], source: &mut S) -> Result<Reply, Status>
+fn reply_or_status<S: Source>(alloc: Global, words: &[Txt], source: &mut S) -> Result<Reply, Status>
     ensures replied { IfOk result (λ r. IsOutcome words.now (S.left source.old) (S.left source.new) (S.faults source.old) (S.faults source.new) r.status r.line) }
     ensures stopped { IfErr result (λ s. IsOutcome words.now (S.left source.old) (S.left source.new) (S.faults source.old) (S.faults source.new) s (line_of s)) }
     ensures ends { IfOk result (λ r. (r.status ≡ Done) ⊎ (r.status ≡ Refused)) }

@@ -1,7 +1,7 @@
 use Rattle.std.proofs.Common.{◌≡◌, subst}
 use Rattle.exchange_run.specs.Answer.{Replies, replied}
 use Rattle.exchange_run.specs.Words.{campaigns_of, command_of}
-use Rattle.exchange_run.proofs.try_command.outcome.Goals as goal
+use Rattle.exchange_run.proofs.try_command.reply_or_status.Goals as goal
 
 pub returns-in-Ok-reply_line-clause-replied : goal.returns-in-Ok-reply_line-clause-replied
 returns-in-Ok-reply_line-clause-replied g c =
