@@ -12,7 +12,7 @@ use Rattle.target_expr.specs.declared.attr.Attr.{Attr}
 use Rattle.target_expr.specs.declared.attr.Attr.TheVariants.{Publisher}
 use Rattle.target_expr.specs.Attributes.{number_of}
 use Rattle.target_expr.specs.Truth.{are_single, same_attr, value_at}
-use Rattle.assign.specs.Rows.{Row, app_rows, device_rows, geo_rows, imp_rows, pairs_of, present, publisher_of, rows, site_rows, text_at, user_rows}
+use Rattle.assign.specs.Rows.{Row, app_rows, device_rows, geo_rows, imp_rows, pairs_of, pair_of, publisher_of, rows, site_rows, text_at, user_rows}
 
 -- each row's attribute is above n, and above the one before
 rise_from : ℕ → List Row → Bool
@@ -36,22 +36,22 @@ higher m n k le h = grind (arith, nat_tests)
 itself : (k : ℕ) → k ≤ k
 itself k = omega arith
 
-none_same : (a : Attr) (n : ℕ) (rest : List Row) → number_of a ≤ n → rise_from n rest ≡ true → list_any (λ (q : Attr × List ℕ). same_attr q.0 a) (flat_map present rest) ≡ false
+none_same : (a : Attr) (n : ℕ) (rest : List Row) → number_of a ≤ n → rise_from n rest ≡ true → list_any (λ (q : Attr × List ℕ). same_attr q.0 a) (flat_map pair_of rest) ≡ false
 unfolding rise_from
 none_same a n [] le h = refl
 none_same a n ((b, None) ∷ rest) le h = none_same a (number_of b) rest (higher (number_of a) n (number_of b) le (left (nat_lt n (number_of b)) (rise_from (number_of b) rest) h)) (right (nat_lt n (number_of b)) (rise_from (number_of b) rest) h)
 none_same a n ((b, Some t) ∷ rest) le h =
     let first = left (nat_lt n (number_of b)) (rise_from (number_of b) rest) h in
-    ap (λ c. c || list_any (λ (q : Attr × List ℕ). same_attr q.0 a) (flat_map present rest)) (other (number_of a) n (number_of b) le first)
+    ap (λ c. c || list_any (λ (q : Attr × List ℕ). same_attr q.0 a) (flat_map pair_of rest)) (other (number_of a) n (number_of b) le first)
     ∙ none_same a (number_of b) rest (higher (number_of a) n (number_of b) le first) (right (nat_lt n (number_of b)) (rise_from (number_of b) rest) h)
 
-single : (n : ℕ) (rest : List Row) → rise_from n rest ≡ true → are_single (flat_map present rest) ≡ true
+single : (n : ℕ) (rest : List Row) → rise_from n rest ≡ true → are_single (flat_map pair_of rest) ≡ true
 unfolding rise_from
 single n [] h = refl
 single n ((b, None) ∷ rest) h = single (number_of b) rest (right (nat_lt n (number_of b)) (rise_from (number_of b) rest) h)
 single n ((b, Some t) ∷ rest) h =
     let later = right (nat_lt n (number_of b)) (rise_from (number_of b) rest) h in
-    ap (λ c. not c && are_single (flat_map present rest)) (none_same b (number_of b) rest (itself (number_of b)) later) ∙ single (number_of b) rest later
+    ap (λ c. not c && are_single (flat_map pair_of rest)) (none_same b (number_of b) rest (itself (number_of b)) later) ∙ single (number_of b) rest later
 
 all_rise : (r : BidRequest) (i : Imp) → rise_from 0 (rows r i) ≡ true
 unfolding rise_from site_rows app_rows geo_rows device_rows user_rows imp_rows
@@ -70,18 +70,18 @@ not_found a (p ∷ ps) e =
 same_number : (k m : ℕ) → (k == m) ≡ true → m ≤ k
 same_number k m e = grind (arith, nat_tests)
 
-value : (n : ℕ) (a : Attr) (rest : List Row) → rise_from n rest ≡ true → value_at (flat_map present rest) a ≡ text_at rest a
+value : (n : ℕ) (a : Attr) (rest : List Row) → rise_from n rest ≡ true → value_at (flat_map pair_of rest) a ≡ text_at rest a
 unfolding rise_from
 value n a [] h = refl
 value n a ((b, None) ∷ rest) h =
     let later = right (nat_lt n (number_of b)) (rise_from (number_of b) rest) h in
-    elim (same_attr b a) as (λ s. same_attr b a ≡ s → value_at (flat_map present rest) a ≡ option_and_then (λ (row : Row). row.1) (cond s (Some (b, None)) (find (λ (row : Row). same_attr row.0 a) rest))) [
-      | true ↦ λ same. not_found a (flat_map present rest) (none_same a (number_of b) rest (same_number (number_of b) (number_of a) same) later)
+    elim (same_attr b a) as (λ s. same_attr b a ≡ s → value_at (flat_map pair_of rest) a ≡ option_and_then (λ (row : Row). row.1) (cond s (Some (b, None)) (find (λ (row : Row). same_attr row.0 a) rest))) [
+      | true ↦ λ same. not_found a (flat_map pair_of rest) (none_same a (number_of b) rest (same_number (number_of b) (number_of a) same) later)
       | false ↦ λ same. value (number_of b) a rest later
     ] refl
 value n a ((b, Some t) ∷ rest) h =
     let later = right (nat_lt n (number_of b)) (rise_from (number_of b) rest) h in
-    elim (same_attr b a) as (λ s. option_map (λ (q : Attr × List ℕ). q.1) (cond s (Some (b, t)) (find (λ (q : Attr × List ℕ). same_attr q.0 a) (flat_map present rest)))
+    elim (same_attr b a) as (λ s. option_map (λ (q : Attr × List ℕ). q.1) (cond s (Some (b, t)) (find (λ (q : Attr × List ℕ). same_attr q.0 a) (flat_map pair_of rest)))
     ≡ option_and_then (λ (row : Row). row.1) (cond s (Some (b, Some t)) (find (λ (row : Row). same_attr row.0 a) rest))) [
       | true ↦ refl
       | false ↦ value (number_of b) a rest later
@@ -93,24 +93,24 @@ unfolding pairs_of
 pairs_value r i a = value 0 a (rows r i) (all_rise r i)
 
 abbrev pub all_present : List Row → List (Attr × List ℕ)
-all_present group = flat_map present group
+all_present group = flat_map pair_of group
 
 seven : (s a p g d u i : List Row) → all_present ((((((s ++ a) ++ p) ++ g) ++ d) ++ u) ++ i) ≡ (((((all_present s ++ all_present a) ++ all_present p) ++ all_present g) ++ all_present d) ++ all_present u) ++ all_present i
 seven s a p g d u i =
-    flat_map-append present (((((s ++ a) ++ p) ++ g) ++ d) ++ u) i
-    ∙ ap (λ l. l ++ all_present i) (flat_map-append present ((((s ++ a) ++ p) ++ g) ++ d) u
-    ∙ ap (λ l. l ++ all_present u) (flat_map-append present (((s ++ a) ++ p) ++ g) d
-    ∙ ap (λ l. l ++ all_present d) (flat_map-append present ((s ++ a) ++ p) g
-    ∙ ap (λ l. l ++ all_present g) (flat_map-append present (s ++ a) p
-    ∙ ap (λ l. l ++ all_present p) (flat_map-append present s a)))))
+    flat_map-append pair_of (((((s ++ a) ++ p) ++ g) ++ d) ++ u) i
+    ∙ ap (λ l. l ++ all_present i) (flat_map-append pair_of ((((s ++ a) ++ p) ++ g) ++ d) u
+    ∙ ap (λ l. l ++ all_present u) (flat_map-append pair_of (((s ++ a) ++ p) ++ g) d
+    ∙ ap (λ l. l ++ all_present d) (flat_map-append pair_of ((s ++ a) ++ p) g
+    ∙ ap (λ l. l ++ all_present g) (flat_map-append pair_of (s ++ a) p
+    ∙ ap (λ l. l ++ all_present p) (flat_map-append pair_of s a)))))
 
 -- the groups of rows one after the other
-pub in_groups : (r : BidRequest) (i : Imp) → pairs_of r i ≡ (((((flat_map present (site_rows r.site) ++ flat_map present (app_rows r.app)) ++ present (Publisher, publisher_of r.site r.app))
-    ++ flat_map present (geo_rows (option_and_then (λ (d : Device). d.geo) r.device))) ++ flat_map present (device_rows r.device)) ++ flat_map present (user_rows r.user)) ++ flat_map present (imp_rows i)
+pub in_groups : (r : BidRequest) (i : Imp) → pairs_of r i ≡ (((((flat_map pair_of (site_rows r.site) ++ flat_map pair_of (app_rows r.app)) ++ pair_of (Publisher, publisher_of r.site r.app))
+    ++ flat_map pair_of (geo_rows (option_and_then (λ (d : Device). d.geo) r.device))) ++ flat_map pair_of (device_rows r.device)) ++ flat_map pair_of (user_rows r.user)) ++ flat_map pair_of (imp_rows i)
 unfolding pairs_of
 in_groups r i =
-    let g = flat_map present (geo_rows (option_and_then (λ (d : Device). d.geo) r.device)) in
-    let front = flat_map present (site_rows r.site) ++ flat_map present (app_rows r.app) in
+    let g = flat_map pair_of (geo_rows (option_and_then (λ (d : Device). d.geo) r.device)) in
+    let front = flat_map pair_of (site_rows r.site) ++ flat_map pair_of (app_rows r.app) in
     let row : Row = (Publisher, publisher_of r.site r.app) in
     seven (site_rows r.site) (app_rows r.app) (row ∷ []) (geo_rows (option_and_then (λ (d : Device). d.geo) r.device)) (device_rows r.device) (user_rows r.user) (imp_rows i)
-    ∙ ap (λ l. ((((front ++ l) ++ g) ++ flat_map present (device_rows r.device)) ++ flat_map present (user_rows r.user)) ++ flat_map present (imp_rows i)) (append-nil (present row))
+    ∙ ap (λ l. ((((front ++ l) ++ g) ++ flat_map pair_of (device_rows r.device)) ++ flat_map pair_of (user_rows r.user)) ++ flat_map pair_of (imp_rows i)) (append-nil (pair_of row))

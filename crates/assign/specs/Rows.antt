@@ -64,8 +64,8 @@ rows r imp = site_rows r.site ++ app_rows r.app ++ (attr.Publisher, publisher_of
     ++ geo_rows (option_and_then (λ (d : Device). d.geo) r.device) ++ device_rows r.device ++ user_rows r.user ++ imp_rows imp
 
 -- a row that is present; an empty text is a value
-abbrev pub present : Row → List (Attr × List ℕ)
-present row = option_to_list (option_map (λ text. (row.0, text)) row.1)
+abbrev pub pair_of : Row → List (Attr × List ℕ)
+pair_of row = option_to_list (option_map (λ text. (row.0, text)) row.1)
 
 -- the text of the attribute's row, where it is present
 abbrev pub text_at : List Row → Attr → Option (List ℕ)
@@ -73,4 +73,4 @@ text_at rs a = option_and_then (λ (row : Row). row.1) (find (λ (row : Row). sa
 
 -- the present rows, in the order of the table
 unfoldable pub pairs_of : BidRequest → Imp → List (Attr × List ℕ)
-pairs_of r imp = flat_map present (rows r imp)
+pairs_of r imp = flat_map pair_of (rows r imp)

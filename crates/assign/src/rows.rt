@@ -4,61 +4,19 @@ ghost use Rattle.std.specs.Prelude.{◌≡◌, ◌++◌, ◌∷◌, [], option_m
 ghost use Rattle.std.specs.Fmt.{signed_decimal};
 ghost use Rattle.std.specs.List.{flat_map};
 ghost use Rattle.target_expr.specs.declared.attr.Attr.TheVariants.{Publisher};
-ghost use Rattle.assign.specs.Rows.{app_rows, device_rows, geo_rows, imp_rows, number_text, present, publisher_of, site_rows, user_rows};
+ghost use Rattle.assign.specs.Rows.{app_rows, device_rows, geo_rows, imp_rows, number_text, pair_of, publisher_of, site_rows, user_rows};
 
-use itoa::Buffer;
-use rtb_num::{List, Txt};
+use rtb_num::{List, Txt, write_signed};
 use rtb_types::{App, Banner, Device, Geo, Imp, Site, User};
 use std::alloc::{AllocError, Global};
 use target_expr::Attr;
-
-// Appends the row of a text, where it is present.
-fn push_text(
-    pairs: &mut List<(Attr, Txt)>,
-    attr: Attr,
-    text: Option<&Txt>,
-) -> Result<(), AllocError>
-    ensures { OnOk result (pairs.new ≡ pairs.old ++ present (attr, option_map (λ t. t.now) text.entry)) }
-{
-    if let Some(text) = text {
-        let value = text.copy()?;
-        pairs.push((attr, value))?;
-    }
-    Ok(())
-}
-
-// The decimal text of a number.
-fn decimal_text(alloc: Global, n: i32) -> Result<Txt, AllocError>
-    ensures { IfOk result (λ t. t ≡ signed_decimal n) }
-{
-    let mut text = Txt::new(alloc);
-    let mut buffer = Buffer::new();
-    text.extend(buffer.format(n).as_bytes())?;
-    Ok(text)
-}
-
-// Appends the row of a number, where it is present.
-fn push_number(
-    alloc: Global,
-    pairs: &mut List<(Attr, Txt)>,
-    attr: Attr,
-    number: Option<i32>,
-) -> Result<(), AllocError>
-    ensures { OnOk result (pairs.new ≡ pairs.old ++ present (attr, number_text number)) }
-{
-    if let Some(n) = number {
-        let value = decimal_text(alloc, n)?;
-        pairs.push((attr, value))?;
-    }
-    Ok(())
-}
 
 /// Appends the rows of the site.
 pub(crate) fn push_site(
     pairs: &mut List<(Attr, Txt)>,
     site: Option<&Site>,
 ) -> Result<(), AllocError>
-    ensures { OnOk result (pairs.new ≡ pairs.old ++ flat_map present (site_rows (option_map (λ s. s.now) site.entry))) }
+    ensures { OnOk result (pairs.new ≡ pairs.old ++ flat_map pair_of (site_rows (option_map (λ s. s.now) site.entry))) }
 {
     if let Some(site) = site {
         push_text(pairs, Attr::Domain, site.domain.as_ref())?;
@@ -67,15 +25,51 @@ pub(crate) fn push_site(
     Ok(())
 }
 
+// Appends the row of a text, where it is present.
+fn push_text(
+    pairs: &mut List<(Attr, Txt)>,
+    attr: Attr,
+    text: Option<&Txt>,
+) -> Result<(), AllocError>
+    ensures { OnOk result (pairs.new ≡ pairs.old ++ pair_of (attr, option_map (λ t. t.now) text.entry)) }
+{
+    if let Some(text) = text {
+        let value = text.copy()?;
+        pairs.push((attr, value))?;
+    }
+    Ok(())
+}
+
 /// Appends the rows of the app.
 pub(crate) fn push_app(pairs: &mut List<(Attr, Txt)>, app: Option<&App>) -> Result<(), AllocError>
-    ensures { OnOk result (pairs.new ≡ pairs.old ++ flat_map present (app_rows (option_map (λ a. a.now) app.entry))) }
+    ensures { OnOk result (pairs.new ≡ pairs.old ++ flat_map pair_of (app_rows (option_map (λ a. a.now) app.entry))) }
 {
     if let Some(app) = app {
         push_text(pairs, Attr::Bundle, app.bundle.as_ref())?;
         push_text(pairs, Attr::App, app.id.as_ref())?;
     }
     Ok(())
+}
+
+/// Appends the row of the publisher.
+pub(crate) fn push_publisher(
+    pairs: &mut List<(Attr, Txt)>,
+    site: Option<&Site>,
+    app: Option<&App>,
+) -> Result<(), AllocError>
+    ensures { OnOk result (pairs.new ≡ pairs.old ++ pair_of (Publisher, publisher_of (option_map (λ s. s.now) site.entry) (option_map (λ a. a.now) app.entry))) }
+{
+    push_text(pairs, Attr::Publisher, publisher(site, app))
+}
+
+// The site's publisher, or else the app's.
+fn publisher<'a>(site: Option<&'a Site>, app: Option<&'a App>) -> Option<&'a Txt>
+    ensures { option_map (λ t. t.now) result ≡ publisher_of (option_map (λ s. s.now) site.entry) (option_map (λ a. a.now) app.entry) }
+{
+    match site_publisher(site) {
+        Some(publisher) => Some(publisher),
+        None => app_publisher(app),
+    }
 }
 
 fn site_publisher(site: Option<&Site>) -> Option<&Txt>
@@ -96,30 +90,9 @@ fn app_publisher(app: Option<&App>) -> Option<&Txt>
     }
 }
 
-// The site's publisher, or else the app's.
-fn publisher<'a>(site: Option<&'a Site>, app: Option<&'a App>) -> Option<&'a Txt>
-    ensures { option_map (λ t. t.now) result ≡ publisher_of (option_map (λ s. s.now) site.entry) (option_map (λ a. a.now) app.entry) }
-{
-    match site_publisher(site) {
-        Some(publisher) => Some(publisher),
-        None => app_publisher(app),
-    }
-}
-
-/// Appends the row of the publisher.
-pub(crate) fn push_publisher(
-    pairs: &mut List<(Attr, Txt)>,
-    site: Option<&Site>,
-    app: Option<&App>,
-) -> Result<(), AllocError>
-    ensures { OnOk result (pairs.new ≡ pairs.old ++ present (Publisher, publisher_of (option_map (λ s. s.now) site.entry) (option_map (λ a. a.now) app.entry))) }
-{
-    push_text(pairs, Attr::Publisher, publisher(site, app))
-}
-
 /// Appends the rows of the device's place.
 pub(crate) fn push_geo(pairs: &mut List<(Attr, Txt)>, geo: Option<&Geo>) -> Result<(), AllocError>
-    ensures { OnOk result (pairs.new ≡ pairs.old ++ flat_map present (geo_rows (option_map (λ g. g.now) geo.entry))) }
+    ensures { OnOk result (pairs.new ≡ pairs.old ++ flat_map pair_of (geo_rows (option_map (λ g. g.now) geo.entry))) }
 {
     if let Some(geo) = geo {
         push_text(pairs, Attr::Country, geo.country.as_ref())?;
@@ -137,7 +110,7 @@ pub(crate) fn push_device(
     pairs: &mut List<(Attr, Txt)>,
     device: Option<&Device>,
 ) -> Result<(), AllocError>
-    ensures { OnOk result (pairs.new ≡ pairs.old ++ flat_map present (device_rows (option_map (λ d. d.now) device.entry))) }
+    ensures { OnOk result (pairs.new ≡ pairs.old ++ flat_map pair_of (device_rows (option_map (λ d. d.now) device.entry))) }
 {
     if let Some(device) = device {
         push_number(alloc, pairs, Attr::DeviceType, device.devicetype)?;
@@ -152,18 +125,56 @@ pub(crate) fn push_device(
     Ok(())
 }
 
+// Appends the row of a number, where it is present.
+fn push_number(
+    alloc: Global,
+    pairs: &mut List<(Attr, Txt)>,
+    attr: Attr,
+    number: Option<i32>,
+) -> Result<(), AllocError>
+    ensures { OnOk result (pairs.new ≡ pairs.old ++ pair_of (attr, number_text number)) }
+{
+    if let Some(n) = number {
+        let value = decimal_text(alloc, n)?;
+        pairs.push((attr, value))?;
+    }
+    Ok(())
+}
+
+// The decimal text of a number.
+fn decimal_text(alloc: Global, n: i32) -> Result<Txt, AllocError>
+    ensures { IfOk result (λ t. t ≡ signed_decimal n) }
+{
+    let mut text = Txt::new(alloc);
+    write_signed(n, &mut text)?;
+    Ok(text)
+}
+
 /// Appends the rows of the user.
 pub(crate) fn push_user(
     alloc: Global,
     pairs: &mut List<(Attr, Txt)>,
     user: Option<&User>,
 ) -> Result<(), AllocError>
-    ensures { OnOk result (pairs.new ≡ pairs.old ++ flat_map present (user_rows (option_map (λ u. u.now) user.entry))) }
+    ensures { OnOk result (pairs.new ≡ pairs.old ++ flat_map pair_of (user_rows (option_map (λ u. u.now) user.entry))) }
 {
     if let Some(user) = user {
         push_number(alloc, pairs, Attr::Yob, user.yob)?;
         push_text(pairs, Attr::Gender, user.gender.as_ref())?;
     }
+    Ok(())
+}
+
+/// Appends the rows of the impression.
+pub(crate) fn push_imp(
+    alloc: Global,
+    pairs: &mut List<(Attr, Txt)>,
+    imp: &Imp,
+) -> Result<(), AllocError>
+    ensures { OnOk result (pairs.new ≡ pairs.old ++ flat_map pair_of (imp_rows imp.now)) }
+{
+    push_text(pairs, Attr::TagId, imp.tagid.as_ref())?;
+    push_number(alloc, pairs, Attr::Pos, pos_of(imp.banner.as_ref()))?;
     Ok(())
 }
 
@@ -174,17 +185,4 @@ fn pos_of(banner: Option<&Banner>) -> Option<i32>
         Some(banner) => banner.pos,
         None => None,
     }
-}
-
-/// Appends the rows of the impression.
-pub(crate) fn push_imp(
-    alloc: Global,
-    pairs: &mut List<(Attr, Txt)>,
-    imp: &Imp,
-) -> Result<(), AllocError>
-    ensures { OnOk result (pairs.new ≡ pairs.old ++ flat_map present (imp_rows imp.now)) }
-{
-    push_text(pairs, Attr::TagId, imp.tagid.as_ref())?;
-    push_number(alloc, pairs, Attr::Pos, pos_of(imp.banner.as_ref()))?;
-    Ok(())
 }

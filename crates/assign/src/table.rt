@@ -4,7 +4,7 @@ ghost use Rattle.target_expr.specs.Truth.{are_single, value_at};
 ghost use Rattle.rtb_types.specs.declared.request.BidRequest.{BidRequest as Request};
 ghost use Rattle.rtb_types.specs.declared.request.Imp.{Imp as Impression};
 ghost use Rattle.target_expr.specs.declared.attr.Attr.{Attr as Attribute};
-ghost use Rattle.assign.specs.Rows.{pairs_of, rows, present, text_at};
+ghost use Rattle.assign.specs.Rows.{pairs_of, rows, pair_of, text_at};
 
 use crate::rows::{
     push_app, push_device, push_geo, push_imp, push_publisher, push_site, push_user,
@@ -14,14 +14,18 @@ use rtb_types::{BidRequest, Device, Geo, Imp};
 use std::alloc::{AllocError, Global};
 use target_expr::{Assignment, Attr};
 
-fn geo_of(device: Option<&Device>) -> Option<&Geo>
-    ensures { option_map (λ g. g.now) result ≡ option_and_then (λ d. d.geo) (option_map (λ d. d.now) device.entry) }
+/// The values that the impression at the place, counted from 0, gives to the attributes.
+#[tactic(auto, using(crate::proofs::Rising::pairs_single))]
+pub fn assignment(alloc: Global, request: &BidRequest, imp: usize) -> Result<Assignment, AllocError>
+    requires { imp < length request.now.imps }
+    ensures { IfOk result (λ a. (d : Impression) → a ≡ pairs_of request.now (get_or request.now.imps imp d)) }
 {
-    match device {
-        Some(device) => device.geo.as_ref(),
-        None => None,
-    }
+    let pairs = pairs(alloc, request, &request.imps.as_slice()[imp])?;
+    Ok(Assignment::make(pairs))
 }
+
+// Room for the rows of the table.
+const MOST_ROWS: usize = 22;
 
 // The present rows.
 #[tactic(auto, using(crate::proofs::Rising::in_groups))]
@@ -39,17 +43,13 @@ fn pairs(alloc: Global, request: &BidRequest, imp: &Imp) -> Result<List<(Attr, T
     Ok(pairs)
 }
 
-// The rows of the table.
-const MOST_ROWS: usize = 22;
-
-/// The values that the impression at the place, counted from 0, gives to the attributes.
-#[tactic(auto, using(crate::proofs::Rising::pairs_single))]
-pub fn assignment(alloc: Global, request: &BidRequest, imp: usize) -> Result<Assignment, AllocError>
-    requires { imp < length request.now.imps }
-    ensures { IfOk result (λ a. (d : Impression) → a ≡ pairs_of request.now (get_or request.now.imps imp d)) }
+fn geo_of(device: Option<&Device>) -> Option<&Geo>
+    ensures { option_map (λ g. g.now) result ≡ option_and_then (λ d. d.geo) (option_map (λ d. d.now) device.entry) }
 {
-    let pairs = pairs(alloc, request, &request.imps.as_slice()[imp])?;
-    Ok(Assignment::make(pairs))
+    match device {
+        Some(device) => device.geo.as_ref(),
+        None => None,
+    }
 }
 
 /// The law of the table, with nothing to run: no attribute has two rows.

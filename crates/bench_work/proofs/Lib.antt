@@ -1,4 +1,3 @@
 pub mod Sums
 pub mod Totals
-pub mod Singles
 pub mod Whole

@@ -2,6 +2,7 @@
 use Rattle.std.proofs.Common.{◌≡◌, ℕ, ◌+◌, ◌*◌, ◌%◌, ◌≤◌, ◌<◌, List, [], ◌∷◌, ◌++◌, length, map, take, get_or, zero, suc, sym, ap, ◌∙◌, refl, arith}
 use Rattle.std.proofs.Math.Nat.{mod-add-mod}
 use Rattle.std.proofs.lemmas.List.{take_all, take_more}
+use Rattle.exact_json.proofs.Values.{pairs_again}
 use Rattle.exact_json.specs.declared.value.Value.{Value}
 use Rattle.exact_json.specs.Tree.{Trees, no_trees, tree, Pairs, no_pairs, pair, list_of, members_of}
 use Rattle.exact_json.specs.View.{tree_of, trees_of, pairs_of, trees_from, pairs_from}
@@ -57,15 +58,11 @@ trees_back : (ts : Trees) → trees_from (list_of ts) ≡ ts
 trees_back no_trees = refl
 trees_back (tree t ts) = ap (λ us. tree t us) (trees_back ts)
 
-pairs_back : (ps : Pairs) → pairs_from (members_of ps) ≡ ps
-pairs_back no_pairs = refl
-pairs_back (pair k t ps) = ap (λ qs. pair k t qs) (pairs_back ps)
-
 pub same_trees : (ts : Trees) (vs : List Value) → list_of ts ≡ map tree_of vs → ts ≡ trees_of vs
 same_trees ts vs e = sym (trees_back ts) ∙ ap trees_from e
 
 pub same_pairs : (ps : Pairs) (vs : List (List ℕ × Value)) → members_of ps ≡ map (λ p. (p.0, tree_of p.1)) vs → ps ≡ pairs_of vs
-same_pairs ps vs e = sym (pairs_back ps) ∙ ap pairs_from e
+same_pairs ps vs e = sym (pairs_again ps) ∙ ap pairs_from e
 
 -- ---- one turn of a loop, and its end
 

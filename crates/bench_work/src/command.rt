@@ -15,117 +15,6 @@ use rtb_io::{ReadFault, Status, read_all, write_all};
 use rtb_num::{Failed, Sink, Source, Txt, is_number, whole};
 use std::alloc::Global;
 
-/// The longest input that is taken, in bytes.
-const MAX_INPUT: usize = 1_073_741_824;
-
-// The number, where it is at least 1.
-fn positive(number: Option<i32>) -> Option<u32>
-    ensures some { IfSome result (λ k. (number ≡ Some (pos k)) × (1 ≤ k) × (k ≤ 2147483647)) }
-    ensures none { result ≡ None → IfSome number (λ z. z ≤ℤ pos 0) }
-{
-    match number {
-        Some(n) => at_least_one(n),
-        None => None,
-    }
-}
-
-fn at_least_one(n: i32) -> Option<u32>
-    ensures some { IfSome result (λ k. (n ≡ pos k) × (1 ≤ k) × (k ≤ 2147483647)) }
-    ensures none { result ≡ None → n ≤ℤ pos 0 }
-{
-    if n <= 0 {
-        return None;
-    }
-    Some(n.unsigned_abs())
-}
-
-// How often a word says that the work is done.
-fn times_in(word: &[u8]) -> Option<u32>
-    ensures some { IfSome result (IsTimes word.now) }
-    ensures none { result ≡ None → (n : ℕ) → IsTimes word.now n → ⊥ }
-{
-    if !is_number(word) {
-        return None;
-    }
-    positive(whole(word))
-}
-
-// The number of times that the words `json N` name.
-fn command_in(words: &[Txt]) -> Option<u32>
-    ensures some { IfSome result (IsCommand words.now) }
-    ensures none { result ≡ None → (n : ℕ) → IsCommand words.now n → ⊥ }
-{
-    if words.len() != 2 {
-        return None;
-    }
-    if words[0].as_bytes() != b"json".as_slice() {
-        return None;
-    }
-    times_in(words[1].as_bytes())
-}
-
-// So many campaigns, where an index can have them.
-fn campaigns_in(word: &[u8]) -> Option<u32>
-    ensures some { IfSome result (λ n. IsTimes word.now n × (n ≤ 65536)) }
-    ensures none { result ≡ None → (n : ℕ) → IsTimes word.now n → n ≤ 65536 → ⊥ }
-{
-    match times_in(word) {
-        Some(n) if n <= 65536 => Some(n),
-        _ => None,
-    }
-}
-
-// The work that four words name.
-fn work_of(way: &[u8], profile: &[u8], campaigns: &[u8], impressions: &[u8]) -> Option<Work>
-    ensures some { IfSome result (AreWorkWords way.now profile.now campaigns.now impressions.now) }
-    ensures none { result ≡ None → (work : Work) → AreWorkWords way.now profile.now campaigns.now impressions.now work → ⊥ }
-{
-    let way = Way::named(way)?;
-    let profile = Profile::named(profile)?;
-    let campaigns = campaigns_in(campaigns)?;
-    let impressions = times_in(impressions)?;
-    Some(Work {
-        way,
-        profile,
-        campaigns,
-        impressions,
-    })
-}
-
-// The work that the words name.
-fn work_in(words: &[Txt]) -> Option<Work>
-    ensures some { IfSome result (IsWorkCommand words.now) }
-    ensures none { result ≡ None → (work : Work) → IsWorkCommand words.now work → ⊥ }
-{
-    match words {
-        [way, profile, campaigns, impressions] => work_of(
-            way.as_bytes(),
-            profile.as_bytes(),
-            campaigns.as_bytes(),
-            impressions.as_bytes(),
-        ),
-        _ => None,
-    }
-}
-
-// Writes the line for the work on an index.
-fn work_run<K: Sink>(alloc: Global, work: Work, sink: &mut K) -> Status
-    requires { work.campaigns ≤ 65536 }
-    ensures sent { result ≡ Done → (line : List ℕ) × IsWorkLine work line × Appends (K.written sink.old) (K.written sink.new) line }
-    ensures cut { result ≡ NotWritten → (line : List ℕ) × IsWorkLine work line × AppendsFront (K.written sink.old) (K.written sink.new) line }
-    ensures cause { RisesOnlyWhere (result ≡ NotWritten) (K.faults sink.old) (K.faults sink.new) }
-    ensures unsent { result ≡ Memory → sink.new ≡ sink.old }
-    ensures statuses { (result ≡ Done) ⊎ (result ≡ NotWritten) ⊎ (result ≡ Memory) }
-{
-    match work_line(alloc, work) {
-        Ok(answer) => match write_all(sink, answer.as_bytes()) {
-            Ok(()) => Status::Done,
-            Err(Failed) => Status::NotWritten,
-        },
-        Err(_) => Status::Memory,
-    }
-}
-
 /// Does the work that the words name, and writes the line of its answer. Work on JSON takes all that the
 /// source has; work on an index leaves it alone.
 ///
@@ -156,6 +45,103 @@ pub fn bench_run<S: Source, K: Sink>(
     }
 }
 
+// The work that the words name.
+fn work_in(words: &[Txt]) -> Option<Work>
+    ensures some { IfSome result (IsWorkCommand words.now) }
+    ensures none { result ≡ None → (work : Work) → IsWorkCommand words.now work → ⊥ }
+{
+    match words {
+        [way, profile, campaigns, impressions] => work_of(
+            way.as_bytes(),
+            profile.as_bytes(),
+            campaigns.as_bytes(),
+            impressions.as_bytes(),
+        ),
+        _ => None,
+    }
+}
+
+// The work that four words name.
+fn work_of(way: &[u8], profile: &[u8], campaigns: &[u8], impressions: &[u8]) -> Option<Work>
+    ensures some { IfSome result (AreWorkWords way.now profile.now campaigns.now impressions.now) }
+    ensures none { result ≡ None → (work : Work) → AreWorkWords way.now profile.now campaigns.now impressions.now work → ⊥ }
+{
+    let way = Way::from_word(way)?;
+    let profile = Profile::from_word(profile)?;
+    let campaigns = campaigns_in(campaigns)?;
+    let impressions = times_in(impressions)?;
+    Some(Work {
+        way,
+        profile,
+        campaigns,
+        impressions,
+    })
+}
+
+// So many campaigns, where an index can have them.
+fn campaigns_in(word: &[u8]) -> Option<u32>
+    ensures some { IfSome result (λ n. IsTimes word.now n × (n ≤ 65536)) }
+    ensures none { result ≡ None → (n : ℕ) → IsTimes word.now n → n ≤ 65536 → ⊥ }
+{
+    match times_in(word) {
+        Some(n) if n <= 65536 => Some(n),
+        _ => None,
+    }
+}
+
+// How often a word says that the work is done.
+fn times_in(word: &[u8]) -> Option<u32>
+    ensures some { IfSome result (IsTimes word.now) }
+    ensures none { result ≡ None → (n : ℕ) → IsTimes word.now n → ⊥ }
+{
+    if !is_number(word) {
+        return None;
+    }
+    positive(whole(word))
+}
+
+// The number, where it is at least 1.
+fn positive(number: Option<i32>) -> Option<u32>
+    ensures some { IfSome result (λ k. (number ≡ Some (pos k)) × (1 ≤ k) × (k ≤ 2147483647)) }
+    ensures none { result ≡ None → IfSome number (λ z. z ≤ℤ pos 0) }
+{
+    match number {
+        Some(n) => at_least_one(n),
+        None => None,
+    }
+}
+
+fn at_least_one(n: i32) -> Option<u32>
+    ensures some { IfSome result (λ k. (n ≡ pos k) × (1 ≤ k) × (k ≤ 2147483647)) }
+    ensures none { result ≡ None → n ≤ℤ pos 0 }
+{
+    if n <= 0 {
+        return None;
+    }
+    Some(n.unsigned_abs())
+}
+
+// Writes the line for the work on an index.
+fn work_run<K: Sink>(alloc: Global, work: Work, sink: &mut K) -> Status
+    requires { work.campaigns ≤ 65536 }
+    ensures sent { result ≡ Done → (line : List ℕ) × IsWorkLine work line × Appends (K.written sink.old) (K.written sink.new) line }
+    ensures cut { result ≡ NotWritten → (line : List ℕ) × IsWorkLine work line × AppendsFront (K.written sink.old) (K.written sink.new) line }
+    ensures cause { RisesOnlyWhere (result ≡ NotWritten) (K.faults sink.old) (K.faults sink.new) }
+    ensures unsent { result ≡ Memory → sink.new ≡ sink.old }
+    ensures statuses { (result ≡ Done) ⊎ (result ≡ NotWritten) ⊎ (result ≡ Memory) }
+{
+    match work_line(alloc, work) {
+        Ok(answer) => match write_all(sink, answer.as_bytes()) {
+            Ok(()) => Status::Done,
+            Err(Failed) => Status::NotWritten,
+        },
+        Err(_) => Status::Memory,
+    }
+}
+
+/// The longest input that is taken, in bytes.
+const MAX_INPUT: usize = 1_073_741_824;
+
 // Does the work on JSON that the words name.
 fn json_run<S: Source, K: Sink>(
     alloc: Global,
@@ -182,6 +168,20 @@ fn json_run<S: Source, K: Sink>(
             Err(ReadFault::Memory) => Status::Memory,
         },
     }
+}
+
+// The number of times that the words `json N` name.
+fn command_in(words: &[Txt]) -> Option<u32>
+    ensures some { IfSome result (IsCommand words.now) }
+    ensures none { result ≡ None → (n : ℕ) → IsCommand words.now n → ⊥ }
+{
+    if words.len() != 2 {
+        return None;
+    }
+    if words[0].as_bytes() != b"json".as_slice() {
+        return None;
+    }
+    times_in(words[1].as_bytes())
 }
 
 // Writes the line for the bytes.

@@ -26,6 +26,21 @@ impl Counts {
     }
 }
 
+/// What is counted with the value and all that is in it.
+#[cycle(counting)]
+pub(crate) fn with_tree(counts: Counts, value: &Value) -> Counts
+    ensures values { result.values ≡ (counts.values + values_in (tree_of value.now)) % 2 ^ 64 }
+    ensures bytes { result.bytes ≡ (counts.bytes + bytes_in (tree_of value.now)) % 2 ^ 64 }
+{
+    let counts = with_value(counts);
+    match value {
+        Value::Str(text) => with_text(counts, text),
+        Value::Arr(items) => with_items(counts, items),
+        Value::Obj(members) => with_members(counts, members),
+        _ => counts,
+    }
+}
+
 // One value more.
 fn with_value(counts: Counts) -> Counts
     ensures values { result.values ≡ (counts.values + 1) % 2 ^ 64 }
@@ -45,21 +60,6 @@ fn with_text(counts: Counts, text: &Txt) -> Counts
     Counts {
         values: counts.values,
         bytes: counts.bytes.wrapping_add(text.len() as u64),
-    }
-}
-
-/// What is counted with the value and all that is in it.
-#[cycle(counting)]
-pub(crate) fn with_tree(counts: Counts, value: &Value) -> Counts
-    ensures values { result.values ≡ (counts.values + values_in (tree_of value.now)) % 2 ^ 64 }
-    ensures bytes { result.bytes ≡ (counts.bytes + bytes_in (tree_of value.now)) % 2 ^ 64 }
-{
-    let counts = with_value(counts);
-    match value {
-        Value::Str(text) => with_text(counts, text),
-        Value::Arr(items) => with_items(counts, items),
-        Value::Obj(members) => with_members(counts, members),
-        _ => counts,
     }
 }
 

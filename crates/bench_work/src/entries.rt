@@ -25,31 +25,18 @@ impl Lists {
     }
 }
 
-// The lists of these keys in the part of this size, and of size 0 the zero list.
-fn lists_of(part: &Part, size: usize, looked: &[Key]) -> Lists {
-    let mut lists = Lists {
-        lists: 0,
-        entries: 0,
-    };
-    for key in looked {
-        if let Some(place) = part.keys.get_index_of(key) {
-            lists = lists.with(part, place);
-        }
+/// How many entries are read to find the campaigns for all these.
+pub(crate) fn entries(
+    alloc: Global,
+    index: &Index,
+    asked: &[Assignment],
+) -> Result<u64, AllocError> {
+    let mut all: u64 = 0;
+    for assignment in asked {
+        let looked = keys_of(alloc, assignment.pairs())?;
+        all = all.saturating_add(entries_for(index, looked.as_slice()));
     }
-    if size == 0 {
-        lists = lists.with(part, part.keys.len());
-    }
-    lists
-}
-
-// The entries that a find reads in the part: those of its lists, where these are enough for its size.
-fn entries_in(part: &Part, size: usize, looked: &[Key]) -> u64 {
-    let lists = lists_of(part, size, looked);
-    if lists.lists < size.max(1) {
-        0
-    } else {
-        lists.entries
-    }
+    Ok(all)
 }
 
 fn keys_of(alloc: Global, pairs: &[(Attr, Txt)]) -> Result<Vec<Key>, AllocError> {
@@ -74,18 +61,31 @@ fn entries_for(index: &Index, looked: &[Key]) -> u64 {
     entries
 }
 
-/// How many entries are read to find the campaigns for all these.
-pub(crate) fn entries(
-    alloc: Global,
-    index: &Index,
-    asked: &[Assignment],
-) -> Result<u64, AllocError> {
-    let mut all: u64 = 0;
-    for assignment in asked {
-        let looked = keys_of(alloc, assignment.pairs())?;
-        all = all.saturating_add(entries_for(index, looked.as_slice()));
+// The entries that a find reads in the part: those of its lists, where these are enough for its size.
+fn entries_in(part: &Part, size: usize, looked: &[Key]) -> u64 {
+    let lists = lists_of(part, size, looked);
+    if lists.lists < size.max(1) {
+        0
+    } else {
+        lists.entries
     }
-    Ok(all)
+}
+
+// The lists of these keys in the part of this size, and of size 0 the zero list.
+fn lists_of(part: &Part, size: usize, looked: &[Key]) -> Lists {
+    let mut lists = Lists {
+        lists: 0,
+        entries: 0,
+    };
+    for key in looked {
+        if let Some(place) = part.keys.get_index_of(key) {
+            lists = lists.with(part, place);
+        }
+    }
+    if size == 0 {
+        lists = lists.with(part, part.keys.len());
+    }
+    lists
 }
 
 /// `entries=E` and a line feed.

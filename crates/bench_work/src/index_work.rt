@@ -71,7 +71,7 @@ fn with_number(check: u64, number: u32) -> u64
 }
 
 /// The index of the campaigns.
-pub(crate) fn indexed<L: Ledger>(
+pub(crate) fn index_of<L: Ledger>(
     alloc: Global,
     campaigns: &[(u32, Expr)],
     steps: &mut Steps<L>,
@@ -105,7 +105,7 @@ fn with_all<L: Ledger>(
 }
 
 /// What is found through the index.
-pub(crate) fn found<L: Ledger>(
+pub(crate) fn find_all<L: Ledger>(
     alloc: Global,
     index: &Index,
     asked: &[Assignment],
@@ -122,7 +122,7 @@ pub(crate) fn found<L: Ledger>(
 }
 
 /// What is found by asking each campaign.
-pub(crate) fn scanned<L: Ledger>(
+pub(crate) fn scan_all<L: Ledger>(
     alloc: Global,
     campaigns: &[(u32, Expr)],
     asked: &[Assignment],

@@ -12,16 +12,14 @@ use exact_json::{JsonFault, read};
 use rtb_num::{Txt, write_decimal};
 use std::alloc::{AllocError, Global};
 
-// Reads the bytes once, and counts what they say.
-fn with_reading(alloc: Global, bytes: &[u8], counts: Counts) -> Result<Counts, JsonFault>
-    ensures text { IfOk result (λ _. (t : Tree) × IsText t bytes.now) }
-    ensures values { (t : Tree) → IsText t bytes.now → IfOk result (λ r. r.values ≡ (counts.values + values_in t) % 2 ^ 64) }
-    ensures bytes { (t : Tree) → IsText t bytes.now → IfOk result (λ r. r.bytes ≡ (counts.bytes + bytes_in t) % 2 ^ 64) }
-    ensures fault { IfErr result (Explains bytes.now) }
+/// The line for the bytes, read so many times.
+pub(crate) fn json_line(alloc: Global, bytes: &[u8], times: u32) -> Result<Txt, AllocError>
+    requires { 1 ≤ times }
+    ensures { IfOk result (IsLine times bytes.now) }
 {
-    match read(alloc, bytes) {
-        Ok(doc) => Ok(with_tree(counts, doc.root())),
-        Err(fault) => Err(fault),
+    match with_readings(alloc, bytes, times) {
+        Ok(counts) => line_of_counts(alloc, counts),
+        Err(fault) => line_of_fault(alloc, last_fault(alloc, bytes, times, fault)),
     }
 }
 
@@ -40,27 +38,17 @@ fn with_readings(alloc: Global, bytes: &[u8], times: u32) -> Result<Counts, Json
     Ok(counts)
 }
 
-// The fault of one reading more.
-fn fault_after(alloc: Global, bytes: &[u8], fault: JsonFault) -> JsonFault
-    requires { Explains bytes.now fault }
-    ensures { Explains bytes.now result }
+// Reads the bytes once, and counts what they say.
+fn with_reading(alloc: Global, bytes: &[u8], counts: Counts) -> Result<Counts, JsonFault>
+    ensures text { IfOk result (λ _. (t : Tree) × IsText t bytes.now) }
+    ensures values { (t : Tree) → IsText t bytes.now → IfOk result (λ r. r.values ≡ (counts.values + values_in t) % 2 ^ 64) }
+    ensures bytes { (t : Tree) → IsText t bytes.now → IfOk result (λ r. r.bytes ≡ (counts.bytes + bytes_in t) % 2 ^ 64) }
+    ensures fault { IfErr result (Explains bytes.now) }
 {
     match read(alloc, bytes) {
-        Ok(_doc) => fault,
-        Err(fault) => fault,
+        Ok(doc) => Ok(with_tree(counts, doc.root())),
+        Err(fault) => Err(fault),
     }
-}
-
-// Reads bytes that are no text so many times in all, where one reading gave this fault.
-fn last_fault(alloc: Global, bytes: &[u8], times: u32, fault: JsonFault) -> JsonFault
-    requires { Explains bytes.now fault }
-    ensures { Explains bytes.now result }
-{
-    let mut last = fault;
-    for _ in 1..times {
-        last = fault_after(alloc, bytes, last);
-    }
-    last
 }
 
 // `values=V bytes=B` and a line feed.
@@ -72,6 +60,23 @@ fn line_of_counts(alloc: Global, counts: Counts) -> Result<Txt, AllocError>
     write_decimal(counts.values, &mut line)?;
     line.extend(b" bytes=")?;
     write_decimal(counts.bytes, &mut line)?;
+    line.extend(b"\n")?;
+    Ok(line)
+}
+
+// `fault=KIND at=PLACE` and a line feed.
+fn line_of_fault(alloc: Global, fault: JsonFault) -> Result<Txt, AllocError>
+    ensures line { IfOk result (λ l. l ≡ fault_line fault) }
+    ensures memory { OnOk result (fault ≢ json_fault.Memory) }
+{
+    if fault == JsonFault::Memory {
+        return Err(AllocError);
+    }
+    let mut line = Txt::new(alloc);
+    line.extend(b"fault=")?;
+    line.extend(kind_name(fault))?;
+    line.extend(b" at=")?;
+    write_decimal(place_of(fault) as u64, &mut line)?;
     line.extend(b"\n")?;
     Ok(line)
 }
@@ -100,30 +105,25 @@ fn place_of(fault: JsonFault) -> usize
     }
 }
 
-// `fault=KIND at=PLACE` and a line feed.
-fn line_of_fault(alloc: Global, fault: JsonFault) -> Result<Txt, AllocError>
-    ensures line { IfOk result (λ l. l ≡ fault_line fault) }
-    ensures memory { OnOk result (fault ≢ json_fault.Memory) }
+// Reads bytes that are no text so many times in all, where one reading gave this fault.
+fn last_fault(alloc: Global, bytes: &[u8], times: u32, fault: JsonFault) -> JsonFault
+    requires { Explains bytes.now fault }
+    ensures { Explains bytes.now result }
 {
-    if fault == JsonFault::Memory {
-        return Err(AllocError);
+    let mut last = fault;
+    for _ in 1..times {
+        last = fault_after(alloc, bytes, last);
     }
-    let mut line = Txt::new(alloc);
-    line.extend(b"fault=")?;
-    line.extend(kind_name(fault))?;
-    line.extend(b" at=")?;
-    write_decimal(place_of(fault) as u64, &mut line)?;
-    line.extend(b"\n")?;
-    Ok(line)
+    last
 }
 
-/// The line for the bytes, read so many times.
-pub(crate) fn json_line(alloc: Global, bytes: &[u8], times: u32) -> Result<Txt, AllocError>
-    requires { 1 ≤ times }
-    ensures { IfOk result (IsLine times bytes.now) }
+// The fault of one reading more.
+fn fault_after(alloc: Global, bytes: &[u8], fault: JsonFault) -> JsonFault
+    requires { Explains bytes.now fault }
+    ensures { Explains bytes.now result }
 {
-    match with_readings(alloc, bytes, times) {
-        Ok(counts) => line_of_counts(alloc, counts),
-        Err(fault) => line_of_fault(alloc, last_fault(alloc, bytes, times, fault)),
+    match read(alloc, bytes) {
+        Ok(_doc) => fault,
+        Err(fault) => fault,
     }
 }

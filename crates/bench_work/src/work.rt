@@ -40,7 +40,7 @@ impl Way {
     }
 
     /// The way that the word names.
-    pub(crate) fn named(word: &[u8]) -> Option<Way>
+    pub(crate) fn from_word(word: &[u8]) -> Option<Way>
         ensures { result ≡ way_named word.now }
     {
         WAYS.iter().copied().find(|way| way.word() == word)
@@ -60,7 +60,7 @@ impl Profile {
     }
 
     /// The profile that the word names.
-    pub(crate) fn named(word: &[u8]) -> Option<Profile>
+    pub(crate) fn from_word(word: &[u8]) -> Option<Profile>
         ensures { result ≡ profile_named word.now }
     {
         PROFILES

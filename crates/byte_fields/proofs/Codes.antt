@@ -1,6 +1,7 @@
 -- Laws of what begins at a place, and of codes.
 use Rattle.std.proofs.Common.{◌≡◌, ℕ, ◌+◌, ◌<◌, ◌≤◌, List, [], ◌∷◌, ◌++◌, length, drop, Option, Some, None, Bool, true, false, refl, sym, ap, subst, ◌∙◌, arith, append_assoc, length-append, length-drop}
 use Rattle.std.proofs.lemmas.List.{drop-drop, drop_at}
+use Rattle.rtb_num.proofs.Plain.{heads, tails, both_same}
 use Rattle.byte_fields.specs.Codes.{BeginsAt, IsReadAt, IsCode, BothValid, both_bytes}
 use Rattle.byte_fields.specs.Encodings.{IsOptionOf, option_bytes, IsByte, byte_bytes, IsFlag, flag_bytes}
 
@@ -51,9 +52,6 @@ begins_put front word back =
     let whole : drop (length front) ((front ++ word) ++ back) ≡ word ++ back =
     ap (drop (length front)) (append_assoc front word back) ∙ drop_at front (word ++ back) (length front) refl in
     begins_from ((front ++ word) ++ back) word back (length front) whole (omega (arith, length-append (front ++ word) back, length-append front word))
-
-both_same : {A B : Type 0} (x x' : A) (y y' : B) → x ≡ x' → y ≡ y' → ◌≡◌ {A = A × B} (x, y) (x', y')
-both_same x x' y y' e f = cc
 
 pub same_pair : {A B : Type 0} (p q : A × B) → p.0 ≡ q.0 → p.1 ≡ q.1 → p ≡ q
 same_pair p q e f = both_same p.0 q.0 p.1 q.1 e f
@@ -118,12 +116,6 @@ module _ {A B : Type 0} (V : A → Type 0) (e : A → List ℕ) (W : B → Type 
         let same = code.unique (from y) (from z) s t (back y v) (back z w) (ap (λ l. l ++ s) (sym (again y v)) ∙ h ∙ ap (λ l. l ++ t) (again z w)) in
         (apart y z v w same.0, same.1);
   }
-
-heads : (c d : ℕ) (s t : List ℕ) → c ∷ s ≡ d ∷ t → c ≡ d
-heads c d s t e = cc
-
-tails : (c d : ℕ) (s t : List ℕ) → c ∷ s ≡ d ∷ t → s ≡ t
-tails c d s t e = cc
 
 zero_is_not_one : {P : Type 0} (s t : List ℕ) → 0 ∷ s ≡ 1 ∷ t → P
 zero_is_not_one s t e = absurd (omega (arith, heads 0 1 s t e))

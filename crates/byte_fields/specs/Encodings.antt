@@ -1,7 +1,7 @@
 -- The bytes of numbers, flags, texts, options and lists. Numbers have their greatest place first.
 -- An `Is..` or `Fits..` beside each says what has such bytes: numbers in their range, lists whose
 -- length fits four bytes.
-use Rattle.std.specs.Prelude.{ℕ, ◌<◌, ◌≤◌, ◌^◌, List, [], ◌∷◌, ◌++◌, length, Bool, cond, Option, Some, None, MatchOption, All}
+use Rattle.std.specs.Prelude.{ℕ, ◌<◌, ◌≤◌, ◌^◌, List, [], ◌∷◌, ◌++◌, length, Bool, if◌then◌else◌, Option, Some, None, MatchOption, All}
 use Rattle.std.specs.List.{flat_map}
 use Rattle.std.specs.Int.{w32, w64, to_be_bytes}
 use Rattle.byte_fields.specs.Codes.{BeginsAt}
@@ -31,7 +31,7 @@ abbrev pub IsFlag : Bool → Type 0
 IsFlag b = Unit {0}
 
 abbrev pub flag_bytes : Bool → List ℕ
-flag_bytes b = cond b 1 0 ∷ []
+flag_bytes b = (if b then 1 else 0) ∷ []
 
 -- a text: its length in four bytes, and then itself
 abbrev pub IsShort : List ℕ → Type 0

@@ -39,10 +39,7 @@ pub fn put_list<E: Element>(items: &[E::Item], out: &mut Txt) -> Result<(), Allo
 {
     let before = out.len();
     let done = append_list::<E>(items, out);
-    if done.is_err() {
-        out.truncate(before);
-    }
-    done
+    out.settle(before, done)
 }
 
 /// The list of at most `most` items at the place, and the place behind it; none where no whole list of

@@ -34,10 +34,7 @@ pub fn put_text(text: &[u8], out: &mut Txt) -> Result<(), AllocError>
 {
     let before = out.len();
     let done = append_text(text, out);
-    if done.is_err() {
-        out.truncate(before);
-    }
-    done
+    out.settle(before, done)
 }
 
 /// Appends a list of texts: how many there are in four bytes, and then each.

@@ -11,7 +11,7 @@ use Rattle.byte_fields.proofs.Rows.{within_code, text_code}
 use Rattle.campaign.specs.declared.parts.FactParts.{FactParts}
 use Rattle.campaign.specs.declared.parts.FactFault.{FactFault}
 use Rattle.campaign.specs.Encoding.{facts_bytes, int_bytes, sides_bytes}
-use Rattle.campaign.specs.Faults.{checked, fact_faults}
+use Rattle.campaign.specs.Faults.{ok_unless, fact_faults}
 use Rattle.campaign.specs.Groups.{AreGroups, AreInts, AreNames, AreSides, AreTexts, Groups, IsCreative, IsLook, IsLoose, IsMicros, IsMoney, IsNanos, IsWhole, creative_bytes, groups_bytes, groups_of, look_bytes, money_bytes, names_bytes, parts_from}
 use Rattle.campaign.specs.Kept.{IsEncodable, IsInRange, IsKept, size_of, without_cap}
 use Rattle.campaign.proofs.Rules.{encodable, loose}
@@ -152,17 +152,17 @@ encodable_none bytes place none = λ p m k a. none p m (loose p k) a
 pub refused : (bytes : List ℕ) (place : ℕ) (p : FactParts) (n : ℕ) → IsReadAt IsLoose facts_bytes bytes place (Some (p, n)) → (IsKept p → ⊥) → IsReadAt IsEncodable facts_bytes bytes place None
 refused bytes place p n r wrong = read_narrow IsLoose facts_bytes loose_code IsEncodable loose bytes place p n r (λ e. wrong e.kept)
 
-pub faulty : (p : FactParts) (f : FactFault) → checked (fact_faults p) p ≡ Err f → IsKept p → ⊥
-faulty p f e kept = apart (ap (λ fs. checked {A = FactParts} fs p) (sym kept.faultless) ∙ e)
+pub faulty : (p : FactParts) (f : FactFault) → ok_unless (fact_faults p) p ≡ Err f → IsKept p → ⊥
+faulty p f e kept = apart (ap (λ fs. ok_unless {A = FactParts} fs p) (sym kept.faultless) ∙ e)
   where
     apart : {A E : Type 0} {x : A} {y : E} → ◌≡◌ {A = Result A E} (Ok x) (Err y) → ⊥
     apart h = cc
 
-checked_ok : {A E : Type 0} (fs : List E) (x y : A) → checked fs x ≡ Ok y → (fs ≡ []) × (y ≡ x)
+checked_ok : {A E : Type 0} (fs : List E) (x y : A) → ok_unless fs x ≡ Ok y → (fs ≡ []) × (y ≡ x)
 checked_ok [] x y e = (refl, cc)
 checked_ok (f ∷ fs) x y e = cc
 
-encodable_from : (p q : FactParts) → IsLoose p → p.budget % 1000 ≡ 0 → checked (fact_faults p) p ≡ Ok q → IsEncodable q
+encodable_from : (p q : FactParts) → IsLoose p → p.budget % 1000 ≡ 0 → ok_unless (fact_faults p) p ≡ Ok q → IsEncodable q
 encodable_from p q l whole e =
     let ok = checked_ok (fact_faults p) p q e in
     let range : IsInRange p = record {
@@ -172,7 +172,7 @@ encodable_from p q l whole e =
     } in
     subst IsEncodable (sym ok.1) record { kept = record { faultless = ok.0; whole_micros = whole; in_range = range }; uncapped = l.uncapped }
 
-pub facts_read : (bytes : List ℕ) (place : ℕ) (p q : FactParts) (n : ℕ) → IsReadAt IsLoose facts_bytes bytes place (Some (p, n)) → p.budget % 1000 ≡ 0 → checked (fact_faults p) p ≡ Ok q → IsReadAt IsEncodable facts_bytes bytes place (Some (q, n))
+pub facts_read : (bytes : List ℕ) (place : ℕ) (p q : FactParts) (n : ℕ) → IsReadAt IsLoose facts_bytes bytes place (Some (p, n)) → p.budget % 1000 ≡ 0 → ok_unless (fact_faults p) p ≡ Ok q → IsReadAt IsEncodable facts_bytes bytes place (Some (q, n))
 facts_read bytes place p q n r whole e =
     let ok = checked_ok (fact_faults p) p q e in
     (encodable_from p q r.0 whole e, begins_as bytes (facts_bytes p) (facts_bytes q) place n n (ap facts_bytes (sym ok.1)) refl r.1)

@@ -11,7 +11,7 @@ use Rattle.campaign.specs.declared.parts.FactParts.{FactParts}
 use Rattle.campaign.specs.declared.parts.FactFault.{FactFault}
 use Rattle.campaign.specs.declared.parts.FactFault.TheVariants.{TextLength, ListLength}
 use Rattle.campaign.specs.Kept.{IsInRange}
-use Rattle.campaign.specs.Faults.{attr_faults, checked, fault_unless, is_list, is_text, texts_faults}
+use Rattle.campaign.specs.Faults.{attr_faults, ok_unless, fault_unless, is_list, is_text, texts_faults}
 
 pub first_or : {A : Type 0} (xs ys : List A) → slice_get (xs ++ ys) 0 ≡ option_or (slice_get xs 0) (slice_get ys 0)
 first_or [] ys = refl
@@ -21,11 +21,11 @@ pub no_first : {A : Type 0} (xs : List A) → slice_get xs 0 ≡ None → xs ≡
 no_first [] e = refl
 no_first (x ∷ xs) e = cc
 
-pub checked_right : {A E : Type 0} (xs : List E) (v : A) → slice_get xs 0 ≡ None → checked xs v ≡ Ok v
+pub checked_right : {A E : Type 0} (xs : List E) (v : A) → slice_get xs 0 ≡ None → ok_unless xs v ≡ Ok v
 checked_right [] v e = refl
 checked_right (x ∷ xs) v e = cc
 
-pub checked_fault : {A E : Type 0} (xs : List E) (v : A) (f : E) → slice_get xs 0 ≡ Some f → checked xs v ≡ Err f
+pub checked_fault : {A E : Type 0} (xs : List E) (v : A) (f : E) → slice_get xs 0 ≡ Some f → ok_unless xs v ≡ Err f
 checked_fault [] v f e = cc
 checked_fault (x ∷ xs) v f e = cc
 

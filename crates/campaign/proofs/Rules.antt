@@ -6,18 +6,15 @@ use Rattle.std.specs.Int.{w32}
 use Rattle.std.proofs.lemmas.Bool.Decides.{nat_tests}
 use Rattle.std.proofs.lemmas.Int.{ints}
 use Rattle.std.proofs.lemmas.List.Elements.{All-nil, All-cons, All-weaker}
+use Rattle.rtb_num.proofs.Plain.{both_nil}
 use Rattle.byte_fields.specs.Encodings.{IsShort, IsOptionOf, IsListWithin}
 use Rattle.campaign.specs.declared.parts.FactParts.{FactParts}
 use Rattle.campaign.specs.declared.parts.FactFault.{FactFault}
 use Rattle.campaign.specs.declared.field.CampField.{CampField}
 use Rattle.campaign.specs.Faults.{fault_unless, is_text, text_faults, is_list, texts_faults, is_side, is_size, attr_faults, fact_faults}
-use Rattle.campaign.specs.Groups.{IsWhole, AreSides, AreNames, IsLook, IsMoney, IsCreative, AreGroups, Creative, Names, groups_of, joined, names_of, look_of, money_of, creative_of, IsLoose}
+use Rattle.campaign.specs.Groups.{IsWhole, AreSides, AreNames, IsLook, IsMoney, IsCreative, AreGroups, Creative, Names, groups_of, join, names_of, look_of, money_of, creative_of, IsLoose}
 use Rattle.campaign.specs.Caps.{CapTerms}
 use Rattle.campaign.specs.Kept.{IsKept, IsEncodable, with_cap, without_cap}
-
-pub both_nil : {A : Type 0} (xs ys : List A) → xs ++ ys ≡ [] → (xs ≡ []) × (ys ≡ [])
-both_nil [] ys e = (refl, e)
-both_nil (x ∷ xs) ys e = (cc, cc)
 
 unless_right : (b : Bool) (f : FactFault) → fault_unless b f ≡ [] → b ≡ true
 unless_right true f e = refl
@@ -182,5 +179,5 @@ optional_size None a = omega arith
 optional_size (Some t) a = let h : length t ≤ 255 = a 0 t (omega arith) in omega arith
 
 -- parts with equal names, lists and creative are the same
-pub joined_same : (p : FactParts) (names : Names) (attr : List ℤ) (deals : List (List ℕ)) (creative : Creative) → names ≡ names_of p → attr ≡ p.attr → deals ≡ p.deals → creative ≡ creative_of p → joined p names attr deals creative ≡ p
-joined_same p names attr deals creative e f g h = λ i. joined p (e i) (f i) (g i) (h i)
+pub joined_same : (p : FactParts) (names : Names) (attr : List ℤ) (deals : List (List ℕ)) (creative : Creative) → names ≡ names_of p → attr ≡ p.attr → deals ≡ p.deals → creative ≡ creative_of p → join p names attr deals creative ≡ p
+joined_same p names attr deals creative e f g h = λ i. join p (e i) (f i) (g i) (h i)

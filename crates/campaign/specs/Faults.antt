@@ -1,5 +1,5 @@
 -- The faults of what an advertiser states of a campaign, in the order of its fields.
-use Rattle.std.specs.Prelude.{ℕ, nat_le, ◌&&◌, List, [], ◌∷◌, ◌++◌, length, Bool, true, false, cond, Option, Some, None, Result, Ok, Err, ℤ, pos, int_le}
+use Rattle.std.specs.Prelude.{ℕ, nat_le, ◌&&◌, List, [], ◌∷◌, ◌++◌, length, Bool, true, false, if◌then◌else◌, Option, Some, None, Result, Ok, Err, ℤ, pos, int_le}
 use Rattle.std.specs.Option.{option_to_list}
 use Rattle.std.specs.List.{flat_map, enumerate_from}
 use Rattle.campaign.specs.declared.field.CampField.{CampField}
@@ -9,7 +9,7 @@ use Rattle.campaign.specs.declared.parts.FactFault.{FactFault}
 use Rattle.campaign.specs.declared.parts.FactFault.TheVariants.{TextLength, ListLength, BidZero, Size}
 
 abbrev pub fault_unless : Bool → FactFault → List FactFault
-fault_unless right fault = cond right [] (fault ∷ [])
+fault_unless right fault = if right then [] else fault ∷ []
 
 -- 1 to 255 bytes
 abbrev pub is_text : List ℕ → Bool
@@ -56,6 +56,6 @@ fact_faults p = text_faults Seat p.seat
     ++ flat_map (text_faults Adid) (option_to_list p.adid)
 
 -- the first of the faults, or the value where there is none
-abbrev pub checked : {A E : Type 0} → List E → A → Result A E
-checked [] x = Ok x
-checked (e ∷ es) x = Err e
+abbrev pub ok_unless : {A E : Type 0} → List E → A → Result A E
+ok_unless [] x = Ok x
+ok_unless (e ∷ es) x = Err e

@@ -113,8 +113,8 @@ parts_from (((((seat, adomain), cat), ((size, attr), secure)), ((bid, deals), bu
 }
 
 -- the parts with these names, lists and creative in place of their own
-abbrev pub joined : FactParts → Names → List ℤ → List (List ℕ) → Creative → FactParts
-joined p names attr deals creative = record p {
+abbrev pub join : FactParts → Names → List ℤ → List (List ℕ) → Creative → FactParts
+join p names attr deals creative = record p {
   seat = names.0.0;
   adomain = names.0.1;
   cat = names.1;

@@ -30,13 +30,6 @@ pub(crate) fn first_fault(parts: &FactParts) -> Option<FactFault>
         .or(adid_fault(&parts.adid))
 }
 
-// Whether it has 1 to 255 bytes.
-fn is_text(text: &Txt) -> bool
-    ensures { result ≡ is_text text.now }
-{
-    1 <= text.len() && text.len() <= LONGEST_TEXT
-}
-
 fn text_fault(field: CampField, text: &Txt) -> Option<FactFault>
     ensures { result ≡ slice_get (text_faults field text.now) 0 }
 {
@@ -45,6 +38,27 @@ fn text_fault(field: CampField, text: &Txt) -> Option<FactFault>
     } else {
         Some(FactFault::TextLength { field })
     }
+}
+
+// Whether it has 1 to 255 bytes.
+fn is_text(text: &Txt) -> bool
+    ensures { result ≡ is_text text.now }
+{
+    1 <= text.len() && text.len() <= LONGEST_TEXT
+}
+
+fn cat_fault(cat: &[Txt]) -> Option<FactFault>
+    ensures { result ≡ slice_get (texts_faults Cat CatItem cat.now) 0 }
+{
+    if !is_few(cat.len()) {
+        return Some(FactFault::ListLength {
+            field: CampField::Cat,
+        });
+    }
+    let place = first_misfit(cat)?;
+    Some(FactFault::TextLength {
+        field: CampField::CatItem(place),
+    })
 }
 
 // Whether a list may have so many items.
@@ -61,41 +75,6 @@ fn first_misfit(texts: &[Txt]) -> Option<usize>
     texts.iter().position(|text| !is_text(text))
 }
 
-fn cat_fault(cat: &[Txt]) -> Option<FactFault>
-    ensures { result ≡ slice_get (texts_faults Cat CatItem cat.now) 0 }
-{
-    if !is_few(cat.len()) {
-        return Some(FactFault::ListLength {
-            field: CampField::Cat,
-        });
-    }
-    let at = first_misfit(cat)?;
-    Some(FactFault::TextLength {
-        field: CampField::CatItem(at),
-    })
-}
-
-fn deals_fault(deals: &[Txt]) -> Option<FactFault>
-    ensures { result ≡ slice_get (texts_faults Deals DealsItem deals.now) 0 }
-{
-    if !is_few(deals.len()) {
-        return Some(FactFault::ListLength {
-            field: CampField::Deals,
-        });
-    }
-    let at = first_misfit(deals)?;
-    Some(FactFault::TextLength {
-        field: CampField::DealsItem(at),
-    })
-}
-
-// Whether it has 1 to 32767 pixels.
-fn is_side(pixels: i32) -> bool
-    ensures { result ≡ is_side pixels }
-{
-    1 <= pixels && pixels <= LONGEST_SIDE
-}
-
 fn size_fault(w: Option<i32>, h: Option<i32>) -> Option<FactFault>
     ensures { result ≡ slice_get (fault_unless (is_size w h) FactFault.Size) 0 }
 {
@@ -107,17 +86,11 @@ fn size_fault(w: Option<i32>, h: Option<i32>) -> Option<FactFault>
     if is_size { None } else { Some(FactFault::Size) }
 }
 
-// The place of the first negative number.
-fn first_negative(ints: &[i32]) -> Option<usize>
-    ensures place { result ≡ position (λ z. not (int_le (pos 0) z)) ints.now }
-    ensures range { IfNone result (All (FitsSigned w32) ints.now) }
+// Whether it has 1 to 32767 pixels.
+fn is_side(pixels: i32) -> bool
+    ensures { result ≡ is_side pixels }
 {
-    for (at, n) in ints.iter().enumerate() {
-        if *n < 0 {
-            return Some(at);
-        }
-    }
-    None
+    1 <= pixels && pixels <= LONGEST_SIDE
 }
 
 fn attr_fault(attr: &[i32]) -> Option<FactFault>
@@ -129,10 +102,23 @@ fn attr_fault(attr: &[i32]) -> Option<FactFault>
             field: CampField::Attr,
         });
     }
-    let at = first_negative(attr)?;
+    let place = first_negative(attr)?;
     Some(FactFault::ListLength {
-        field: CampField::AttrItem(at),
+        field: CampField::AttrItem(place),
     })
+}
+
+// The place of the first negative number.
+fn first_negative(ints: &[i32]) -> Option<usize>
+    ensures place { result ≡ position (λ z. not (int_le (pos 0) z)) ints.now }
+    ensures range { IfNone result (All (FitsSigned w32) ints.now) }
+{
+    for (place, n) in ints.iter().enumerate() {
+        if *n < 0 {
+            return Some(place);
+        }
+    }
+    None
 }
 
 fn bid_fault(bid: Micros) -> Option<FactFault>
@@ -144,6 +130,20 @@ fn bid_fault(bid: Micros) -> Option<FactFault>
     } else {
         Some(FactFault::BidZero)
     }
+}
+
+fn deals_fault(deals: &[Txt]) -> Option<FactFault>
+    ensures { result ≡ slice_get (texts_faults Deals DealsItem deals.now) 0 }
+{
+    if !is_few(deals.len()) {
+        return Some(FactFault::ListLength {
+            field: CampField::Deals,
+        });
+    }
+    let place = first_misfit(deals)?;
+    Some(FactFault::TextLength {
+        field: CampField::DealsItem(place),
+    })
 }
 
 fn markup_fault(adm: &Txt) -> Option<FactFault>

@@ -1,7 +1,7 @@
 ghost use Rattle.std.specs.Prelude.{◌≡◌, ◌≤◌, ◌<◌, ◌*◌, ◌^◌, length, All, IfOk};
 ghost use Rattle.std.specs.Option.{option_to_list};
 ghost use Rattle.std.specs.List.{sum_by};
-ghost use Rattle.campaign.specs.Groups.{creative_of, joined, names_of};
+ghost use Rattle.campaign.specs.Groups.{creative_of, join, names_of};
 ghost use Rattle.campaign.specs.Kept.{text_bytes_of};
 
 use crate::decode::{Creative, Names};
@@ -64,7 +64,7 @@ fn copy_parts(parts: &FactParts) -> Result<FactParts, AllocError>
     let attr = List::from_vec(Vec::from_slice(alloc, parts.attr.as_slice())?);
     let deals = copy_texts(alloc, parts.deals.as_slice())?;
     let creative = copy_creative(parts)?;
-    Ok(joined(parts, names, attr, deals, creative))
+    Ok(join(parts, names, attr, deals, creative))
 }
 
 // What the memory of the parts comes from.
@@ -92,14 +92,14 @@ fn copy_creative(parts: &FactParts) -> Result<Creative, AllocError>
 }
 
 // These parts, and those numbers that are no lists.
-fn joined(
+fn join(
     parts: &FactParts,
     names: Names,
     attr: List<i32>,
     deals: List<Txt>,
     creative: Creative,
 ) -> FactParts
-    ensures { result ≡ joined parts.now names attr deals creative }
+    ensures { result ≡ join parts.now names attr deals creative }
 {
     let ((seat, adomain), cat) = names;
     let ((adm, crid), adid) = creative;

@@ -14,6 +14,7 @@ use crate::parts::FactParts;
 use byte_fields::{Found, get_eight, get_flag, get_list, get_text, get_texts};
 use rtb_num::{List, Micros, Nanos, Txt};
 use std::alloc::{AllocError, Global};
+use thiserror::Error;
 
 // `seat`, `adomain`, `cat`.
 pub(crate) type Names = ((Txt, Txt), List<Txt>);
@@ -28,11 +29,12 @@ type Money = ((Micros, List<Txt>), Nanos);
 pub(crate) type Creative = ((Txt, Txt), Option<Txt>);
 
 /// Why no facts are decoded.
-#[derive(Clone, Copy, Debug, PartialEq, Eq)]
+#[derive(Clone, Copy, Debug, PartialEq, Eq, Error)]
 pub enum FactBytes {
     /// The bytes of no facts begin at this place.
+    #[error("the bytes of no facts begin at byte {at}")]
     Torn { at: usize },
-    /// Memory was refused.
+    #[error("memory ran out")]
     Memory,
 }
 

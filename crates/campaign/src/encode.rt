@@ -20,10 +20,7 @@ impl Facts {
     {
         let before = out.len();
         let done = put_parts(self.parts(), out);
-        if done.is_err() {
-            out.truncate(before);
-        }
-        done
+        out.settle(before, done)
     }
 }
 

@@ -1,6 +1,6 @@
 ghost use Rattle.std.specs.Prelude.{◌≡◌, ◌%◌, ◌<◌, ◌≤◌};
 ghost use Rattle.std.specs.Option.{option_copied};
-ghost use Rattle.campaign.specs.Faults.{checked, fact_faults};
+ghost use Rattle.campaign.specs.Faults.{ok_unless, fact_faults};
 ghost use Rattle.campaign.specs.Kept.{IsKept, size_of, with_cap};
 
 use crate::cap::Cap;
@@ -34,7 +34,7 @@ impl Facts {
     /// The budget has to be whole micro-dollars, a multiple of 1000.
     pub fn make(parts: FactParts) -> Result<Facts, FactFault>
         requires { parts.budget % 1000 ≡ 0 }
-        ensures { result ≡ checked (fact_faults parts) parts }
+        ensures { result ≡ ok_unless (fact_faults parts) parts }
     {
         match first_fault(&parts) {
             Some(fault) => Err(fault),

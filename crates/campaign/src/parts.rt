@@ -4,6 +4,7 @@ ghost use Rattle.campaign.specs.Kept.{size_of};
 use crate::cap::Cap;
 use crate::field::CampField;
 use rtb_num::{List, Micros, Nanos, Txt};
+use thiserror::Error;
 
 /// What an advertiser states of a campaign beside its target, field by field, not yet checked.
 #[derive(Debug, Drop)]
@@ -38,15 +39,19 @@ pub struct FactParts {
 }
 
 /// Why parts are no facts. The first in the order of the fields is answered.
-#[derive(Clone, Copy, Debug, PartialEq, Eq)]
+#[derive(Clone, Copy, Debug, PartialEq, Eq, Error)]
 pub enum FactFault {
     /// A text that is not of 1 to 255 bytes, or markup of more than 65,536.
+    #[error("{field} is longer or shorter than its text may be")]
     TextLength { field: CampField },
     /// A list of more than 64 entries, or a negative attribute, with its place.
+    #[error("{field} is past what its list may have")]
     ListLength { field: CampField },
     /// The bid is less than a micro-dollar.
+    #[error("bid is less than a micro-dollar")]
     BidZero,
     /// One of width and height without the other, or a side that is not of 1 to 32767 pixels.
+    #[error("w and h are not both there, each of 1 to 32767 pixels")]
     Size,
 }
 

@@ -1,102 +1,10 @@
-ghost use Rattle.std.specs.Prelude.{◌≡◌, ◌++◌, ℕ, List, OnOk, OnErr};
-ghost use Rattle.campaign.specs.Paths.{camp_path, place, predicate_path};
+ghost use Rattle.std.specs.Prelude.{◌≡◌, ◌++◌, ℕ, List, OnOk, OnErr, codes};
+ghost use Rattle.campaign.specs.Paths.{camp_path, member_name, predicate_path};
 
 use crate::field::CampField;
-use itoa::Buffer;
-use rtb_num::Txt;
+use rtb_num::{PathName, Txt, put_item, put_member, put_name, put_place};
 use std::alloc::AllocError;
-
-// Appends these bytes, or nothing.
-fn put(bytes: &[u8], out: &mut Txt) -> Result<(), AllocError>
-    ensures ok { OnOk result (out.new ≡ out.old ++ bytes.now) }
-    ensures grows { (more : List ℕ) × (out.new ≡ out.old ++ more) }
-{
-    out.extend(bytes)
-}
-
-// Appends a place in an array, or a front of it.
-fn put_place(index: usize, out: &mut Txt) -> Result<(), AllocError>
-    ensures ok { OnOk result (out.new ≡ out.old ++ place index) }
-    ensures grows { (more : List ℕ) × (out.new ≡ out.old ++ more) }
-{
-    let mut buffer = Buffer::new();
-    put(b"[", out)?;
-    put(buffer.format(index).as_bytes(), out)?;
-    put(b"]", out)?;
-    Ok(())
-}
-
-// Appends a name and a place in its list, or a front of it.
-fn put_item(name: &[u8], index: usize, out: &mut Txt) -> Result<(), AllocError>
-    ensures ok { OnOk result (out.new ≡ out.old ++ (name.now ++ place index)) }
-    ensures grows { (more : List ℕ) × (out.new ≡ out.old ++ more) }
-{
-    put(name, out)?;
-    put_place(index, out)?;
-    Ok(())
-}
-
-// Appends the path of a predicate, or a front of it.
-fn put_predicate(conjunction: usize, predicate: usize, out: &mut Txt) -> Result<(), AllocError>
-    ensures ok { OnOk result (out.new ≡ out.old ++ predicate_path conjunction predicate) }
-    ensures grows { (more : List ℕ) × (out.new ≡ out.old ++ more) }
-{
-    put_item(b"target", conjunction, out)?;
-    put_place(predicate, out)?;
-    Ok(())
-}
-
-// Appends the path of the field, or a front of it.
-fn put_path(field: &CampField, out: &mut Txt) -> Result<(), AllocError>
-    ensures ok { OnOk result (out.new ≡ out.old ++ camp_path field.now) }
-    ensures grows { (more : List ℕ) × (out.new ≡ out.old ++ more) }
-{
-    match *field {
-        CampField::Seat => put(b"seat", out)?,
-        CampField::Adomain => put(b"adomain", out)?,
-        CampField::Cat => put(b"cat", out)?,
-        CampField::CatItem(at) => put_item(b"cat", at, out)?,
-        CampField::W => put(b"w", out)?,
-        CampField::H => put(b"h", out)?,
-        CampField::Attr => put(b"attr", out)?,
-        CampField::AttrItem(at) => put_item(b"attr", at, out)?,
-        CampField::Secure => put(b"secure", out)?,
-        CampField::Bid => put(b"bid", out)?,
-        CampField::Deals => put(b"deals", out)?,
-        CampField::DealsItem(at) => put_item(b"deals", at, out)?,
-        CampField::Budget => put(b"budget", out)?,
-        CampField::Adm => put(b"adm", out)?,
-        CampField::Crid => put(b"crid", out)?,
-        CampField::Adid => put(b"adid", out)?,
-        CampField::Cap => put(b"cap", out)?,
-        CampField::CapCount => put(b"cap.count", out)?,
-        CampField::CapSeconds => put(b"cap.seconds", out)?,
-        CampField::Target => put(b"target", out)?,
-        CampField::Conjunction(i) => put_item(b"target", i, out)?,
-        CampField::Predicate(i, j) => put_predicate(i, j, out)?,
-        CampField::PredicateAttr(i, j) => {
-            put_predicate(i, j, out)?;
-            put(b".attr", out)?;
-        }
-        CampField::In(i, j) => {
-            put_predicate(i, j, out)?;
-            put(b".in", out)?;
-        }
-        CampField::InItem(i, j, at) => {
-            put_predicate(i, j, out)?;
-            put_item(b".in", at, out)?;
-        }
-        CampField::Not(i, j) => {
-            put_predicate(i, j, out)?;
-            put(b".not", out)?;
-        }
-        CampField::NotItem(i, j, at) => {
-            put_predicate(i, j, out)?;
-            put_item(b".not", at, out)?;
-        }
-    }
-    Ok(())
-}
+use std::fmt;
 
 impl CampField {
     /// Appends its path, as `cat[2]` and `target[0][1].in[3]`. Where memory is refused the text stays
@@ -106,10 +14,90 @@ impl CampField {
         ensures err { OnErr result (out.new ≡ out.old) }
     {
         let before = out.len();
-        let written = put_path(self, out);
-        if written.is_err() {
-            out.truncate(before);
+        let written = put_path(*self, out);
+        out.settle(before, written)
+    }
+}
+
+// Appends the path of the field, or a front of it.
+fn put_path(field: CampField, out: &mut Txt) -> Result<(), AllocError>
+    ensures ok { OnOk result (out.new ≡ out.old ++ camp_path field) }
+    ensures front { (more : List ℕ) × (out.new ≡ out.old ++ more) }
+{
+    match field {
+        CampField::Seat
+        | CampField::Adomain
+        | CampField::Cat
+        | CampField::W
+        | CampField::H
+        | CampField::Attr
+        | CampField::Secure
+        | CampField::Bid
+        | CampField::Deals
+        | CampField::Budget
+        | CampField::Adm
+        | CampField::Crid
+        | CampField::Adid
+        | CampField::Cap
+        | CampField::Target => put_name(field.member(), out)?,
+        CampField::CatItem(place) | CampField::AttrItem(place) | CampField::DealsItem(place) => {
+            put_item(field.member(), place, out)?
         }
-        written
+        CampField::CapCount | CampField::CapSeconds => {
+            put_name(CampField::Cap.member(), out)?;
+            put_member(field.member(), out)?;
+        }
+        CampField::Conjunction(i) => put_item(field.member(), i, out)?,
+        CampField::Predicate(i, j) => put_predicate(i, j, out)?,
+        CampField::PredicateAttr(i, j) | CampField::In(i, j) | CampField::Not(i, j) => {
+            put_inside(i, j, field, out)?
+        }
+        CampField::InItem(i, j, place) | CampField::NotItem(i, j, place) => {
+            put_inside(i, j, field, out)?;
+            put_place(place, out)?;
+        }
+    }
+    Ok(())
+}
+
+// Appends the path of a member of a predicate, or a front of it.
+fn put_inside(i: usize, j: usize, field: CampField, out: &mut Txt) -> Result<(), AllocError>
+    ensures ok { OnOk result (out.new ≡ out.old ++ (predicate_path i j ++ codes "." ++ member_name field)) }
+    ensures front { (more : List ℕ) × (out.new ≡ out.old ++ more) }
+{
+    put_predicate(i, j, out)?;
+    put_member(field.member(), out)?;
+    Ok(())
+}
+
+// Appends the path of a predicate, or a front of it.
+fn put_predicate(conjunction: usize, predicate: usize, out: &mut Txt) -> Result<(), AllocError>
+    ensures ok { OnOk result (out.new ≡ out.old ++ predicate_path conjunction predicate) }
+    ensures front { (more : List ℕ) × (out.new ≡ out.old ++ more) }
+{
+    put_item(CampField::Target.member(), conjunction, out)?;
+    put_place(predicate, out)?;
+    Ok(())
+}
+
+impl fmt::Display for CampField {
+    /// Its path, as `write` gives it.
+    fn fmt<W: fmt::Write>(&self, f: &mut fmt::Formatter<W>) -> fmt::Result {
+        let name = PathName(self.member());
+        match *self {
+            CampField::CatItem(place) => write!(f, "{name}[{place}]"),
+            CampField::AttrItem(place) => write!(f, "{name}[{place}]"),
+            CampField::DealsItem(place) => write!(f, "{name}[{place}]"),
+            CampField::CapCount => write!(f, "cap.{name}"),
+            CampField::CapSeconds => write!(f, "cap.{name}"),
+            CampField::Conjunction(i) => write!(f, "{name}[{i}]"),
+            CampField::Predicate(i, j) => write!(f, "{name}[{i}][{j}]"),
+            CampField::PredicateAttr(i, j) => write!(f, "target[{i}][{j}].{name}"),
+            CampField::In(i, j) => write!(f, "target[{i}][{j}].{name}"),
+            CampField::Not(i, j) => write!(f, "target[{i}][{j}].{name}"),
+            CampField::InItem(i, j, place) => write!(f, "target[{i}][{j}].{name}[{place}]"),
+            CampField::NotItem(i, j, place) => write!(f, "target[{i}][{j}].{name}[{place}]"),
+            _ => write!(f, "{name}"),
+        }
     }
 }

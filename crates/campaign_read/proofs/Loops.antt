@@ -4,14 +4,9 @@ use Rattle.std.proofs.lemmas.List.{map_push}
 use Rattle.exact_json.specs.Tree.{Tree}
 use Rattle.json_fields.specs.Answers.{value_or}
 use Rattle.json_fields.specs.Fields.{as_array}
-use Rattle.json_fields.proofs.Each.{each_none, front_more}
+use Rattle.json_fields.proofs.Each.{each_none, front_more, map_more}
 use Rattle.target_expr.specs.declared.pred.RawPred.{RawPred}
 use Rattle.campaign_read.specs.Target.{conjunction_faults, conjunction_from, conjunctions_from, pred_at, pred_from}
-
-map_more : {V A B : Type 0} (f : A → B) (v : V → A) (vs : List V) (k : ℕ) (x : V) (ys : List B) (y : B) → k < length vs → x ≡ get_or vs k x
-    → ys ≡ map f (map v (take k vs)) → y ≡ f (v x) → ys ++ y ∷ [] ≡ map f (map v (take (k + 1) vs))
-map_more f v vs k x ys y h is before same =
-    ap (λ zs. zs ++ y ∷ []) before ∙ ap (λ z. map f (map v (take k vs)) ++ z ∷ []) same ∙ sym (map_push f (map v (take k vs)) (v x)) ∙ sym (ap (map f) (front_more v vs k x h is))
 
 pub no_preds : [] ≡ conjunction_from []
 unfolding conjunction_from

@@ -1,5 +1,5 @@
 -- A campaign's body in a JSON text: its faults, and the campaign.
-use Rattle.std.specs.Prelude.{◌*◌, List, [], ◌∷◌, ◌++◌, map, false, None, Result, Ok, Err, codes}
+use Rattle.std.specs.Prelude.{◌*◌, List, [], ◌∷◌, ◌++◌, map, false, None, Result, Ok, Err}
 use Rattle.exact_json.specs.Tree.{Tree}
 use Rattle.json_fields.specs.Answers.{value_or}
 use Rattle.json_fields.specs.Fields.{present, as_flag, as_object, as_text, as_whole, optional, or_absent}
@@ -7,9 +7,10 @@ use Rattle.json_fields.specs.declared.flaw.Flaw.{Flaw}
 use Rattle.campaign.specs.declared.field.CampField.{CampField}
 use Rattle.campaign.specs.declared.parts.FactParts.{FactParts}
 use Rattle.campaign.specs.Faults.{fact_faults}
+use Rattle.campaign.specs.Paths.{member_name}
 use Rattle.target_expr.specs.declared.fault.ExprFault.{ExprFault}
 use Rattle.target_expr.specs.declared.pred.Pred.{Pred}
-use Rattle.target_expr.specs.Kept.{faults, kept}
+use Rattle.target_expr.specs.Kept.{faults, keep}
 use Rattle.campaign_read.specs.declared.fault.CampFault.{CampFault}
 use Rattle.campaign_read.specs.declared.lists.ListField.{ListField}
 use Rattle.campaign_read.specs.Cap.{cap_faults, cap_from}
@@ -18,37 +19,37 @@ use Rattle.campaign_read.specs.Target.{target_faults, target_from}
 
 -- the faults of the fields other than the target, in the order in which they are read
 unfoldable pub parts_faults : Tree → List CampFault
-parts_faults t = text_faults CampField.Seat (codes "seat") t
-    ++ text_faults CampField.Adomain (codes "adomain") t
+parts_faults t = text_faults CampField.Seat t
+    ++ text_faults CampField.Adomain t
     ++ list_faults ListField.Cat as_text t
-    ++ side_faults CampField.W (codes "w") t
-    ++ side_faults CampField.H (codes "h") t
+    ++ side_faults CampField.W t
+    ++ side_faults CampField.H t
     ++ list_faults ListField.Attr (as_whole attr_bounds) t
-    ++ faults_at CampField.Secure (or_absent false as_flag (present (codes "secure") t))
-    ++ amount_faults CampField.Bid (codes "bid") t
+    ++ faults_at CampField.Secure (or_absent false as_flag (present (member_name CampField.Secure) t))
+    ++ amount_faults CampField.Bid t
     ++ list_faults ListField.Deals as_text t
-    ++ amount_faults CampField.Budget (codes "budget") t
-    ++ text_faults CampField.Adm (codes "adm") t
-    ++ text_faults CampField.Crid (codes "crid") t
-    ++ faults_at CampField.Adid (optional as_text (present (codes "adid") t))
+    ++ amount_faults CampField.Budget t
+    ++ text_faults CampField.Adm t
+    ++ text_faults CampField.Crid t
+    ++ faults_at CampField.Adid (optional as_text (present (member_name CampField.Adid) t))
     ++ cap_faults t
 
 -- the fields; the budget in nano-dollars
 unfoldable pub parts_from : Tree → FactParts
 parts_from t = record {
-  seat = text_from (codes "seat") t;
-  adomain = text_from (codes "adomain") t;
+  seat = text_from (member_name CampField.Seat) t;
+  adomain = text_from (member_name CampField.Adomain) t;
   cat = list_from ListField.Cat as_text t;
-  w = side_from (codes "w") t;
-  h = side_from (codes "h") t;
+  w = side_from (member_name CampField.W) t;
+  h = side_from (member_name CampField.H) t;
   attr = list_from ListField.Attr (as_whole attr_bounds) t;
-  secure = value_or false (or_absent false as_flag (present (codes "secure") t));
-  bid = amount_from (codes "bid") t;
+  secure = value_or false (or_absent false as_flag (present (member_name CampField.Secure) t));
+  bid = amount_from (member_name CampField.Bid) t;
   deals = list_from ListField.Deals as_text t;
-  budget = amount_from (codes "budget") t * 1000;
-  adm = text_from (codes "adm") t;
-  crid = text_from (codes "crid") t;
-  adid = value_or None (optional as_text (present (codes "adid") t));
+  budget = amount_from (member_name CampField.Budget) t * 1000;
+  adm = text_from (member_name CampField.Adm) t;
+  crid = text_from (member_name CampField.Crid) t;
+  adid = value_or None (optional as_text (present (member_name CampField.Adid) t));
   cap = cap_from t;
 }
 
@@ -79,4 +80,4 @@ campaign_faults t = faults_unless_object (as_object t)
 
 -- the facts and the target of the campaign
 unfoldable pub campaign_from : Tree → FactParts × List (List Pred)
-campaign_from t = (parts_from t, kept (target_from t))
+campaign_from t = (parts_from t, keep (target_from t))

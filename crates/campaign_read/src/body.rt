@@ -6,7 +6,7 @@ ghost use Rattle.exact_json.specs.Forms.{HasForms};
 ghost use Rattle.exact_json.specs.View.{tree_of};
 ghost use Rattle.json_fields.specs.Answers.{Answers};
 ghost use Rattle.campaign.specs.Faults.{fact_faults};
-ghost use Rattle.target_expr.specs.Kept.{faults, kept};
+ghost use Rattle.target_expr.specs.Kept.{faults, keep};
 ghost use Rattle.campaign_read.specs.Campaign.{body_faults, campaign_faults, campaign_from, fault_of_target};
 ghost use Rattle.campaign_read.specs.declared.fault.CampFault.{CampFault};
 
@@ -20,31 +20,14 @@ use rtb_num::List;
 use std::alloc::Global;
 use target_expr::{Expr, ExprFault, RawPred};
 
-fn facts_of(parts: FactParts) -> Result<Facts, CampFault>
-    requires { parts.budget % 1000 ≡ 0 }
-    ensures { Answers CampFault.Memory (map CampFault.Fact (fact_faults parts)) parts result }
+/// The campaign in a JSON text, or the first of its faults in the order in which the fields are read;
+/// then come the faults of the facts, and then those of the target.
+pub fn read_campaign(alloc: Global, doc: &Doc) -> Result<(Facts, Expr), CampFault>
+    ensures { Answers CampFault.Memory (campaign_faults (doc_tree doc.now)) (campaign_from (doc_tree doc.now)) result }
 {
-    match Facts::make(parts) {
-        Ok(facts) => Ok(facts),
-        Err(fault) => Err(CampFault::Fact { fault }),
-    }
-}
-
-fn target_fault(fault: ExprFault) -> CampFault
-    ensures { result ≡ fault_of_target fault }
-{
-    match fault {
-        ExprFault::Memory => CampFault::Memory,
-        fault => CampFault::Target { fault },
-    }
-}
-
-fn expr_of(alloc: Global, raw: &List<List<RawPred>>) -> Result<Expr, CampFault>
-    ensures { Answers CampFault.Memory (map CampFault.Target (faults raw.now)) (kept raw.now) result }
-{
-    match Expr::make(alloc, raw) {
-        Ok(expr) => Ok(expr),
-        Err(fault) => Err(target_fault(fault)),
+    match fields::object_in(doc.root()) {
+        Ok(body) => campaign_in(alloc, body),
+        Err(_) => Err(CampFault::NotObject),
     }
 }
 
@@ -60,13 +43,30 @@ fn campaign_in(alloc: Global, body: &Value) -> Result<(Facts, Expr), CampFault>
     Ok((facts, expr))
 }
 
-/// The campaign in a JSON text, or the first of its faults in the order in which the fields are read;
-/// then come the faults of the facts, and then those of the target.
-pub fn read_campaign(alloc: Global, doc: &Doc) -> Result<(Facts, Expr), CampFault>
-    ensures { Answers CampFault.Memory (campaign_faults (doc_tree doc.now)) (campaign_from (doc_tree doc.now)) result }
+fn facts_of(parts: FactParts) -> Result<Facts, CampFault>
+    requires { parts.budget % 1000 ≡ 0 }
+    ensures { Answers CampFault.Memory (map CampFault.Fact (fact_faults parts)) parts result }
 {
-    match fields::object_in(doc.root()) {
-        Ok(body) => campaign_in(alloc, body),
-        Err(_) => Err(CampFault::NotObject),
+    match Facts::make(parts) {
+        Ok(facts) => Ok(facts),
+        Err(fault) => Err(CampFault::Fact { fault }),
+    }
+}
+
+fn expr_of(alloc: Global, raw: &List<List<RawPred>>) -> Result<Expr, CampFault>
+    ensures { Answers CampFault.Memory (map CampFault.Target (faults raw.now)) (keep raw.now) result }
+{
+    match Expr::make(alloc, raw) {
+        Ok(expr) => Ok(expr),
+        Err(fault) => Err(target_fault(fault)),
+    }
+}
+
+fn target_fault(fault: ExprFault) -> CampFault
+    ensures { result ≡ fault_of_target fault }
+{
+    match fault {
+        ExprFault::Memory => CampFault::Memory,
+        fault => CampFault::Target { fault },
     }
 }

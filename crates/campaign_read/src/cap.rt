@@ -4,6 +4,7 @@ ghost use Rattle.std.specs.Prelude.{◌≡◌, pos};
 ghost use Rattle.exact_json.specs.Forms.{HasForms};
 ghost use Rattle.exact_json.specs.View.{tree_of};
 ghost use Rattle.json_fields.specs.Answers.{Answers, value_or};
+ghost use Rattle.campaign.specs.Paths.{member_name};
 ghost use Rattle.campaign_read.specs.Cap.{cap_faults, cap_from, terms_faults, terms_from, whole_in};
 ghost use Rattle.campaign_read.specs.Parts.{faults_at};
 ghost use Rattle.campaign_read.specs.declared.fault.CampFault.{CampFault};
@@ -32,7 +33,7 @@ pub(crate) fn cap_field(body: &Value) -> Result<Option<Cap>, CampFault>
     requires forms { HasForms (tree_of body.now) }
     ensures { Answers CampFault.Memory (cap_faults (tree_of body.now)) (cap_from (tree_of body.now)) result }
 {
-    match fields::object(body, b"cap") {
+    match fields::object(body, CampField::Cap.member()) {
         Ok(Some(cap)) => terms_of(cap),
         Ok(None) => Ok(None),
         Err(flaw) => Err(fault(CampField::Cap, flaw)),
@@ -45,22 +46,17 @@ fn terms_of(cap: &Value) -> Result<Option<Cap>, CampFault>
     requires forms { HasForms (tree_of cap.now) }
     ensures { Answers CampFault.Memory (terms_faults (tree_of cap.now)) (terms_from (tree_of cap.now)) result }
 {
-    let count = whole_field(cap, b"count", CampField::CapCount, &COUNT)?;
-    let seconds = whole_field(cap, b"seconds", CampField::CapSeconds, &SECONDS)?;
+    let count = whole_field(cap, CampField::CapCount, &COUNT)?;
+    let seconds = whole_field(cap, CampField::CapSeconds, &SECONDS)?;
     Ok(Cap::new(count.unsigned_abs(), seconds.unsigned_abs()))
 }
 
 // A whole number that has to be there.
-fn whole_field(
-    object: &Value,
-    name: &[u8],
-    field: CampField,
-    bounds: &Bounds,
-) -> Result<i32, CampFault>
+fn whole_field(object: &Value, field: CampField, bounds: &Bounds) -> Result<i32, CampFault>
     requires forms { HasForms (tree_of object.now) }
-    ensures { Answers CampFault.Memory (faults_at field (whole_in name.now bounds.now (tree_of object.now))) (value_or (pos 0) (whole_in name.now bounds.now (tree_of object.now))) result }
+    ensures { Answers CampFault.Memory (faults_at field (whole_in (member_name field) bounds.now (tree_of object.now))) (value_or (pos 0) (whole_in (member_name field) bounds.now (tree_of object.now))) result }
 {
-    match required_whole(object, name, bounds) {
+    match required_whole(object, field.member(), bounds) {
         Ok(n) => Ok(n),
         Err(flaw) => Err(fault(field, flaw)),
     }

@@ -5,7 +5,7 @@ ghost use Rattle.exact_json.specs.Forms.{HasForms};
 ghost use Rattle.exact_json.specs.View.{tree_of};
 ghost use Rattle.json_fields.specs.Answers.{Answers};
 ghost use Rattle.json_fields.specs.Fields.{as_text, as_whole};
-ghost use Rattle.campaign_read.specs.Parts.{attr_bounds, list_fault, list_faults, list_from, list_item, list_name, list_whole};
+ghost use Rattle.campaign_read.specs.Parts.{attr_bounds, list_fault, list_faults, list_from, list_item, list_whole};
 
 use crate::fault::CampFault;
 use crate::parts::fault;
@@ -15,12 +15,6 @@ use json_fields as fields;
 use json_fields::{Bounds, ListFlaw};
 use rtb_num::{List, Txt};
 use std::alloc::Global;
-
-// An attribute of the creative is not negative.
-const ATTR: Bounds = Bounds {
-    least: 0,
-    greatest: i32::MAX,
-};
 
 // A list of a campaign, or of a predicate by the places of its conjunction and of its own.
 #[derive(Clone, Copy)]
@@ -33,18 +27,6 @@ pub(crate) enum ListField {
 }
 
 impl ListField {
-    fn name(self) -> &'static [u8]
-        ensures { result.now ≡ list_name self }
-    {
-        match self {
-            ListField::Cat => b"cat",
-            ListField::Attr => b"attr",
-            ListField::Deals => b"deals",
-            ListField::In(_, _) => b"in",
-            ListField::Not(_, _) => b"not",
-        }
-    }
-
     // The list itself.
     fn whole(self) -> CampField
         ensures { result ≡ list_whole self }
@@ -72,6 +54,20 @@ impl ListField {
     }
 }
 
+// A list of texts, which may be absent.
+pub(crate) fn texts_field(
+    alloc: Global,
+    object: &Value,
+    list: ListField,
+) -> Result<List<Txt>, CampFault>
+    ensures { Answers CampFault.Memory (list_faults list as_text (tree_of object.now)) (list_from list as_text (tree_of object.now)) result }
+{
+    match fields::texts(alloc, object, list.whole().member()) {
+        Ok(texts) => Ok(texts),
+        Err(flaw) => Err(list_fault(list, flaw)),
+    }
+}
+
 fn list_fault(list: ListField, flaw: ListFlaw) -> CampFault
     ensures { result ≡ list_fault list flaw }
 {
@@ -82,26 +78,18 @@ fn list_fault(list: ListField, flaw: ListFlaw) -> CampFault
     }
 }
 
-// A list of texts, which may be absent.
-pub(crate) fn texts_field(
-    alloc: Global,
-    object: &Value,
-    list: ListField,
-) -> Result<List<Txt>, CampFault>
-    ensures { Answers CampFault.Memory (list_faults list as_text (tree_of object.now)) (list_from list as_text (tree_of object.now)) result }
-{
-    match fields::texts(alloc, object, list.name()) {
-        Ok(texts) => Ok(texts),
-        Err(flaw) => Err(list_fault(list, flaw)),
-    }
-}
+// An attribute of the creative is not negative.
+const ATTR: Bounds = Bounds {
+    least: 0,
+    greatest: i32::MAX,
+};
 
 // The attributes of the creative, which may be absent.
 pub(crate) fn attr_field(alloc: Global, object: &Value) -> Result<List<i32>, CampFault>
     requires forms { HasForms (tree_of object.now) }
     ensures { Answers CampFault.Memory (list_faults ListField.Attr (as_whole attr_bounds) (tree_of object.now)) (list_from ListField.Attr (as_whole attr_bounds) (tree_of object.now)) result }
 {
-    match fields::whole_numbers(alloc, object, b"attr", &ATTR) {
+    match fields::whole_numbers(alloc, object, CampField::Attr.member(), &ATTR) {
         Ok(attr) => Ok(attr),
         Err(flaw) => Err(list_fault(ListField::Attr, flaw)),
     }

@@ -1,10 +1,11 @@
 #![tactic(auto, using(json_fields::proofs::First::in_front, json_fields::proofs::First::behind, json_fields::proofs::First::neither), unfolding(crate::specs::Parts::faults_at, crate::specs::Parts::text_faults, crate::specs::Parts::text_from, crate::specs::Parts::amount_faults, crate::specs::Parts::amount_from, crate::specs::Parts::side_faults, crate::specs::Parts::side_from))]
 
-ghost use Rattle.std.specs.Prelude.{◌≡◌, ◌*◌, false, None, codes, option_map, IfOk};
+ghost use Rattle.std.specs.Prelude.{◌≡◌, ◌*◌, false, None, option_map, IfOk};
 ghost use Rattle.exact_json.specs.Forms.{HasForms};
 ghost use Rattle.exact_json.specs.View.{tree_of};
 ghost use Rattle.json_fields.specs.Answers.{Answers, value_or};
 ghost use Rattle.json_fields.specs.Fields.{as_flag, as_text, optional, or_absent, present};
+ghost use Rattle.campaign.specs.Paths.{member_name};
 ghost use Rattle.campaign_read.specs.Campaign.{parts_faults, parts_from};
 ghost use Rattle.campaign_read.specs.Parts.{amount_faults, amount_from, fault_of, faults_at, side_faults, side_from, text_faults, text_from};
 
@@ -17,12 +18,6 @@ use json_fields as fields;
 use json_fields::{Bounds, Flaw};
 use rtb_num::{Micros, Nanos, Txt};
 use std::alloc::{AllocError, Global};
-
-// A side of the creative has 1 to 32767 pixels.
-const SIDE: Bounds = Bounds {
-    least: 1,
-    greatest: 32_767,
-};
 
 // The flaw of the field.
 pub(crate) fn fault(field: CampField, flaw: Flaw) -> CampFault
@@ -37,70 +32,13 @@ pub(crate) fn fault(field: CampField, flaw: Flaw) -> CampFault
 }
 
 // A text.
-pub(crate) fn text_field(object: &Value, name: &[u8], field: CampField) -> Result<Txt, CampFault>
-    ensures { Answers CampFault.Memory (text_faults field name.now (tree_of object.now)) (text_from name.now (tree_of object.now)) result }
+pub(crate) fn text_field(object: &Value, field: CampField) -> Result<Txt, CampFault>
+    ensures { Answers CampFault.Memory (text_faults field (tree_of object.now)) (text_from (member_name field) (tree_of object.now)) result }
 {
-    match fields::required_text(object, name) {
+    match fields::required_text(object, field.member()) {
         Ok(text) => Ok(text.copy()?),
         Err(flaw) => Err(fault(field, flaw)),
     }
-}
-
-fn copy_of(text: Option<&Txt>) -> Result<Option<Txt>, AllocError>
-    ensures { IfOk result (λ t. t ≡ option_map (λ s. s.now) text.entry) }
-{
-    match text {
-        Some(text) => Ok(Some(text.copy()?)),
-        None => Ok(None),
-    }
-}
-
-fn adid_field(body: &Value) -> Result<Option<Txt>, CampFault>
-    ensures { Answers CampFault.Memory (faults_at CampField.Adid (optional as_text (present (codes "adid") (tree_of body.now)))) (value_or None (optional as_text (present (codes "adid") (tree_of body.now)))) result }
-{
-    match fields::text(body, b"adid") {
-        Ok(found) => Ok(copy_of(found)?),
-        Err(flaw) => Err(fault(CampField::Adid, flaw)),
-    }
-}
-
-// A side of the creative, which may be absent.
-fn side_field(body: &Value, name: &[u8], field: CampField) -> Result<Option<i32>, CampFault>
-    requires forms { HasForms (tree_of body.now) }
-    ensures { Answers CampFault.Memory (side_faults field name.now (tree_of body.now)) (side_from name.now (tree_of body.now)) result }
-{
-    match fields::whole_number(body, name, &SIDE) {
-        Ok(found) => Ok(found),
-        Err(flaw) => Err(fault(field, flaw)),
-    }
-}
-
-fn secure_field(body: &Value) -> Result<bool, CampFault>
-    requires forms { HasForms (tree_of body.now) }
-    ensures { Answers CampFault.Memory (faults_at CampField.Secure (or_absent false as_flag (present (codes "secure") (tree_of body.now)))) (value_or false (or_absent false as_flag (present (codes "secure") (tree_of body.now)))) result }
-{
-    match fields::flag(body, b"secure") {
-        Ok(found) => Ok(found),
-        Err(flaw) => Err(fault(CampField::Secure, flaw)),
-    }
-}
-
-// An amount in US dollars.
-fn amount_field(body: &Value, name: &[u8], field: CampField) -> Result<Micros, CampFault>
-    requires forms { HasForms (tree_of body.now) }
-    ensures { Answers CampFault.Memory (amount_faults field name.now (tree_of body.now)) (amount_from name.now (tree_of body.now)) result }
-{
-    match fields::exact_price(body, name) {
-        Ok(found) => Ok(found),
-        Err(flaw) => Err(fault(field, flaw)),
-    }
-}
-
-// So many micro-dollars in nano-dollars.
-fn nanos(amount: Micros) -> Nanos
-    ensures { result ≡ amount * 1000 }
-{
-    Nanos::new(amount.get() * 1000).unwrap()
 }
 
 // The fields other than the target, in the order in which they are read.
@@ -109,18 +47,18 @@ pub(crate) fn parts_in(alloc: Global, body: &Value) -> Result<FactParts, CampFau
     requires forms { HasForms (tree_of body.now) }
     ensures { Answers CampFault.Memory (parts_faults (tree_of body.now)) (parts_from (tree_of body.now)) result }
 {
-    let seat = text_field(body, b"seat", CampField::Seat)?;
-    let adomain = text_field(body, b"adomain", CampField::Adomain)?;
+    let seat = text_field(body, CampField::Seat)?;
+    let adomain = text_field(body, CampField::Adomain)?;
     let cat = texts_field(alloc, body, ListField::Cat)?;
-    let w = side_field(body, b"w", CampField::W)?;
-    let h = side_field(body, b"h", CampField::H)?;
+    let w = side_field(body, CampField::W)?;
+    let h = side_field(body, CampField::H)?;
     let attr = attr_field(alloc, body)?;
     let secure = secure_field(body)?;
-    let bid = amount_field(body, b"bid", CampField::Bid)?;
+    let bid = amount_field(body, CampField::Bid)?;
     let deals = texts_field(alloc, body, ListField::Deals)?;
-    let budget = nanos(amount_field(body, b"budget", CampField::Budget)?);
-    let adm = text_field(body, b"adm", CampField::Adm)?;
-    let crid = text_field(body, b"crid", CampField::Crid)?;
+    let budget = nanos(amount_field(body, CampField::Budget)?);
+    let adm = text_field(body, CampField::Adm)?;
+    let crid = text_field(body, CampField::Crid)?;
     let adid = adid_field(body)?;
     let cap = cap_field(body)?;
     Ok(FactParts {
@@ -139,4 +77,67 @@ pub(crate) fn parts_in(alloc: Global, body: &Value) -> Result<FactParts, CampFau
         adid,
         cap,
     })
+}
+
+// A side of the creative has 1 to 32767 pixels.
+const SIDE: Bounds = Bounds {
+    least: 1,
+    greatest: 32_767,
+};
+
+// A side of the creative, which may be absent.
+fn side_field(body: &Value, field: CampField) -> Result<Option<i32>, CampFault>
+    requires forms { HasForms (tree_of body.now) }
+    ensures { Answers CampFault.Memory (side_faults field (tree_of body.now)) (side_from (member_name field) (tree_of body.now)) result }
+{
+    match fields::whole_number(body, field.member(), &SIDE) {
+        Ok(found) => Ok(found),
+        Err(flaw) => Err(fault(field, flaw)),
+    }
+}
+
+fn secure_field(body: &Value) -> Result<bool, CampFault>
+    requires forms { HasForms (tree_of body.now) }
+    ensures { Answers CampFault.Memory (faults_at CampField.Secure (or_absent false as_flag (present (member_name CampField.Secure) (tree_of body.now)))) (value_or false (or_absent false as_flag (present (member_name CampField.Secure) (tree_of body.now)))) result }
+{
+    match fields::flag(body, CampField::Secure.member()) {
+        Ok(found) => Ok(found),
+        Err(flaw) => Err(fault(CampField::Secure, flaw)),
+    }
+}
+
+// An amount in US dollars.
+fn amount_field(body: &Value, field: CampField) -> Result<Micros, CampFault>
+    requires forms { HasForms (tree_of body.now) }
+    ensures { Answers CampFault.Memory (amount_faults field (tree_of body.now)) (amount_from (member_name field) (tree_of body.now)) result }
+{
+    match fields::exact_price(body, field.member()) {
+        Ok(found) => Ok(found),
+        Err(flaw) => Err(fault(field, flaw)),
+    }
+}
+
+// So many micro-dollars in nano-dollars.
+fn nanos(amount: Micros) -> Nanos
+    ensures { result ≡ amount * 1000 }
+{
+    Nanos::new(amount.get() * 1000).unwrap()
+}
+
+fn adid_field(body: &Value) -> Result<Option<Txt>, CampFault>
+    ensures { Answers CampFault.Memory (faults_at CampField.Adid (optional as_text (present (member_name CampField.Adid) (tree_of body.now)))) (value_or None (optional as_text (present (member_name CampField.Adid) (tree_of body.now)))) result }
+{
+    match fields::text(body, CampField::Adid.member()) {
+        Ok(found) => Ok(copy_of(found)?),
+        Err(flaw) => Err(fault(CampField::Adid, flaw)),
+    }
+}
+
+fn copy_of(text: Option<&Txt>) -> Result<Option<Txt>, AllocError>
+    ensures { IfOk result (λ t. t ≡ option_map (λ s. s.now) text.entry) }
+{
+    match text {
+        Some(text) => Ok(Some(text.copy()?)),
+        None => Ok(None),
+    }
 }

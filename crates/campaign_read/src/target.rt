@@ -1,9 +1,9 @@
 #![tactic(auto, using(json_fields::proofs::First::in_front, json_fields::proofs::First::behind, json_fields::proofs::First::neither), unfolding(crate::specs::Target::conjunction_faults, crate::specs::Target::conjunction_from, crate::specs::Target::conjunctions_faults, crate::specs::Target::conjunctions_of, crate::specs::Target::target_faults, crate::specs::Target::target_from, crate::specs::Parts::element_faults))]
 
-ghost use Rattle.std.specs.Prelude.{◌≡◌, ◌&&◌, [], ◌∷◌, codes, cond, is_none, map, IfOk};
+ghost use Rattle.std.specs.Prelude.{◌≡◌, ◌&&◌, [], ◌∷◌, if◌then◌else◌, map, not, IfOk};
 ghost use Rattle.exact_json.specs.View.{tree_of};
 ghost use Rattle.json_fields.specs.Answers.{Answers, map_ok, value_or};
-ghost use Rattle.json_fields.specs.Fields.{as_array, present};
+ghost use Rattle.json_fields.specs.Fields.{as_array};
 ghost use Rattle.json_fields.specs.Items.{each_at};
 ghost use Rattle.campaign.specs.declared.field.CampField.{CampField};
 ghost use Rattle.campaign_read.specs.declared.fault.CampFault.{CampFault};
@@ -19,21 +19,75 @@ use rtb_num::{List, Txt};
 use std::alloc::{AllocError, Global};
 use target_expr::RawPred;
 
-fn has_in(pred: &Value) -> bool
-    ensures { result ≡ has_in (tree_of pred.now) }
+// The target, where it is absent everything.
+pub(crate) fn target_field(alloc: Global, body: &Value) -> Result<List<List<RawPred>>, CampFault>
+    ensures { Answers CampFault.Memory (target_faults (tree_of body.now)) (target_from (tree_of body.now)) result }
 {
-    fields::present(pred, b"in").is_some()
+    match fields::array(body, CampField::Target.member()) {
+        Ok(Some(values)) => Ok(List::from_vec(all_conjunctions(alloc, values)?)),
+        Ok(None) => Ok(everything(alloc)?),
+        Err(flaw) => Err(fault(CampField::Target, flaw)),
+    }
 }
 
-fn has_not(pred: &Value) -> bool
-    ensures { result ≡ has_not (tree_of pred.now) }
+fn all_conjunctions(alloc: Global, values: &[Value]) -> Result<Vec<List<RawPred>>, CampFault>
+    ensures { Answers CampFault.Memory (each_at conjunction_at (map tree_of values.now)) (conjunctions_from (map tree_of values.now)) (map_ok (λ v. v.items) result) }
 {
-    fields::present(pred, b"not").is_some()
+    let mut conjunctions = Vec::with_capacity(alloc, values.len())?;
+    for (i, value) in values.iter().enumerate() {
+        conjunctions.push(conjunction_entry(alloc, i, value)?)?;
+    }
+    Ok(conjunctions)
+}
+
+fn conjunction_entry(alloc: Global, i: usize, value: &Value) -> Result<List<RawPred>, CampFault>
+    ensures { Answers CampFault.Memory (conjunction_at i (tree_of value.now)) (conjunction_from (value_or [] (as_array (tree_of value.now)))) result }
+{
+    match fields::array_in(value) {
+        Ok(values) => Ok(List::from_vec(all_preds(alloc, i, values)?)),
+        Err(flaw) => Err(fault(CampField::Conjunction(i), flaw)),
+    }
+}
+
+fn all_preds(alloc: Global, i: usize, values: &[Value]) -> Result<Vec<RawPred>, CampFault>
+    ensures { Answers CampFault.Memory (conjunction_faults i (map tree_of values.now)) (conjunction_from (map tree_of values.now)) (map_ok (λ v. v.items) result) }
+{
+    let mut preds = Vec::with_capacity(alloc, values.len())?;
+    for (j, value) in values.iter().enumerate() {
+        preds.push(pred_entry(alloc, i, j, value)?)?;
+    }
+    Ok(preds)
+}
+
+fn pred_entry(alloc: Global, i: usize, j: usize, value: &Value) -> Result<RawPred, CampFault>
+    ensures { Answers CampFault.Memory (pred_at i j (tree_of value.now)) (pred_from (tree_of value.now)) result }
+{
+    match fields::object_in(value) {
+        Ok(pred) => pred_in(alloc, i, j, pred),
+        Err(flaw) => Err(fault(CampField::Predicate(i, j), flaw)),
+    }
+}
+
+#[tactic(auto, using(json_fields::proofs::First::in_front, json_fields::proofs::First::behind, json_fields::proofs::First::neither), unfolding(crate::specs::Target::pred_faults, crate::specs::Target::pred_from, crate::specs::Parts::list_from))]
+fn pred_in(alloc: Global, i: usize, j: usize, pred: &Value) -> Result<RawPred, CampFault>
+    ensures { Answers CampFault.Memory (pred_faults i j (tree_of pred.now)) (pred_from (tree_of pred.now)) result }
+{
+    let attr = text_field(pred, CampField::PredicateAttr(i, j))?;
+    some_list(i, j, pred)?;
+    let admitted = texts_field(alloc, pred, ListField::In(i, j))?;
+    one_list(i, j, pred)?;
+    let excluded = texts_field(alloc, pred, ListField::Not(i, j))?;
+    let negated = has_not(pred);
+    Ok(RawPred {
+        attr,
+        negated,
+        values: choose(negated, admitted, excluded),
+    })
 }
 
 // A predicate lists what it admits or what it excludes.
 fn some_list(i: usize, j: usize, pred: &Value) -> Result<(), CampFault>
-    ensures { Answers CampFault.Memory (fault_where (is_none (present (codes "in") (tree_of pred.now)) && is_none (present (codes "not") (tree_of pred.now))) (CampFault.Missing (CampField.In i j))) tt result }
+    ensures { Answers CampFault.Memory (fault_where (not (has_in (tree_of pred.now)) && not (has_not (tree_of pred.now))) (CampFault.Missing (CampField.In i j))) tt result }
 {
     if has_in(pred) {
         return Ok(());
@@ -44,6 +98,18 @@ fn some_list(i: usize, j: usize, pred: &Value) -> Result<(), CampFault>
     Err(CampFault::Missing {
         field: CampField::In(i, j),
     })
+}
+
+fn has_in(pred: &Value) -> bool
+    ensures { result ≡ has_in (tree_of pred.now) }
+{
+    fields::present(pred, CampField::In(0, 0).member()).is_some()
+}
+
+fn has_not(pred: &Value) -> bool
+    ensures { result ≡ has_not (tree_of pred.now) }
+{
+    fields::present(pred, CampField::Not(0, 0).member()).is_some()
 }
 
 // It does not list both.
@@ -61,65 +127,10 @@ fn one_list(i: usize, j: usize, pred: &Value) -> Result<(), CampFault>
     })
 }
 
-fn chosen(negated: bool, admitted: List<Txt>, excluded: List<Txt>) -> List<Txt>
-    ensures { result ≡ cond negated excluded admitted }
+fn choose(negated: bool, admitted: List<Txt>, excluded: List<Txt>) -> List<Txt>
+    ensures { result ≡ (if negated then excluded else admitted) }
 {
     if negated { excluded } else { admitted }
-}
-
-#[tactic(auto, using(json_fields::proofs::First::in_front, json_fields::proofs::First::behind, json_fields::proofs::First::neither), unfolding(crate::specs::Target::pred_faults, crate::specs::Target::pred_from, crate::specs::Parts::list_from))]
-fn pred_in(alloc: Global, i: usize, j: usize, pred: &Value) -> Result<RawPred, CampFault>
-    ensures { Answers CampFault.Memory (pred_faults i j (tree_of pred.now)) (pred_from (tree_of pred.now)) result }
-{
-    let attr = text_field(pred, b"attr", CampField::PredicateAttr(i, j))?;
-    some_list(i, j, pred)?;
-    let admitted = texts_field(alloc, pred, ListField::In(i, j))?;
-    one_list(i, j, pred)?;
-    let excluded = texts_field(alloc, pred, ListField::Not(i, j))?;
-    let negated = has_not(pred);
-    Ok(RawPred {
-        attr,
-        negated,
-        values: chosen(negated, admitted, excluded),
-    })
-}
-
-fn pred_entry(alloc: Global, i: usize, j: usize, value: &Value) -> Result<RawPred, CampFault>
-    ensures { Answers CampFault.Memory (pred_at i j (tree_of value.now)) (pred_from (tree_of value.now)) result }
-{
-    match fields::object_in(value) {
-        Ok(pred) => pred_in(alloc, i, j, pred),
-        Err(flaw) => Err(fault(CampField::Predicate(i, j), flaw)),
-    }
-}
-
-fn all_preds(alloc: Global, i: usize, values: &[Value]) -> Result<Vec<RawPred>, CampFault>
-    ensures { Answers CampFault.Memory (conjunction_faults i (map tree_of values.now)) (conjunction_from (map tree_of values.now)) (map_ok (λ v. v.items) result) }
-{
-    let mut preds = Vec::with_capacity(alloc, values.len())?;
-    for (j, value) in values.iter().enumerate() {
-        preds.push(pred_entry(alloc, i, j, value)?)?;
-    }
-    Ok(preds)
-}
-
-fn conjunction_entry(alloc: Global, i: usize, value: &Value) -> Result<List<RawPred>, CampFault>
-    ensures { Answers CampFault.Memory (conjunction_at i (tree_of value.now)) (conjunction_from (value_or [] (as_array (tree_of value.now)))) result }
-{
-    match fields::array_in(value) {
-        Ok(values) => Ok(List::from_vec(all_preds(alloc, i, values)?)),
-        Err(flaw) => Err(fault(CampField::Conjunction(i), flaw)),
-    }
-}
-
-fn all_conjunctions(alloc: Global, values: &[Value]) -> Result<Vec<List<RawPred>>, CampFault>
-    ensures { Answers CampFault.Memory (each_at conjunction_at (map tree_of values.now)) (conjunctions_from (map tree_of values.now)) (map_ok (λ v. v.items) result) }
-{
-    let mut conjunctions = Vec::with_capacity(alloc, values.len())?;
-    for (i, value) in values.iter().enumerate() {
-        conjunctions.push(conjunction_entry(alloc, i, value)?)?;
-    }
-    Ok(conjunctions)
 }
 
 // One conjunction of no predicate, which is true of everything.
@@ -129,15 +140,4 @@ fn everything(alloc: Global) -> Result<List<List<RawPred>>, AllocError>
     let mut raw = List::new(alloc);
     raw.push(List::new(alloc))?;
     Ok(raw)
-}
-
-// The target, where it is absent everything.
-pub(crate) fn target_field(alloc: Global, body: &Value) -> Result<List<List<RawPred>>, CampFault>
-    ensures { Answers CampFault.Memory (target_faults (tree_of body.now)) (target_from (tree_of body.now)) result }
-{
-    match fields::array(body, b"target") {
-        Ok(Some(values)) => Ok(List::from_vec(all_conjunctions(alloc, values)?)),
-        Ok(None) => Ok(everything(alloc)?),
-        Err(flaw) => Err(fault(CampField::Target, flaw)),
-    }
 }

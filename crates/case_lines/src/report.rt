@@ -92,24 +92,24 @@ struct Came {
 
 fn answer_to<A: Areas>(alloc: Global, line: &str) -> Result<Came, AllocError> {
     let Some((asked, wanted)) = line.rsplit_once(" => ") else {
-        return told(alloc, b"no answer is given");
+        return tell(alloc, b"no answer is given");
     };
     let Some(wanted) = expand(alloc, wanted)? else {
-        return told(alloc, b"the answer is not in the notation");
+        return tell(alloc, b"the answer is not in the notation");
     };
     let Some(fields) = fields_of(alloc, asked)? else {
-        return told(alloc, b"a field is not in the notation");
+        return tell(alloc, b"a field is not in the notation");
     };
     let mut text = Txt::new(alloc);
     if !ask::<A>(alloc, fields.as_slice(), &mut text)? {
-        return told(alloc, b"no such call");
+        return tell(alloc, b"no such call");
     }
     let agrees = text.as_bytes() == wanted.as_bytes();
     Ok(Came { agrees, text })
 }
 
 // A case that could not be asked.
-fn told(alloc: Global, why: &[u8]) -> Result<Came, AllocError> {
+fn tell(alloc: Global, why: &[u8]) -> Result<Came, AllocError> {
     let text = Txt::from_slice(alloc, why)?;
     Ok(Came {
         agrees: false,

@@ -9,7 +9,7 @@ use Rattle.std.proofs.lemmas.Bool.{cases_eq, false≢true}
 use Rattle.std.proofs.lemmas.List.Kept.{Contains-dedup_nat, Contains-from_dedup}
 use Rattle.std.proofs.lemmas.List.Sorted.{Contains-permutation, IsPermutation-sym}
 use Rattle.std.proofs.lemmas.Map.Keys.{IsStrictlyIncreasing-dedup}
-use Rattle.std.proofs.lemmas.Option.{slice_get-map, slice_get_within}
+use Rattle.std.proofs.lemmas.Option.{slice_get-map, slice_get_within, same_Some}
 use Rattle.conj_match.specs.Matching.{is_match}
 use Rattle.target_expr.specs.declared.attr.Attr.{Attr}
 use Rattle.target_expr.specs.Pairs.{size_of}
@@ -37,27 +37,24 @@ record Stands (cs : List Listed) (id : ℕ) (c : Listed) : Type 0 where
   pub same : cs ≡ front ++ c ∷ back
   pub long : length front ≡ id
 
-some_same : {X : Type 0} (x y : X) → Some x ≡ Some y → x ≡ y
-some_same x y e = cc
-
 none_some : {X : Type 0} (x : X) → None ≡ Some x → ⊥
 none_some x e = cc
 
 stands : (cs : List Listed) (id : ℕ) (c : Listed) → slice_get cs id ≡ Some c → Stands cs id c
 stands [] id c e = absurd (none_some c e)
-stands (d ∷ cs) zero c e = record { front = []; back = cs; same = ap (λ (x : Listed). x ∷ cs) (some_same d c e); long = refl }
+stands (d ∷ cs) zero c e = record { front = []; back = cs; same = ap (λ (x : Listed). x ∷ cs) (same_Some d c e); long = refl }
 stands (d ∷ cs) (suc id) c e =
     let s = stands cs id c e in
     record { front = d ∷ s.front; back = s.back; same = ap (λ l. d ∷ l) s.same; long = omega (arith, s.long) }
 
 stands_has : (cs : List Listed) (id : ℕ) (c : Listed) → slice_get cs id ≡ Some c → Has c cs
 stands_has [] id c e = absurd (none_some c e)
-stands_has (d ∷ cs) zero c e = inl (sym (some_same d c e))
+stands_has (d ∷ cs) zero c e = inl (sym (same_Some d c e))
 stands_has (d ∷ cs) (suc id) c e = inr (stands_has cs id c e)
 
 owned_by : (cs : List Listed) (id z : ℕ) → slice_get (map (λ (c : Listed). c.owner) cs) id ≡ Some z → (c : Listed) × (slice_get cs id ≡ Some c) × (c.owner ≡ z)
 owned_by [] id z e = absurd (none_some z e)
-owned_by (d ∷ cs) zero z e = (d, refl, some_same d.owner z e)
+owned_by (d ∷ cs) zero z e = (d, refl, same_Some d.owner z e)
 owned_by (d ∷ cs) (suc id) z e = owned_by cs id z e
 
 owner_at : (cs : List Listed) (id : ℕ) (c : Listed) → slice_get cs id ≡ Some c → slice_get (map (λ (d : Listed). d.owner) cs) id ≡ Some c.owner
@@ -107,7 +104,7 @@ module _ (a : Pairs) (single : are_single a ≡ true) (added : Campaigns) (index
   found_is_true : (k id z : ℕ) (part : Part) → slice_get (take (length a + 1) index.parts) k ≡ Some part → IsFoundIn a index.owners k part id z → Has z (true_under a added)
   found_is_true k id z part at f =
       let part_of = is.parts k part (taken_at index.parts (length a + 1) k part at) in
-      let (c, there, owner) = owned_by cs id z (ap (λ (o : List ℕ). slice_get o id) (sym is.owners) ∙ f.owned) in
+      let (c, there, owner) = owned_by cs id z (ap (λ (o : List ℕ). slice_get o id) (sym is.owners) ∙ f.with_owner) in
       let member : Has c cs = stands_has cs id c there in
       let apart = apart_from_kept c.preds (kept_member added is.kept c member) in
       let size : size_of c.preds ≡ k = elim (by_size (size_of c.preds) k) [ inl e ↦ e | inr other ↦ absurd (sized k cs part a id c part_of there f.matched other) ] in
@@ -124,8 +121,8 @@ module _ (a : Pairs) (single : are_single a ≡ true) (added : Campaigns) (index
       let (part, at) = within_at index.parts (size_of c.preds) (omega (arith, most, is.sizes)) in
       let taken : slice_get (take (length a + 1) index.parts) (size_of c.preds) ≡ Some part = at_taken index.parts (length a + 1) (size_of c.preds) part (omega (arith, small)) at in
       let matched : is_match (found_lists a (size_of c.preds) part) (max (size_of c.preds) 1) id ≡ true = match_holds (size_of c.preds) cs part a id c (is.parts (size_of c.preds) part at) there refl apart single ∙ holds_c in
-      let owned : slice_get index.owners id ≡ Some z = ap (λ (o : List ℕ). slice_get o id) is.owners ∙ owner_at cs id c there ∙ ap Some owner in
-      found.whole (size_of c.preds) id z part (omega (arith, slice_get_within (take (length a + 1) index.parts) (size_of c.preds) part taken, all)) taken (record { matched = matched; owned = owned })
+      let with_owner : slice_get index.owners id ≡ Some z = ap (λ (o : List ℕ). slice_get o id) is.owners ∙ owner_at cs id c there ∙ ap Some owner in
+      found.whole (size_of c.preds) id z part (omega (arith, slice_get_within (take (length a + 1) index.parts) (size_of c.preds) part taken, all)) taken (record { matched = matched; with_owner = with_owner })
 
   -- sorted and each once, the numbers found are those of the campaigns that are true
   pub answer_is : (n : ℕ) (numbers sorted : List ℕ) → length (take (length a + 1) index.parts) ≤ n → AreFound a index.owners (take (length a + 1) index.parts) n numbers

@@ -3,9 +3,10 @@ use Rattle.std.proofs.Common.{◌≡◌, ℕ, ◌+◌, ◌≤◌, ◌<◌, List,
 use Rattle.std.proofs.lemmas.List.{take_more, take-append-drop, map-append, length-append, append-nil}
 use Rattle.std.proofs.lemmas.List.Concat.{flat_map-append}
 use Rattle.std.proofs.lemmas.List.Elements.{filter_more}
+use Rattle.conj_index.proofs.BuildLoops.{expression_more}
 use Rattle.target_expr.specs.declared.attr.Attr.{Attr}
 use Rattle.target_expr.specs.declared.pred.Pred.{Pred}
-use Rattle.target_expr.specs.Truth.{holds, tested}
+use Rattle.target_expr.specs.Truth.{holds, tests_in}
 use Rattle.conj_index.specs.Campaigns.{Campaigns, conjunctions_in, expression_of}
 use Rattle.conj_index.specs.Find.{true_under}
 
@@ -28,14 +29,9 @@ asked_step a xs i d old new b h at was pushed is =
     pushed ∙ ap (λ l. l ++ cond b (d.0 ∷ []) []) was ∙ ap (λ (v : Bool). true_under a (take i xs) ++ cond v (d.0 ∷ []) []) is
     ∙ ap given at ∙ sym (asked_more a xs i d h)
 
-expression_more : (xs : Campaigns) (i : ℕ) (d : ℕ × List (List Pred)) → i < length xs → expression_of (take (i + 1) xs) ≡ expression_of (take i xs) ++ (get_or xs i d).1
-expression_more xs i d h =
-    ap expression_of (take_more xs i d h) ∙ flat_map-append (λ (p : ℕ × List (List Pred)). p.1) (take i xs) (get_or xs i d ∷ [])
-    ∙ ap (λ l. expression_of (take i xs) ++ l) (append-nil ((get_or xs i d).1))
-
 -- the conjunctions that one campaign more has looked at
 pub cost_step : (a : List (Attr × List ℕ)) (xs : Campaigns) (i : ℕ) (d : ℕ × List (List Pred)) (start old new : ℕ) → i < length xs
-    → old ≤ start + conjunctions_in (take i xs) → new ≡ old + tested a (get_or xs i d).1 → new ≤ start + conjunctions_in (take (i + 1) xs)
+    → old ≤ start + conjunctions_in (take i xs) → new ≡ old + tests_in a (get_or xs i d).1 → new ≤ start + conjunctions_in (take (i + 1) xs)
 cost_step a xs i d start old new h was looked =
     let more = ap length (expression_more xs i d h) ∙ length-append (expression_of (take i xs)) (get_or xs i d).1 in
     omega (arith, more, looked, was)

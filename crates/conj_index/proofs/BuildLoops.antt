@@ -10,7 +10,7 @@ use Rattle.std.proofs.lemmas.List.Elements.{filter_map-append}
 use Rattle.postings.specs.declared.entry.Entry.{Entry}
 use Rattle.target_expr.specs.declared.pred.Pred.{Pred}
 use Rattle.conj_index.specs.Campaigns.{Campaigns, expression_of}
-use Rattle.conj_index.specs.Content.{Listed, conjunctions_of, owned}
+use Rattle.conj_index.specs.Content.{Listed, conjunctions_of, with_owner}
 use Rattle.conj_index.specs.Growing.{greatest, zero_entry, zero_of}
 
 greatest-push : (ns : List ℕ) (n : ℕ) → greatest (ns ++ n ∷ []) ≡ max (greatest ns) n
@@ -56,12 +56,12 @@ expression_more xs i d h =
     ap expression_of (take_more xs i d h) ∙ flat_map-append (λ (p : ℕ × List (List Pred)). p.1) (take i xs) (get_or xs i d ∷ [])
     ∙ ap (λ l. expression_of (take i xs) ++ l) (append-nil ((get_or xs i d).1))
 
-pub conjunctions_more : (xs : Campaigns) (i : ℕ) (d : ℕ × List (List Pred)) → i < length xs → conjunctions_of (take (i + 1) xs) ≡ conjunctions_of (take i xs) ++ owned (get_or xs i d)
+pub conjunctions_more : (xs : Campaigns) (i : ℕ) (d : ℕ × List (List Pred)) → i < length xs → conjunctions_of (take (i + 1) xs) ≡ conjunctions_of (take i xs) ++ with_owner (get_or xs i d)
 conjunctions_more xs i d h =
-    ap conjunctions_of (take_more xs i d h) ∙ flat_map-append owned (take i xs) (get_or xs i d ∷ [])
-    ∙ ap (λ l. conjunctions_of (take i xs) ++ l) (append-nil (owned (get_or xs i d)))
+    ap conjunctions_of (take_more xs i d h) ∙ flat_map-append with_owner (take i xs) (get_or xs i d ∷ [])
+    ∙ ap (λ l. conjunctions_of (take i xs) ++ l) (append-nil (with_owner (get_or xs i d)))
 
-pub owners_owned : (n : ℕ) (e : List (List Pred)) → map (λ (c : Listed). c.owner) (owned (n, e)) ≡ replicate (length e) n
+pub owners_owned : (n : ℕ) (e : List (List Pred)) → map (λ (c : Listed). c.owner) (with_owner (n, e)) ≡ replicate (length e) n
 owners_owned n [] = refl
 owners_owned n (c ∷ e) = ap (λ l. n ∷ l) (owners_owned n e)
 
@@ -72,8 +72,8 @@ pub owners_step : (added : Campaigns) (i : ℕ) (p : ℕ × List (List Pred)) (o
 owners_step added i p old new times h is count was pushed =
     pushed ∙ ap (λ l. l ++ replicate times p.0) was
     ∙ ap (λ l. map (λ (c : Listed). c.owner) (conjunctions_of (take i added)) ++ l)
-    (ap (λ n. replicate n p.0) count ∙ sym (owners_owned p.0 p.1) ∙ ap (λ (q : ℕ × List (List Pred)). map (λ (c : Listed). c.owner) (owned q)) is)
-    ∙ sym (map-append (λ (c : Listed). c.owner) (conjunctions_of (take i added)) (owned (get_or added i p)))
+    (ap (λ n. replicate n p.0) count ∙ sym (owners_owned p.0 p.1) ∙ ap (λ (q : ℕ × List (List Pred)). map (λ (c : Listed). c.owner) (with_owner q)) is)
+    ∙ sym (map-append (λ (c : Listed). c.owner) (conjunctions_of (take i added)) (with_owner (get_or added i p)))
     ∙ ap (map (λ (c : Listed). c.owner)) (sym (conjunctions_more added i p h))
 
 pub max_by_order : (m n : ℕ) → ord_max nat_cmp m n ≡ max m n

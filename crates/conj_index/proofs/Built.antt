@@ -3,7 +3,7 @@ use Rattle.std.proofs.Common.{◌≡◌, ℕ, zero, suc, ◌+◌, ◌==◌, List
 use Rattle.std.specs.List.{IsDistinct, list_any}
 use Rattle.std.proofs.lemmas.List.{length-map, map-append}
 use Rattle.std.proofs.lemmas.List.Elements.{All-append, All-cons, All-map, All-nil, All-same}
-use Rattle.std.proofs.lemmas.Option.{slice_get-get_or}
+use Rattle.std.proofs.lemmas.Option.{slice_get-get_or, same_Some}
 use Rattle.indexmap.specs.IndexMap.{keys}
 use Rattle.postings.specs.declared.entry.Entry.{Entry}
 use Rattle.postings.specs.Order.{IsRising}
@@ -15,22 +15,22 @@ use Rattle.conj_index.specs.declared.index.Index.{Index}
 use Rattle.conj_index.specs.declared.key.Key.{Key}
 use Rattle.conj_index.specs.declared.part.Part.{Part}
 use Rattle.conj_index.specs.Campaigns.{AreKept, Campaigns, DoRise, expression_of}
-use Rattle.conj_index.specs.Content.{IsIndexOf, IsPartOf, Listed, conjunctions_of, entries_of, owned, same_key, zero_entries, zero_lists}
-use Rattle.conj_index.specs.Growing.{AreFull, AreGrown, HasZeroList, IsFull, IsGrown, finished, greatest, is_of, lists_of, pair_entries, zero_of}
-use Rattle.conj_index.proofs.Entering.{map_agree, some_none, some_same}
+use Rattle.conj_index.specs.Content.{IsIndexOf, IsPartOf, Listed, conjunctions_of, entries_of, with_owner, same_key, zero_entries, zero_lists}
+use Rattle.conj_index.specs.Growing.{AreFull, AreGrown, HasZeroList, IsFull, IsGrown, finish, greatest, is_of, lists_of, pair_entries, zero_of}
+use Rattle.conj_index.proofs.Entering.{map_agree, some_none}
 use Rattle.conj_index.proofs.Members.{Has}
 use Rattle.conj_index.proofs.Pairs.{AllKept, entries_by_pairs, greatest_by_sizes, named_by_pairs, preds_of, zero_by_sizes}
 use Rattle.conj_index.proofs.Rising.{entries_rise, zeros_rise}
 use Rattle.conj_index.proofs.Truths.{kept_member}
 
-owned_preds : (n : ℕ) (e : List (List Pred)) → preds_of (owned (n, e)) ≡ e
+owned_preds : (n : ℕ) (e : List (List Pred)) → preds_of (with_owner (n, e)) ≡ e
 owned_preds n [] = refl
 owned_preds n (c ∷ e) = ap (λ l. c ∷ l) (owned_preds n e)
 
 pub preds_all : (added : Campaigns) → preds_of (conjunctions_of added) ≡ expression_of added
 preds_all [] = refl
 preds_all (p ∷ added) =
-    map-append (λ (c : Listed). c.preds) (owned p) (conjunctions_of added)
+    map-append (λ (c : Listed). c.preds) (with_owner p) (conjunctions_of added)
     ∙ ap (λ l. l ++ preds_of (conjunctions_of added)) (owned_preds p.0 p.1)
     ∙ ap (λ l. p.1 ++ l) (preds_all added)
 
@@ -80,21 +80,21 @@ full_rise cs full each = λ k d h.
     zero true = All-cons IsRising (zero_entries cs) [] (zeros_rise cs) (All-nil IsRising)
     zero false = All-nil IsRising
 
-mapped_get : (full : List Growing) (k : ℕ) (part : Part) → slice_get (map finished full) k ≡ Some part → (x : Growing) × (slice_get full k ≡ Some x) × (finished x ≡ part)
+mapped_get : (full : List Growing) (k : ℕ) (part : Part) → slice_get (map finish full) k ≡ Some part → (x : Growing) × (slice_get full k ≡ Some x) × (finish x ≡ part)
 mapped_get [] k part there = absurd (some_none part there)
-mapped_get (x ∷ full) zero part there = (x, refl, some_same (finished x) part there)
+mapped_get (x ∷ full) zero part there = (x, refl, same_Some (finish x) part there)
 mapped_get (x ∷ full) (suc k) part there = mapped_get full k part there
 
 -- the index of the finished parts
 pub index_stands : (added : Campaigns) (index : Index) (full : List Growing) → DoRise added → AreKept added
     → index.owners ≡ map (λ (c : Listed). c.owner) (conjunctions_of added)
-    → length full ≡ greatest (sizes_of (expression_of added)) + 1 → AreFull (conjunctions_of added) full → index.parts ≡ map finished full
+    → length full ≡ greatest (sizes_of (expression_of added)) + 1 → AreFull (conjunctions_of added) full → index.parts ≡ map finish full
     → IsIndexOf added index
 index_stands added index full rising kept owners count each parts = record {
   rising = rising;
   kept = kept;
   owners = owners;
-  sizes = ap length parts ∙ length-map full finished ∙ count
+  sizes = ap length parts ∙ length-map full finish ∙ count
       ∙ ap (λ n. n + 1) (ap (λ e. greatest (sizes_of e)) (sym (preds_all added)) ∙ greatest_by_sizes (conjunctions_of added));
   parts = λ k part there.
       let t = mapped_get full k part (ap (λ l. slice_get l k) (sym parts) ∙ there) in

@@ -9,31 +9,31 @@ use Rattle.target_expr.specs.declared.pred.Pred.{Pred}
 use Rattle.target_expr.specs.declared.pred.Pair.{Pair}
 use Rattle.target_expr.specs.Pairs.{conjunction_pairs, pairs_by, pairs_of, pred_pairs, size_of, sizes_of}
 use Rattle.conj_index.specs.Campaigns.{Campaigns, conjunctions_in, expression_of}
-use Rattle.conj_index.specs.Growing.{greatest, shifted}
+use Rattle.conj_index.specs.Growing.{greatest, shift}
 use Rattle.conj_index.proofs.BuildLoops.{enumerate_from-append, expression_more}
 
 -- ---- conjunctions counted from another number
 
-shift_values : (first n s : ℕ) (p : Pred) (vs : List (List ℕ)) → map (shifted first) (pairs_by n s p vs) ≡ pairs_by (first + n) s p vs
+shift_values : (first n s : ℕ) (p : Pred) (vs : List (List ℕ)) → map (shift first) (pairs_by n s p vs) ≡ pairs_by (first + n) s p vs
 shift_values first n s p [] = refl
 shift_values first n s p (v ∷ vs) = ap (λ l. record { conjunction = first + n; size = s; attr = p.attr; negated = p.negated; value = v } ∷ l) (shift_values first n s p vs)
 
-shift_preds : (first n s : ℕ) (c : List Pred) → map (shifted first) (flat_map (pred_pairs n s) c) ≡ flat_map (pred_pairs (first + n) s) c
+shift_preds : (first n s : ℕ) (c : List Pred) → map (shift first) (flat_map (pred_pairs n s) c) ≡ flat_map (pred_pairs (first + n) s) c
 shift_preds first n s [] = refl
 shift_preds first n s (p ∷ c) =
-    map-append (shifted first) (pred_pairs n s p) (flat_map (pred_pairs n s) c)
-    ∙ ap (λ l. l ++ map (shifted first) (flat_map (pred_pairs n s) c)) (shift_values first n s p p.values)
+    map-append (shift first) (pred_pairs n s p) (flat_map (pred_pairs n s) c)
+    ∙ ap (λ l. l ++ map (shift first) (flat_map (pred_pairs n s) c)) (shift_values first n s p p.values)
     ∙ ap (λ l. pred_pairs (first + n) s p ++ l) (shift_preds first n s c)
 
-shift_all : (first n : ℕ) (e : List (List Pred)) → map (shifted first) (flat_map conjunction_pairs (enumerate_from n e)) ≡ flat_map conjunction_pairs (enumerate_from (first + n) e)
+shift_all : (first n : ℕ) (e : List (List Pred)) → map (shift first) (flat_map conjunction_pairs (enumerate_from n e)) ≡ flat_map conjunction_pairs (enumerate_from (first + n) e)
 shift_all first n [] = refl
 shift_all first n (c ∷ e) =
     let next : first + (n + 1) ≡ first + n + 1 = omega arith in
-    map-append (shifted first) (conjunction_pairs (n, c)) (flat_map conjunction_pairs (enumerate_from (n + 1) e))
-    ∙ ap (λ l. l ++ map (shifted first) (flat_map conjunction_pairs (enumerate_from (n + 1) e))) (shift_preds first n (size_of c) c)
+    map-append (shift first) (conjunction_pairs (n, c)) (flat_map conjunction_pairs (enumerate_from (n + 1) e))
+    ∙ ap (λ l. l ++ map (shift first) (flat_map conjunction_pairs (enumerate_from (n + 1) e))) (shift_preds first n (size_of c) c)
     ∙ ap (λ l. conjunction_pairs (first + n, c) ++ l) (shift_all first (n + 1) e ∙ ap (λ m. flat_map conjunction_pairs (enumerate_from m e)) next)
 
-pairs_append : (d e : List (List Pred)) → pairs_of (d ++ e) ≡ pairs_of d ++ map (shifted (length d)) (pairs_of e)
+pairs_append : (d e : List (List Pred)) → pairs_of (d ++ e) ≡ pairs_of d ++ map (shift (length d)) (pairs_of e)
 pairs_append d e =
     let here : 0 + length d ≡ length d + 0 = omega arith in
     ap (flat_map conjunction_pairs) (enumerate_from-append 0 d e)
@@ -43,7 +43,7 @@ pairs_append d e =
 -- ---- one campaign more
 
 pub pairs_more : (added : Campaigns) (i : ℕ) (p : ℕ × List (List Pred)) → i < length added
-    → pairs_of (expression_of (take (i + 1) added)) ≡ pairs_of (expression_of (take i added)) ++ map (shifted (conjunctions_in (take i added))) (pairs_of (get_or added i p).1)
+    → pairs_of (expression_of (take (i + 1) added)) ≡ pairs_of (expression_of (take i added)) ++ map (shift (conjunctions_in (take i added))) (pairs_of (get_or added i p).1)
 pairs_more added i p h = ap pairs_of (expression_more added i p h) ∙ pairs_append (expression_of (take i added)) ((get_or added i p).1)
 
 pub conjunctions_up : (added : Campaigns) (i : ℕ) (p : ℕ × List (List Pred)) → i < length added
@@ -58,16 +58,16 @@ pub pairs_next : (added : Campaigns) (i : ℕ) (p : ℕ × List (List Pred)) →
     → length (pairs_of (expression_of (take (i + 1) added))) ≡ length (pairs_of (expression_of (take i added))) + length (pairs_of (get_or added i p).1)
 pairs_next added i p h =
     ap length (pairs_more added i p h)
-    ∙ length-append (pairs_of (expression_of (take i added))) (map (shifted (conjunctions_in (take i added))) (pairs_of (get_or added i p).1))
-    ∙ ap (λ n. length (pairs_of (expression_of (take i added))) + n) (length-map (pairs_of (get_or added i p).1) (shifted (conjunctions_in (take i added))))
+    ∙ length-append (pairs_of (expression_of (take i added))) (map (shift (conjunctions_in (take i added))) (pairs_of (get_or added i p).1))
+    ∙ ap (λ n. length (pairs_of (expression_of (take i added))) + n) (length-map (pairs_of (get_or added i p).1) (shift (conjunctions_in (take i added))))
 
 pairs_front : (added : Campaigns) (j : ℕ) → length (pairs_of (expression_of (take j added))) ≤ length (pairs_of (expression_of added))
 pairs_front added j =
-    let whole : pairs_of (expression_of added) ≡ pairs_of (expression_of (take j added)) ++ map (shifted (conjunctions_in (take j added))) (pairs_of (expression_of (drop j added))) =
+    let whole : pairs_of (expression_of added) ≡ pairs_of (expression_of (take j added)) ++ map (shift (conjunctions_in (take j added))) (pairs_of (expression_of (drop j added))) =
     ap (λ (l : Campaigns). pairs_of (expression_of l)) (sym (take-append-drop j added))
     ∙ ap pairs_of (flat_map-append (λ (q : ℕ × List (List Pred)). q.1) (take j added) (drop j added))
     ∙ pairs_append (expression_of (take j added)) (expression_of (drop j added)) in
-    omega (arith, ap length whole, length-append (pairs_of (expression_of (take j added))) (map (shifted (conjunctions_in (take j added))) (pairs_of (expression_of (drop j added)))))
+    omega (arith, ap length whole, length-append (pairs_of (expression_of (take j added))) (map (shift (conjunctions_in (take j added))) (pairs_of (expression_of (drop j added)))))
 
 pub pairs_up : (added : Campaigns) (i : ℕ) (p : ℕ × List (List Pred)) → i < length added
     → length (pairs_of (expression_of (take i added))) + length (pairs_of (get_or added i p).1) ≤ length (pairs_of (expression_of added))

@@ -1,15 +1,15 @@
--- Posting lists rise, since the conjunctions are numbered in order and each has at most one entry.
+-- A conjunction stands at most once in a posting list, since conjunctions are numbered in order.
 use Rattle.std.proofs.Common.{◌≡◌, ℕ, zero, suc, ◌+◌, ◌*◌, ◌≤◌, ◌<◌, ◌==◌, List, [], ◌∷◌, Bool, true, false, cond, Option, Some, None, find, length, map, refl, sym, ◌∙◌, ap, subst, arith, add-one}
 use Rattle.std.specs.Prelude.{option_map}
 use Rattle.std.specs.List.{cons_option, enumerate_from, filter_map}
 use Rattle.postings.specs.declared.entry.Entry.{Entry}
-use Rattle.postings.specs.Order.{IsRising, entry_at, rank_of}
+use Rattle.postings.specs.Order.{entry_at}
 use Rattle.target_expr.specs.declared.pred.Pred.{Pred}
 use Rattle.target_expr.specs.Pairs.{size_of}
 use Rattle.conj_index.specs.declared.key.Key.{Key}
-use Rattle.conj_index.specs.Content.{Listed, entries_of, entry_under, names, of_size, zero_entries}
+use Rattle.conj_index.specs.Content.{Listed, entries_of, entry_under, names, of_size}
 use Rattle.conj_index.specs.Standing.{StandOnce}
-use Rattle.conj_index.proofs.Entries.{numbered, zeros}
+use Rattle.conj_index.proofs.Entries.{numbered}
 
 -- the numbers are at least n, and each is above the one before it
 abbrev pub Climbs : ℕ → List Entry → Type 0
@@ -32,14 +32,6 @@ list_climbs n k key (c ∷ cs) = by_size (size_of c.preds == k) (list_climbs (n 
     by_size true later = one_here n (find (names key) c.preds) (numbered (n + 1) k key cs) later
     by_size false later = lower n (n + 1) (numbered (n + 1) k key cs) (omega arith) later
 
-zeros_climb : (n : ℕ) (cs : List Listed) → Climbs n (zeros n cs)
-zeros_climb n [] = tt
-zeros_climb n (c ∷ cs) = by_size (size_of c.preds == 0) (zeros_climb (n + 1) cs)
-  where
-    by_size : (b : Bool) → Climbs (n + 1) (zeros (n + 1) cs) → Climbs n (map (λ (q : ℕ × Listed). record { id = q.0; negated = false }) (cond b ((n, c) ∷ of_size 0 (enumerate_from (n + 1) cs)) (of_size 0 (enumerate_from (n + 1) cs))))
-    by_size true later = (omega arith, later)
-    by_size false later = lower n (n + 1) (zeros (n + 1) cs) (omega arith) later
-
 -- ---- what climbs is in order
 
 least_at : (n : ℕ) (es : List Entry) → Climbs n es → (j : ℕ) → j < length es → n ≤ (entry_at es j).id
@@ -58,25 +50,6 @@ once_in n (e ∷ es) h zero (suc j) lt within =
 once_in n (e ∷ es) h (suc i) zero lt within = absurd (omega (arith, lt))
 once_in n (e ∷ es) h (suc i) (suc j) lt within = once_in (e.id + 1) es h.1 i j (omega (arith, lt)) (omega (arith, within))
 
-rank_above : (e f : Entry) → e.id < f.id → rank_of e < rank_of f
-rank_above e f lt = by e.negated f.negated
-  where
-    by : (b d : Bool) → 2 * e.id + cond b 0 1 < 2 * f.id + cond d 0 1
-    by true true = omega (arith, lt)
-    by true false = omega (arith, lt)
-    by false true = omega (arith, lt)
-    by false false = omega (arith, lt)
-
-rising_from : (es : List Entry) → StandOnce es → IsRising es
-rising_from es once i lt = rank_above (entry_at es i) (entry_at es (i + 1)) (once i (i + 1) (omega arith) lt)
-
 pub lists_once : (k : ℕ) (cs : List Listed) (key : Key) → StandOnce (entries_of k cs key)
 unfolding entries_of
 lists_once k cs key = once_in 0 (numbered 0 k key cs) (list_climbs 0 k key cs)
-
-pub lists_rise : (k : ℕ) (cs : List Listed) (key : Key) → IsRising (entries_of k cs key)
-lists_rise k cs key = rising_from (entries_of k cs key) (lists_once k cs key)
-
-pub zeros_rise : (cs : List Listed) → IsRising (zero_entries cs)
-unfolding zero_entries
-zeros_rise cs = rising_from (zeros 0 cs) (once_in 0 (zeros 0 cs) (zeros_climb 0 cs))

@@ -4,11 +4,12 @@ use Rattle.std.specs.List.{AllByRecursion, IsDistinct, cons_option, list_any, po
 use Rattle.std.specs.Str.{bytes_eq}
 use Rattle.std.specs.Map.{keys_of}
 use Rattle.std.proofs.lemmas.Bool.{and_from, eq-eqb, false≢true, ne_eqb, or_parts}
-use Rattle.std.proofs.lemmas.Option.{slice_get-get_or}
+use Rattle.std.proofs.lemmas.Option.{slice_get-get_or, same_Some}
 use Rattle.std.proofs.lemmas.List.{append-nil}
 use Rattle.std.proofs.lemmas.List.Elements.{filter_map-append}
 use Rattle.std.proofs.lemmas.List.Folds.{list_any-append}
 use Rattle.std.proofs.lemmas.Slice.Eq.{bytes_eq-Decides}
+use Rattle.std.specs.Cmp.Derive.{one_truth}
 use Rattle.indexmap.specs.IndexMap.{insert_entry, keys}
 use Rattle.postings.specs.declared.entry.Entry.{Entry}
 use Rattle.target_expr.specs.declared.pred.Pair.{Pair}
@@ -27,16 +28,11 @@ use Rattle.conj_index.proofs.Served.{key_same}
 own_key : (a : Key) → same_key a a ≡ true
 own_key a = and_from (same_attr a.attr a.attr) (bytes_eq a.value a.value) (eq-eqb (number_of a.attr) (number_of a.attr) refl) ((bytes_eq-Decides a.value a.value).1 refl)
 
-same_tests : (x y : Bool) → (x ≡ true → y ≡ true) → (y ≡ true → x ≡ true) → x ≡ y
-same_tests true y to back = sym (to refl)
-same_tests false true to back = absurd (false≢true (back refl))
-same_tests false false to back = refl
-
 turned : (a b : Key) → same_key a b ≡ true → same_key b a ≡ true
 turned a b h = let e : a ≡ b = key_same a b h in ap (λ k. same_key k a) (sym e) ∙ own_key a
 
 same_turned : (a b : Key) → same_key a b ≡ same_key b a
-same_turned a b = same_tests (same_key a b) (same_key b a) (turned a b) (turned b a)
+same_turned a b = one_truth (same_key a b) (same_key b a) (turned a b) (turned b a)
 
 or_nil : (b : Bool) → (b || false) ≡ b
 or_nil true = refl
@@ -174,15 +170,12 @@ grown_none k part none no_list unique = record {
 
 -- ---- a list, by its places
 
-pub some_same : {X : Type 0} (x y : X) → Some x ≡ Some y → x ≡ y
-some_same x y e = cc
-
 pub some_none : {X : Type 0} (x : X) → None ≡ Some x → ⊥
 some_none x e = cc
 
 pub gets_push : {V : Type 0} (P : ℕ → V → Type 0) (xs : List V) (v : V) → ((k : ℕ) (x : V) → slice_get xs k ≡ Some x → P k x) → ((k : ℕ) → P k v)
     → (k : ℕ) (x : V) → slice_get (xs ++ v ∷ []) k ≡ Some x → P k x
-gets_push P [] v each new zero x is = subst (P 0) (some_same v x is) (new 0)
+gets_push P [] v each new zero x is = subst (P 0) (same_Some v x is) (new 0)
 gets_push P [] v each new (suc k) x is = absurd (some_none x is)
 gets_push P (y ∷ xs) v each new zero x is = each 0 x is
 gets_push P (y ∷ xs) v each new (suc k) x is = gets_push (λ n. P (suc n)) xs v (λ n. each (suc n)) (λ n. new (suc n)) k x is
@@ -190,7 +183,7 @@ gets_push P (y ∷ xs) v each new (suc k) x is = gets_push (λ n. P (suc n)) xs 
 gets_set : {V : Type 0} (P : ℕ → V → Type 0) (xs : List V) (n : ℕ) (v : V) → ((k : ℕ) (x : V) → (k ≡ n → ⊥) → slice_get xs k ≡ Some x → P k x) → P n v
     → (k : ℕ) (x : V) → slice_get (set xs n v) k ≡ Some x → P k x
 gets_set P [] n v each new k x is = absurd (some_none x is)
-gets_set P (y ∷ xs) zero v each new zero x is = subst (P 0) (some_same v x is) new
+gets_set P (y ∷ xs) zero v each new zero x is = subst (P 0) (same_Some v x is) new
 gets_set P (y ∷ xs) zero v each new (suc k) x is = each (suc k) x (λ e. omega arith) is
 gets_set P (y ∷ xs) (suc n) v each new zero x is = each 0 x (λ e. omega arith) is
 gets_set P (y ∷ xs) (suc n) v each new (suc k) x is = gets_set (λ m. P (suc m)) xs n v (λ m z ne. each (suc m) z (λ e. ne (omega arith))) new k x is
@@ -214,6 +207,6 @@ pub zero_pushed : (parts : List Growing) (old new : Growing) (zs : List Entry) �
     → (k : ℕ) (part : Growing) → slice_get (set parts 0 new) k ≡ Some part → (x : Growing) × (slice_get parts k ≡ Some x) × HasZeroList k zs x part
 zero_pushed [] old new zs within is same pushed k part there = absurd (omega arith)
 zero_pushed (p ∷ parts) old new zs within is same pushed zero part there =
-    subst (λ (x : Growing). (y : Growing) × (Some p ≡ Some y) × HasZeroList 0 zs y x) (some_same new part there) (old, ap Some (sym is), (same, pushed))
+    subst (λ (x : Growing). (y : Growing) × (Some p ≡ Some y) × HasZeroList 0 zs y x) (same_Some new part there) (old, ap Some (sym is), (same, pushed))
 zero_pushed (p ∷ parts) old new zs within is same pushed (suc k) part there =
     (part, there, (refl, sym (ap (λ b. lists_of part ++ cond b (zs ∷ []) []) (ne_eqb (suc k) 0 (λ e. omega arith)) ∙ append-nil (lists_of part))))

@@ -1,5 +1,5 @@
 -- One part more in a search.
-use Rattle.std.proofs.Common.{◌≡◌, ℕ, zero, suc, ◌+◌, ◌<◌, ◌≤◌, ◌==◌, ◌||◌, inl, inr, max, List, [], ◌∷◌, ◌++◌, length, get_or, slice_get, take, Bool, true, false, not, Some, map, sym, ◌∙◌, ap, subst, arith, sum_by, eqb, lit<}
+use Rattle.std.proofs.Common.{◌≡◌, ℕ, zero, suc, ◌+◌, ◌<◌, ◌≤◌, ◌==◌, ◌||◌, inl, inr, max, List, [], ◌∷◌, ◌++◌, length, get_or, slice_get, take, Bool, true, false, not, Some, map, sym, ◌∙◌, ap, subst, arith, sum_by, eqb}
 use Rattle.std.specs.List.{AllByRecursion, Contains, IsDistinct, filter_map, list_any}
 use Rattle.std.proofs.lemmas.Bool.{and_parts, cases_eq, eqb-true, not-true, or_parts}
 use Rattle.std.proofs.lemmas.Bool.Decides.{nat_tests}
@@ -7,9 +7,10 @@ use Rattle.std.proofs.lemmas.List.{length-map, take_all, take_more}
 use Rattle.std.proofs.lemmas.List.FromFn.{get_or-enumerate_from, length-enumerate_from}
 use Rattle.std.proofs.lemmas.List.Sums.{sum_by-append, sum_by-cons, sum_by-take-le}
 use Rattle.std.proofs.lemmas.Map.Steps.{length-le_from_distinct_below}
+use Rattle.std.proofs.lemmas.Option.{same_Some}
+use Rattle.target_expr.proofs.Attributes.{in_table}
 use Rattle.conj_match.specs.Matching.{IsAnswer, is_match}
 use Rattle.target_expr.specs.declared.attr.Attr.{Attr}
-use Rattle.target_expr.specs.declared.attr.Attr.TheVariants.{Domain, Site, Bundle, App, Publisher, Country, Region, Metro, City, Zip, DeviceType, Make, Model, Os, Osv, Language, Carrier, ConnectionType, Yob, Gender, TagId, Pos}
 use Rattle.target_expr.specs.Attributes.{number_of}
 use Rattle.target_expr.specs.Truth.{are_single, same_attr}
 use Rattle.conj_index.specs.declared.part.Part.{Part}
@@ -22,9 +23,6 @@ abbrev Pairs : Type 0
 Pairs = List (Attr × List ℕ)
 
 -- ---- what is found
-
-some_same : {X : Type 0} (x y : X) → Some x ≡ Some y → x ≡ y
-some_same x y e = cc
 
 pub found_none : (a : Pairs) (owners : List ℕ) (parts : List Part) → AreFound a owners parts 0 []
 found_none a owners parts = record {
@@ -39,15 +37,15 @@ found_next a owners parts n part numbers ids new found there answer is = record 
       elim (has_either numbers (filter_map (slice_get owners) ids) z (has_from_contains (numbers ++ filter_map (slice_get owners) ids) z (subst (λ (l : List ℕ). Contains l z) is h))) [
         | inl l ↦ let (k, id, at, below, is_at, f) = found.sound z (contains_from_has numbers z l) in (k, id, at, omega (arith, below), is_at, f)
         | inr r ↦
-            let (id, has, owned) = found_has (slice_get owners) ids z r in
-            (n, id, part, omega arith, there, record { matched = (answer.exact id).0 (contains_from_has ids id has); owned = owned })
+            let (id, has, with_owner) = found_has (slice_get owners) ids z r in
+            (n, id, part, omega arith, there, record { matched = (answer.exact id).0 (contains_from_has ids id has); with_owner = with_owner })
       ];
   whole = λ k id z at h is_at f. subst (λ (l : List ℕ). Contains l z) (sym is) (contains_from_has (numbers ++ filter_map (slice_get owners) ids) z (
       elim (cases_eq k n) [
         | inl e ↦
-            let same : at ≡ part = some_same at part (sym is_at ∙ ap (slice_get parts) e ∙ there) in
+            let same : at ≡ part = same_Some at part (sym is_at ∙ ap (slice_get parts) e ∙ there) in
             let matched : is_match (found_lists a n part) (max n 1) id ≡ true = ap (λ (m : ℕ). is_match (found_lists a m part) (max m 1) id) (sym e) ∙ ap (λ (p : Part). is_match (found_lists a k p) (max k 1) id) (sym same) ∙ f.matched in
-            has_right numbers (filter_map (slice_get owners) ids) z (has_found (slice_get owners) ids id z (has_from_contains ids id ((answer.exact id).1 matched)) f.owned)
+            has_right numbers (filter_map (slice_get owners) ids) z (has_found (slice_get owners) ids id z (has_from_contains ids id ((answer.exact id).1 matched)) f.with_owner)
         | inr other ↦ has_left numbers (filter_map (slice_get owners) ids) z (has_from_contains numbers z (found.whole k id z at (below k n h other) is_at f))
       ]));
 }
@@ -84,30 +82,6 @@ cost_whole a index i h = take_all i (looked_at a index) (omega (arith, h, length
 
 -- ---- an assignment has few pairs
 
-number_low : (t : Attr) → number_of t < 23
-number_low Domain = lit< tt
-number_low Site = lit< tt
-number_low Bundle = lit< tt
-number_low App = lit< tt
-number_low Publisher = lit< tt
-number_low Country = lit< tt
-number_low Region = lit< tt
-number_low Metro = lit< tt
-number_low City = lit< tt
-number_low Zip = lit< tt
-number_low DeviceType = lit< tt
-number_low Make = lit< tt
-number_low Model = lit< tt
-number_low Os = lit< tt
-number_low Osv = lit< tt
-number_low Language = lit< tt
-number_low Carrier = lit< tt
-number_low ConnectionType = lit< tt
-number_low Yob = lit< tt
-number_low Gender = lit< tt
-number_low TagId = lit< tt
-number_low Pos = lit< tt
-
 abbrev numbers_in : Pairs → List ℕ
 numbers_in a = map (λ (q : Attr × List ℕ). number_of q.0) a
 
@@ -127,13 +101,13 @@ distinct_numbers (q ∷ a) single =
     let parts = and_parts (not (list_any (λ (r : Attr × List ℕ). same_attr r.0 q.0) a)) (are_single a) single in
     (none_equal q.0 a (not-true (list_any (λ (r : Attr × List ℕ). same_attr r.0 q.0) a) parts.0), distinct_numbers a parts.1)
 
-pub few_pairs : (a : Pairs) → are_single a ≡ true → length a ≤ 23
+pub few_pairs : (a : Pairs) → are_single a ≡ true → length a ≤ 256
 few_pairs a single =
-    let long : length (numbers_in a) ≤ 23 = length-le_from_distinct_below (numbers_in a) 23 (distinct_numbers a single)
+    let long : length (numbers_in a) ≤ 256 = length-le_from_distinct_below (numbers_in a) 256 (distinct_numbers a single)
     (λ n h.
     let (m, has, same) = any_has (eqb n) (numbers_in a) h in
     let (q, in_a, is) = mapped_has (λ (r : Attr × List ℕ). number_of r.0) a m has in
-    omega (arith, eqb-true n m same, is, number_low q.0)) in
+    omega (arith, eqb-true n m same, is, (in_table q.0).fits)) in
     omega (arith, long, length-map a (λ (q : Attr × List ℕ). number_of q.0))
 
 length_taken : {X : Type 0} (n : ℕ) (xs : List X) → length (take n xs) ≤ n
@@ -141,5 +115,5 @@ length_taken zero xs = omega arith
 length_taken (suc n) [] = omega arith
 length_taken (suc n) (x ∷ xs) = omega (arith, length_taken n xs)
 
-pub few_parts : (a : Pairs) (parts : List Part) → are_single a ≡ true → length (take (length a + 1) parts) ≤ 24
+pub few_parts : (a : Pairs) (parts : List Part) → are_single a ≡ true → length (take (length a + 1) parts) ≤ 257
 few_parts a parts single = omega (arith, length_taken (length a + 1) parts, few_pairs a single)

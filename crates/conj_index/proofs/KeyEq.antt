@@ -4,6 +4,7 @@ use Rattle.std.specs.List.{position_or_len}
 use Rattle.std.specs.Str.{bytes_eq}
 use Rattle.std.proofs.lemmas.Bool.{false≢true}
 use Rattle.std.proofs.lemmas.Bool.Decides.{nat_tests}
+use Rattle.std.specs.Cmp.Derive.{one_truth}
 use denote.Enum.Bare.{same_true, sameb, true_same}
 use Rattle.target_expr.specs.contracts.attr.Attr.{the_type}
 use Rattle.target_expr.specs.declared.attr.Attr.{Attr}
@@ -14,16 +15,11 @@ use Rattle.conj_index.specs.contracts.key.KeyPartialEq.TheImpl.{eq-value}
 use Rattle.conj_index.specs.Content.{same_key}
 use Rattle.conj_index.proofs.Served.{attr_same}
 
-same_tests : (x y : Bool) → (x ≡ true → y ≡ true) → (y ≡ true → x ≡ true) → x ≡ y
-same_tests true y to back = sym (to refl)
-same_tests false true to back = absurd (false≢true (back refl))
-same_tests false false to back = refl
-
 itself : (n : ℕ) → (n == n) ≡ true
 itself n = grind (arith, nat_tests)
 
 attr_eq : (a b : Attr) → sameb the_type a b ≡ same_attr a b
-attr_eq a b = same_tests (sameb the_type a b) (same_attr a b)
+attr_eq a b = one_truth (sameb the_type a b) (same_attr a b)
     (λ h. ap (λ n. number_of a == n) (ap number_of (sym (same_true the_type (search rules) a b h))) ∙ itself (number_of a))
     (λ h. true_same the_type a b (attr_same a b h))
 

@@ -5,6 +5,7 @@ use Rattle.std.specs.List.{All, cons_option, filter_map, list_any}
 use Rattle.std.proofs.lemmas.Bool.{and_parts, false≢true, ltb-true}
 use Rattle.std.proofs.lemmas.Bool.Decides.{nat_tests}
 use Rattle.std.proofs.lemmas.List.Quantifiers.{position-Some}
+use Rattle.std.proofs.lemmas.Option.{same_Some}
 use Rattle.indexmap.specs.IndexMap.{keys}
 use Rattle.target_expr.specs.declared.attr.Attr.{Attr}
 use Rattle.target_expr.specs.Attributes.{number_of}
@@ -28,9 +29,6 @@ all_from_has P xs h = λ k d within. h (get_or xs k d) (at_has xs k d within)
 
 -- ---- one place
 
-some_same : {X : Type 0} (x y : X) → Some x ≡ Some y → x ≡ y
-some_same x y e = cc
-
 record IsPlace (k : ℕ) (part : Part) (key : Key) (n : ℕ) : Type 0 where
   pub within : n < key_lists k part
   pub there : n < length (keys part.keys)
@@ -45,7 +43,7 @@ is_place k part key n e = by (position (same_key key) (keys part.keys)) refl e
     given : (m : ℕ) → position (same_key key) (keys part.keys) ≡ Some m → (b : Bool) → nat_lt m (key_lists k part) ≡ b → cond b (Some m) None ≡ Some n → IsPlace k part key n
     given m p true b e =
         let at = position-Some (same_key key) (keys part.keys) m key p in
-        subst (λ (x : ℕ). IsPlace k part key x) (some_same m n e) (record { within = ltb-true m (key_lists k part) b; there = at.0; same = key_same key (get_or (keys part.keys) m key) at.1 })
+        subst (λ (x : ℕ). IsPlace k part key x) (same_Some m n e) (record { within = ltb-true m (key_lists k part) b; there = at.0; same = key_same key (get_or (keys part.keys) m key) at.1 })
     given m p false b e = absurd (none_some e)
 
     by : (o : Option ℕ) → position (same_key key) (keys part.keys) ≡ o → option_and_then (λ m. cond (nat_lt m (key_lists k part)) (Some m) None) o ≡ Some n → IsPlace k part key n

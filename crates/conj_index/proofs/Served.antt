@@ -15,10 +15,10 @@ use Rattle.indexmap.specs.IndexMap.{keys}
 use Rattle.postings.specs.declared.entry.Entry.{Entry}
 use Rattle.target_expr.specs.declared.attr.Attr.{Attr}
 use Rattle.target_expr.specs.declared.pred.Pred.{Pred}
-use Rattle.target_expr.specs.Attributes.{number_of, numbered}
+use Rattle.target_expr.specs.Attributes.{number_of}
 use Rattle.target_expr.specs.Pairs.{size_of}
 use Rattle.target_expr.specs.Truth.{same_attr}
-use Rattle.target_expr.proofs.Encoding.{numbered_again}
+use Rattle.target_expr.proofs.Attributes.{same_number}
 use Rattle.conj_index.specs.declared.key.Key.{Key}
 use Rattle.conj_index.specs.declared.part.Part.{Part}
 use Rattle.conj_index.specs.Content.{IsPartOf, Listed, entries_of, entry_under, is_named, names, of_size, same_key, zero_entries, zero_lists}
@@ -32,13 +32,10 @@ Pairs = List (Attr × List ℕ)
 
 -- ---- keys that are one
 
-some_same : {X : Type 0} (x y : X) → Some x ≡ Some y → x ≡ y
-some_same x y e = cc
-
 pub attr_same : (a b : Attr) → same_attr a b ≡ true → a ≡ b
 attr_same a b e =
     let same : number_of a ≡ number_of b = eqb-true (number_of a) (number_of b) e in
-    some_same a b (sym (numbered_again a) ∙ ap numbered same ∙ numbered_again b)
+    same_number a b same
 
 pub key_same : (a b : Key) → same_key a b ≡ true → a ≡ b
 key_same a b e =

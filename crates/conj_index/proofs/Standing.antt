@@ -4,6 +4,7 @@ use Rattle.std.specs.Prelude.{option_map}
 use Rattle.std.specs.List.{Contains, enumerate_from, list_any}
 use Rattle.std.proofs.lemmas.Bool.{cases_Bool, false≢true}
 use Rattle.std.proofs.lemmas.Bool.Decides.{nat_tests}
+use Rattle.std.proofs.lemmas.Option.{same_Some}
 use Rattle.postings.specs.declared.entry.Entry.{Entry}
 use Rattle.target_expr.specs.declared.attr.Attr.{Attr}
 use Rattle.target_expr.specs.declared.pred.Pred.{Pred}
@@ -19,9 +20,6 @@ use Rattle.conj_index.proofs.Truths.{apart_from_kept, kept_member}
 
 none_some : {X : Type 0} (x : X) → None ≡ Some x → ⊥
 none_some x e = cc
-
-some_same : {X : Type 0} (x y : X) → Some x ≡ Some y → x ≡ y
-some_same x y e = cc
 
 is_equal : (m n : ℕ) → (m == n) ≡ true → m ≡ n
 is_equal m n e = grind (arith, nat_tests, e)
@@ -43,7 +41,7 @@ numbered_at n (x ∷ xs) q (inr h) =
 
 at_number : {X : Type 0} (n : ℕ) (xs : List X) (i : ℕ) (x : X) → slice_get xs i ≡ Some x → Has (n + i, x) (enumerate_from n xs)
 at_number n [] i x e = absurd (none_some x e)
-at_number {X} n (y ∷ xs) zero x e = inl (both (n + zero) n x y (omega arith) (sym (some_same y x e)))
+at_number {X} n (y ∷ xs) zero x e = inl (both (n + zero) n x y (omega arith) (sym (same_Some y x e)))
   where
     both : (m n : ℕ) (x y : X) → m ≡ n → x ≡ y → ◌≡◌ {A = ℕ × X} (m, x) (n, y)
     both m n x y d e = cc
@@ -53,7 +51,7 @@ at_number {X} n (y ∷ xs) (suc i) x e =
 
 has_at_number : {X : Type 0} (xs : List X) (i : ℕ) (x : X) → slice_get xs i ≡ Some x → Has x xs
 has_at_number [] i x e = absurd (none_some x e)
-has_at_number (y ∷ xs) zero x e = inl (sym (some_same y x e))
+has_at_number (y ∷ xs) zero x e = inl (sym (same_Some y x e))
 has_at_number (y ∷ xs) (suc i) x e = inr (has_at_number xs i x e)
 
 -- ---- the predicate that names a key
@@ -63,7 +61,7 @@ found_names key [] p e = absurd (none_some p e)
 found_names key (r ∷ c) p e = by (names key r) refl (found_names key c p) e
   where
     by : (b : Bool) → names key r ≡ b → (find (names key) c ≡ Some p → Has p c × (names key p ≡ true)) → cond b (Some r) (find (names key) c) ≡ Some p → Has p (r ∷ c) × (names key p ≡ true)
-    by true is later f = (inl (sym (some_same r p f)), ap (names key) (sym (some_same r p f)) ∙ is)
+    by true is later f = (inl (sym (same_Some r p f)), ap (names key) (sym (same_Some r p f)) ∙ is)
     by false is later f = let (has, naming) = later f in (inr has, naming)
 
 names_found : (key : Key) (c : List Pred) (p : Pred) → are_apart c ≡ true → Has p c → names key p ≡ true → find (names key) c ≡ Some p
@@ -84,7 +82,7 @@ entry_of id p = record { id = id; negated = p.negated }
 
 entered : (id : ℕ) (o : Option Pred) (e : Entry) → option_map (entry_of id) o ≡ Some e → (p : Pred) × (o ≡ Some p) × (entry_of id p ≡ e)
 entered id None e h = absurd (none_some e h)
-entered id (Some p) e h = (p, refl, some_same (entry_of id p) e h)
+entered id (Some p) e h = (p, refl, same_Some (entry_of id p) e h)
 
 pub stands_named : (k : ℕ) (cs : List Listed) (key : Key) (e : Entry) → Has e (entries_of k cs key) → IsEntryUnder k cs key e
 unfolding entries_of

@@ -10,7 +10,7 @@ use Rattle.target_expr.specs.Kept.{attr_below, is_kept, is_kept_conjunction, is_
 use Rattle.target_expr.specs.Pairs.{size_of}
 use Rattle.target_expr.specs.Truth.{are_single, conjunction_holds, holds, same_attr}
 use Rattle.conj_index.specs.Campaigns.{AreKept, Campaigns, DoRise, numbers_of}
-use Rattle.conj_index.specs.Content.{Listed, conjunctions_of, greatest_size, owned}
+use Rattle.conj_index.specs.Content.{Listed, conjunctions_of, greatest_size, with_owner}
 use Rattle.conj_index.specs.Find.{true_under}
 use Rattle.conj_index.proofs.Matches.{are_apart, asked, counted, excluded, true_where}
 use Rattle.conj_index.proofs.Members.{Has, Up, any_has, filter_has, has_any, has_filter, has_in_all, has_mapped, has_spread, mapped_has, spread_has, up_from_increasing}
@@ -71,7 +71,7 @@ kept_in_campaign e h c k = all_has is_kept_conjunction e (and_parts (nat_lt 0 (l
 
 pub kept_member : (added : Campaigns) → AreKept added → (l : Listed) → Has l (conjunctions_of added) → is_kept_conjunction l.preds ≡ true
 kept_member added kept l h =
-    let (q, has, in_q) = spread_has owned added l h in
+    let (q, has, in_q) = spread_has with_owner added l h in
     let (c, in_e, is) = mapped_has (λ (c : List Pred). record { owner = q.0; preds = c }) q.1 l in_q in
     ap (λ (x : Listed). is_kept_conjunction x.preds) (sym is) ∙ kept_in_campaign q.1 (true_from (is_kept q.1) (has_in_all (λ (p : Campaign). IsTrue (is_kept p.1)) added q kept has)) c in_e
 
@@ -87,11 +87,11 @@ owner_of_true a added z h =
     let (q, in_filter, is) = mapped_has (λ (p : Campaign). p.0) (filter (λ (p : Campaign). holds a p.1) added) z h in
     let (has, true_q) = filter_has (λ (p : Campaign). holds a p.1) added q in_filter in
     let (c, in_e, true_c) = any_has (conjunction_holds a) q.1 true_q in
-    (record { owner = q.0; preds = c }, has_spread owned added q (record { owner = q.0; preds = c }) has (has_mapped (λ (d : List Pred). record { owner = q.0; preds = d }) q.1 c in_e), is, true_c)
+    (record { owner = q.0; preds = c }, has_spread with_owner added q (record { owner = q.0; preds = c }) has (has_mapped (λ (d : List Pred). record { owner = q.0; preds = d }) q.1 c in_e), is, true_c)
 
 pub true_by_owner : (a : Pairs) (added : Campaigns) (l : Listed) → Has l (conjunctions_of added) → conjunction_holds a l.preds ≡ true → Has l.owner (true_under a added)
 true_by_owner a added l h t =
-    let (q, has, in_q) = spread_has owned added l h in
+    let (q, has, in_q) = spread_has with_owner added l h in
     let (c, in_e, is) = mapped_has (λ (c : List Pred). record { owner = q.0; preds = c }) q.1 l in_q in
     let same : q.0 ≡ l.owner = ap (λ (x : Listed). x.owner) is in
     let true_q : holds a q.1 ≡ true = has_any (conjunction_holds a) q.1 c in_e (ap (λ (x : Listed). conjunction_holds a x.preds) is ∙ t) in

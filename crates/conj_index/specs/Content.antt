@@ -1,7 +1,7 @@
 -- Which posting lists stand for a list of expressions (Whang et al. 2009, section 4). The list of
 -- the conjunctions of size 0, and that "not in" is true of an absent attribute, are this exchange's
 -- own choice.
-use Rattle.std.specs.Prelude.{ℕ, ◌≡◌, ◌+◌, ◌==◌, ◌&&◌, max, List, [], ◌∷◌, ◌++◌, map, filter, find, length, slice_get, Bool, false, cond, Option, Some, option_map}
+use Rattle.std.specs.Prelude.{ℕ, ◌≡◌, ◌+◌, ◌==◌, ◌&&◌, max, List, [], ◌∷◌, ◌++◌, map, filter, find, length, slice_get, Bool, false, if◌then◌else◌, Option, Some, option_map}
 use Rattle.std.specs.List.{list_any, enumerate_from, filter_map, flat_map, IsDistinct}
 use Rattle.std.specs.Str.{bytes_eq}
 use Rattle.indexmap.specs.IndexMap.{keys}
@@ -19,12 +19,12 @@ pub record Listed : Type 0 where
   pub owner : ℕ
   pub preds : List Pred
 
-abbrev pub owned : ℕ × List (List Pred) → List Listed
-owned p = map (λ c. record { owner = p.0; preds = c }) p.1
+abbrev pub with_owner : ℕ × List (List Pred) → List Listed
+with_owner p = map (λ c. record { owner = p.0; preds = c }) p.1
 
 -- the conjunctions of the campaigns, numbered from 0 in this order: the number is the id
 abbrev pub conjunctions_of : Campaigns → List Listed
-conjunctions_of added = flat_map owned added
+conjunctions_of added = flat_map with_owner added
 
 -- the predicate speaks of the key's attribute, and lists its value
 abbrev pub names : Key → Pred → Bool
@@ -52,7 +52,7 @@ is_named k cs key = list_any (λ (c : Listed). (size_of c.preds == k) && list_an
 
 -- part 0 has the zero list besides
 abbrev pub zero_lists : ℕ → List Listed → List (List Entry)
-zero_lists k cs = cond (k == 0) (zero_entries cs ∷ []) []
+zero_lists k cs = if k == 0 then zero_entries cs ∷ [] else []
 
 -- the two keys are one
 abbrev pub same_key : Key → Key → Bool

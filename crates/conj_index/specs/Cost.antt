@@ -1,5 +1,5 @@
 -- What a find costs at most, by the campaigns alone.
-use Rattle.std.specs.Prelude.{ℕ, ◌+◌, max, min, List, ◌++◌, length, sum_by, Option, Some, None, cond}
+use Rattle.std.specs.Prelude.{ℕ, ◌+◌, max, min, List, ◌++◌, length, sum_by, Option, Some, None, if◌then◌else◌}
 use Rattle.std.specs.List.{filter_map, range_with_len}
 use Rattle.postings.specs.declared.entry.Entry.{Entry}
 use Rattle.conj_match.specs.Matching.{cost_of}
@@ -10,7 +10,7 @@ use Rattle.conj_index.specs.Find.{key_of}
 
 -- the posting list of the pair among the conjunctions of size k, where one of them names it
 abbrev pub list_under : ℕ → List Listed → Attr × List ℕ → Option (List Entry)
-list_under k cs q = cond (is_named k cs (key_of q)) (Some (entries_of k cs (key_of q))) None
+list_under k cs q = if is_named k cs (key_of q) then Some (entries_of k cs (key_of q)) else None
 
 -- the lists of the assignment's pairs, and of size 0 the zero list
 abbrev pub lists_under : List (Attr × List ℕ) → List Listed → ℕ → List (List Entry)

@@ -1,5 +1,5 @@
 -- What is found for an assignment, and the greatest number of entries that are read for it.
-use Rattle.std.specs.Prelude.{ℕ, ◌+◌, ◌-◌, ◌==◌, ◌&&◌, max, nat_lt, List, [], ◌++◌, map, filter, length, position, take, sum_by, cond, Option, Some, None, option_and_then}
+use Rattle.std.specs.Prelude.{ℕ, ◌+◌, ◌-◌, ◌==◌, ◌&&◌, max, nat_lt, List, [], ◌++◌, map, filter, length, position, take, sum_by, if◌then◌else◌, Option, Some, None, option_and_then}
 use Rattle.std.specs.List.{cons_option, enumerate_from, filter_map}
 use Rattle.indexmap.specs.IndexMap.{keys}
 use Rattle.postings.specs.declared.entry.Entry.{Entry}
@@ -22,15 +22,15 @@ key_of q = record { attr = q.0; value = q.1 }
 
 -- how many of part k's lists are those of keys: all but the zero list
 abbrev pub key_lists : ℕ → Part → ℕ
-key_lists k part = length part.lists - cond (k == 0) 1 0
+key_lists k part = length part.lists - (if k == 0 then 1 else 0)
 
 -- the place of the key's list, where the part has one
 abbrev pub key_place : ℕ → Part → Key → Option ℕ
-key_place k part key = option_and_then (λ n. cond (nat_lt n (key_lists k part)) (Some n) None) (position (same_key key) (keys part.keys))
+key_place k part key = option_and_then (λ n. if nat_lt n (key_lists k part) then Some n else None) (position (same_key key) (keys part.keys))
 
 -- the place of the zero list, which part 0 has
 abbrev pub zero_place : ℕ → Part → Option ℕ
-zero_place k part = cond ((k == 0) && nat_lt 0 (length part.lists)) (Some (length part.lists - 1)) None
+zero_place k part = if (k == 0) && nat_lt 0 (length part.lists) then Some (length part.lists - 1) else None
 
 -- the places of the lists of these keys, and of the zero list
 abbrev pub places_of : List Key → ℕ → Part → List ℕ

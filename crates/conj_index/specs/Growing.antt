@@ -1,5 +1,5 @@
 -- Posting lists while pairs are entered, which the crate's private clauses cite.
-use Rattle.std.specs.Prelude.{ℕ, zero, suc, ◌≡◌, ◌==◌, ◌&&◌, ◌+◌, max, List, [], ◌∷◌, ◌++◌, map, cond, Bool, false, Option, Some, None, slice_get}
+use Rattle.std.specs.Prelude.{ℕ, zero, suc, ◌≡◌, ◌==◌, ◌&&◌, ◌+◌, max, List, [], ◌∷◌, ◌++◌, map, if◌then◌else◌, Bool, false, Option, Some, None, slice_get}
 use Rattle.std.specs.List.{list_any, enumerate_from, filter_map, IsDistinct}
 use Rattle.indexmap.specs.IndexMap.{keys}
 use Rattle.postings.specs.declared.entry.Entry.{Entry}
@@ -20,7 +20,7 @@ abbrev pub entry_of : Pair → Entry
 entry_of p = record { id = p.conjunction; negated = p.negated }
 
 abbrev pub kept_entry : ℕ → Key → Pair → Option Entry
-kept_entry k key p = cond (is_of k key p) (Some (entry_of p)) None
+kept_entry k key p = if is_of k key p then Some (entry_of p) else None
 
 -- the posting list of the key, by the pairs
 abbrev pub pair_entries : ℕ → List Pair → Key → List Entry
@@ -42,7 +42,7 @@ AreGrown ps parts = (k : ℕ) (part : Growing) → slice_get parts k ≡ Some pa
 -- the keys after the key is added, where it is new
 abbrev pub with_key : List Key → Key → List Key
 with_key [] key = key ∷ []
-with_key (k ∷ ks) key = cond (same_key key k) (k ∷ ks) (k ∷ with_key ks key)
+with_key (k ∷ ks) key = if same_key key k then k ∷ ks else k ∷ with_key ks key
 
 -- the lists after the entry is appended to the one at the place, or is a list of its own past the end
 abbrev pub with_entry : List (List Entry) → ℕ → Entry → List (List Entry)
@@ -51,8 +51,8 @@ with_entry (l ∷ ls) zero e = (l ++ e ∷ []) ∷ ls
 with_entry (l ∷ ls) (suc n) e = l ∷ with_entry ls n e
 
 -- the pair with the conjunction's number counted from `first` on
-abbrev pub shifted : ℕ → Pair → Pair
-shifted first p = record p { conjunction = first + p.conjunction }
+abbrev pub shift : ℕ → Pair → Pair
+shift first p = record p { conjunction = first + p.conjunction }
 
 abbrev pub greatest : List ℕ → ℕ
 greatest [] = 0
@@ -60,7 +60,7 @@ greatest (n ∷ ns) = max n (greatest ns)
 
 -- a plain entry for each conjunction of size 0, by the sizes
 abbrev pub zero_entry : ℕ × ℕ → Option Entry
-zero_entry q = cond (q.1 == 0) (Some (record { id = q.0; negated = false })) None
+zero_entry q = if q.1 == 0 then Some (record { id = q.0; negated = false }) else None
 
 abbrev pub zero_of : List ℕ → List Entry
 zero_of sizes = filter_map zero_entry (enumerate_from 0 sizes)
@@ -76,8 +76,8 @@ AreFull cs parts = (k : ℕ) (part : Growing) → slice_get parts k ≡ Some par
 
 -- the part has the same keys and lists, and the zero list behind them where it is part 0
 abbrev pub HasZeroList : ℕ → List Entry → Growing → Growing → Type 0
-HasZeroList k zeros old new = (new.keys ≡ old.keys) × (lists_of new ≡ lists_of old ++ cond (k == 0) (zeros ∷ []) [])
+HasZeroList k zeros old new = (new.keys ≡ old.keys) × (lists_of new ≡ lists_of old ++ (if k == 0 then zeros ∷ [] else []))
 
 -- the part with posting lists of its entries
-abbrev pub finished : Growing → Part
-finished part = record { keys = part.keys; lists = lists_of part }
+abbrev pub finish : Growing → Part
+finish part = record { keys = part.keys; lists = lists_of part }

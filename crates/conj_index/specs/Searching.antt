@@ -11,7 +11,7 @@ use Rattle.conj_index.specs.Find.{found_lists}
 -- the conjunction is found in part k, and it is the campaign's
 pub record IsFoundIn (a : List (Attr × List ℕ)) (owners : List ℕ) (k : ℕ) (part : Part) (id number : ℕ) : Type 0 where
   pub matched : is_match (found_lists a k part) (max k 1) id ≡ true
-  pub owned : slice_get owners id ≡ Some number
+  pub with_owner : slice_get owners id ≡ Some number
 
 -- the numbers are those of the campaigns with a conjunction that is found in one of the first n parts
 pub record AreFound (a : List (Attr × List ℕ)) (owners : List ℕ) (parts : List Part) (n : ℕ) (numbers : List ℕ) : Type 0 where

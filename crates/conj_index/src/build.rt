@@ -4,7 +4,7 @@ ghost use Rattle.target_expr.specs.Pairs.{pairs_of, sizes_of};
 ghost use Rattle.conj_index.specs.declared.growing.Growing.{Growing};
 ghost use Rattle.conj_index.specs.Campaigns.{AreKept, DoRise, conjunctions_in, expression_of};
 ghost use Rattle.conj_index.specs.Content.{IsIndexOf, conjunctions_of};
-ghost use Rattle.conj_index.specs.Growing.{AreGrown, HasZeroList, finished, greatest, lists_of, shifted, zero_of};
+ghost use Rattle.conj_index.specs.Growing.{AreGrown, HasZeroList, finish, greatest, lists_of, shift, zero_of};
 
 use crate::builder::Builder;
 use crate::fault::IndexFault;
@@ -32,7 +32,7 @@ impl Index {
         ensures content { IfOk result (IsIndexOf builder) }
         ensures cost { steps.new ≤ steps.old + length (pairs_of (expression_of builder)) }
     {
-        let added = builder.into_added();
+        let added = builder.into_campaigns();
         let index = index_of(alloc, added.as_slice(), steps)?;
         Ok(index)
     }
@@ -163,7 +163,7 @@ fn enter_pairs(
     first: u32,
 ) -> Result<(), AllocError>
     requires { All (λ p. (p.size < length parts.old.items) × (first + p.conjunction < 2 ^ 32)) pairs.items }
-    ensures grown { OnOk result ((before : _) → AreGrown before parts.old.items → AreGrown (before ++ map (shifted first) pairs.items) parts.new.items) }
+    ensures grown { OnOk result ((before : _) → AreGrown before parts.old.items → AreGrown (before ++ map (shift first) pairs.items) parts.new.items) }
     ensures count { length parts.new.items ≡ length parts.old.items }
 {
     for pair in pairs {
@@ -180,7 +180,7 @@ fn enter_pair(
     first: u32,
 ) -> Result<(), AllocError>
     requires { (pair.size < length parts.old.items) × (first + pair.conjunction < 2 ^ 32) }
-    ensures grown { OnOk result ((before : _) → AreGrown before parts.old.items → AreGrown (before ++ shifted first pair ∷ []) parts.new.items) }
+    ensures grown { OnOk result ((before : _) → AreGrown before parts.old.items → AreGrown (before ++ shift first pair ∷ []) parts.new.items) }
     ensures count { length parts.new.items ≡ length parts.old.items }
 {
     let entry = Entry {
@@ -208,7 +208,7 @@ fn push_zero_list(parts: &mut Vec<Growing>, zeros: Vec<Entry>) -> Result<(), All
 // The parts, with posting lists of their entries.
 fn finish_all(alloc: Global, growing: Vec<Growing>) -> Result<List<Part>, AllocError>
     requires { All (λ part. All IsRising (lists_of part)) growing.items }
-    ensures { IfOk result (λ parts. parts ≡ map finished growing.items) }
+    ensures { IfOk result (λ parts. parts ≡ map finish growing.items) }
 {
     let mut parts = List::new(alloc);
     for part in growing {

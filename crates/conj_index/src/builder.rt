@@ -60,7 +60,7 @@ impl Builder {
     }
 
     // The campaigns that were added.
-    pub(crate) fn into_added(self) -> Vec<(u32, Expr)>
+    pub(crate) fn into_campaigns(self) -> Vec<(u32, Expr)>
         ensures value { result.items ≡ self }
         ensures rising { DoRise self }
         ensures few { conjunctions_in self ≤ 1000000 }

@@ -2,11 +2,12 @@ ghost use Rattle.std.specs.Prelude.{◌≡◌};
 ghost use Rattle.conj_index.specs.declared.fault.IndexFault.TheVariants.{Memory as memory};
 
 use std::alloc::AllocError;
+use thiserror::Error;
 
 /// Why an index is not built.
-#[derive(Clone, Copy, Debug, PartialEq, Eq)]
+#[derive(Clone, Copy, Debug, PartialEq, Eq, Error)]
 pub enum IndexFault {
-    /// There is not enough memory.
+    #[error("memory ran out")]
     Memory,
 }
 

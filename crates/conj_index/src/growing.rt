@@ -20,7 +20,7 @@ pub(crate) struct Growing {
 impl Growing {
     ghost use Rattle.indexmap.specs.IndexMap.{keys};
     ghost use Rattle.conj_index.specs.Content.{same_key};
-    ghost use Rattle.conj_index.specs.Growing.{IsGrown, finished, lists_of, with_key};
+    ghost use Rattle.conj_index.specs.Growing.{IsGrown, finish, lists_of, with_key};
 
     // A part with no key.
     pub(crate) fn new(alloc: Global) -> Growing
@@ -46,7 +46,7 @@ impl Growing {
     // The part with posting lists of its entries.
     pub(crate) fn finish(self, alloc: Global) -> Result<Part, AllocError>
         requires { All IsRising (lists_of self) }
-        ensures { IfOk result (λ part. part ≡ finished self) }
+        ensures { IfOk result (λ part. part ≡ finish self) }
     {
         let Growing { keys, lists } = self;
         let lists = posting_lists(alloc, lists)?;

@@ -1,4 +1,4 @@
-ghost use Rattle.std.specs.Prelude.{◌≡◌, ◌≤◌, ◌+◌, [], ◌∷◌, ◌++◌, cond, IfOk, OnOk};
+ghost use Rattle.std.specs.Prelude.{◌≡◌, ◌≤◌, ◌+◌, [], ◌∷◌, ◌++◌, if◌then◌else◌, IfOk, OnOk};
 ghost use Rattle.conj_index.specs.Campaigns.{conjunctions_in};
 ghost use Rattle.conj_index.specs.Find.{true_under};
 
@@ -30,7 +30,7 @@ pub fn scan<L: Ledger>(
 
 // Appends the number, where that is so.
 fn push_if(numbers: &mut List<u32>, number: u32, is_so: bool) -> Result<(), AllocError>
-    ensures { OnOk result (numbers.new ≡ numbers.old ++ cond is_so (number ∷ []) []) }
+    ensures { OnOk result (numbers.new ≡ numbers.old ++ (if is_so then number ∷ [] else [])) }
 {
     if is_so {
         numbers.push(number)?;

@@ -8,9 +8,10 @@ use Rattle.std.proofs.lemmas.Option.{slice_get-get_or, slice_get_past}
 use Rattle.std.proofs.lemmas.List.Elements.{All-head, All-tail}
 use Rattle.std.proofs.lemmas.List.Folds.{list_any_at}
 use Rattle.std.proofs.lemmas.List.Sums.{sum_by-cons}
+use Rattle.std.specs.Cmp.Derive.{one_truth}
 use Rattle.postings.specs.declared.entry.Entry.{Entry}
 use Rattle.postings.specs.Order.{IsRising, entry_at, rank_of}
-use Rattle.conj_match.specs.Place.{Place, shown}
+use Rattle.conj_match.specs.Place.{Place, current}
 use Rattle.conj_match.specs.Matching.{has_negated, has_plain, is_match}
 use Rattle.conj_match.specs.Merge.{Stands, entries_of, is_shown, shows_negated, shows_plain}
 
@@ -50,19 +51,14 @@ not_true : (s : Bool) → not s ≡ true → s ≡ false
 not_true true h = absurd (false≢true h)
 not_true false h = refl
 
-pub same_bool : (a b : Bool) → (a ≡ true → b ≡ true) → (b ≡ true → a ≡ true) → a ≡ b
-same_bool true b f g = sym (f refl)
-same_bool false true f g = g refl
-same_bool false false f g = refl
-
 -- the least number that the cursor may show
 pub record AtLeast (id : ℕ) (c : Place) : Type 0 where
   pub low : c.place < length c.entries → id ≤ (entry_at c.entries c.place).id
 
-pub shown_here : (b : ℕ) (c : Place) → Stands b c → c.place < length c.entries → shown c ≡ Some (entry_at c.entries c.place)
+pub shown_here : (b : ℕ) (c : Place) → Stands b c → c.place < length c.entries → current c ≡ Some (entry_at c.entries c.place)
 shown_here b c s h = ap (λ l. cond l (slice_get c.entries c.place) None) s.loaded ∙ slice_get-get_or c.entries c.place _ h
 
-pub shown_past : (b : ℕ) (c : Place) → Stands b c → length c.entries ≤ c.place → shown c ≡ None
+pub shown_past : (b : ℕ) (c : Place) → Stands b c → length c.entries ≤ c.place → current c ≡ None
 shown_past b c s h = ap (λ l. cond l (slice_get c.entries c.place) None) s.loaded ∙ slice_get_past c.entries c.place h
 
 -- an entry of the number is the one that is shown, or stands behind a negated one of the number that is shown
@@ -84,18 +80,18 @@ found_at b id c s h least i within is =
     behind m n id false false h k e p = absurd (omega arith)
 
 -- what is shown stands in the list
-shown_in : (p : Entry → Bool) (b : ℕ) (c : Place) → Stands b c → option_map_or p (shown c) false ≡ true → (c.place < length c.entries) × (p (entry_at c.entries c.place) ≡ true)
+shown_in : (p : Entry → Bool) (b : ℕ) (c : Place) → Stands b c → option_map_or p (current c) false ≡ true → (c.place < length c.entries) × (p (entry_at c.entries c.place) ≡ true)
 shown_in p b c s h =
     elim (cases_lt c.place (length c.entries)) [
       | inl k ↦ (k, sym (ap (λ o. option_map_or p o false) (shown_here b c s k)) ∙ h)
       | inr k ↦ absurd (false≢true (sym (ap (λ o. option_map_or p o false) (shown_past b c s k)) ∙ h))
     ]
 
-shown_from : (p : Entry → Bool) (b : ℕ) (c : Place) → Stands b c → c.place < length c.entries → p (entry_at c.entries c.place) ≡ true → option_map_or p (shown c) false ≡ true
+shown_from : (p : Entry → Bool) (b : ℕ) (c : Place) → Stands b c → c.place < length c.entries → p (entry_at c.entries c.place) ≡ true → option_map_or p (current c) false ≡ true
 shown_from p b c s k h = ap (λ o. option_map_or p o false) (shown_here b c s k) ∙ h
 
 pub negated_agrees : (b id : ℕ) (c : Place) → Stands b c → b ≤ id → AtLeast id c → has_negated id c.entries ≡ shows_negated id c
-negated_agrees b id c s h least = same_bool _ _
+negated_agrees b id c s h least = one_truth _ _
     (λ has.
     let (i, within, test) = some_at (λ (e : Entry). (e.id == id) && e.negated) c.entries has in
     let (is, sign) = both_parts _ _ _ test in
@@ -108,7 +104,7 @@ negated_agrees b id c s h least = same_bool _ _
     list_any_at (λ (e : Entry). (e.id == id) && e.negated) c.entries c.place _ within test)
 
 pub plain_agrees : (b id : ℕ) (c : Place) → Stands b c → b ≤ id → AtLeast id c → shows_negated id c ≡ false → has_plain id c.entries ≡ shows_plain id c
-plain_agrees b id c s h least none = same_bool _ _
+plain_agrees b id c s h least none = one_truth _ _
     (λ has.
     let (i, within, test) = some_at (λ (e : Entry). (e.id == id) && not e.negated) c.entries has in
     let (is, sign) = both_parts _ _ _ test in

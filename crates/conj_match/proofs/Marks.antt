@@ -11,12 +11,12 @@ use Rattle.std.proofs.lemmas.List.Sums.{sum_by-append, sum_by-cons, sum_by_push}
 use Rattle.postings.specs.declared.entry.Entry.{Entry}
 use Rattle.postings.specs.Order.{IsRising, entry_at, rank_of}
 use Rattle.conj_match.specs.Matching.{IsAnswer, lists_at, has_negated, has_plain, is_match}
-use Rattle.conj_match.specs.Tally.{AreHits, AreTallied, IsBelow, all_in, asks, excludes, is_hit, marked, tally_of}
+use Rattle.conj_match.specs.Tally.{AreHits, AreTallied, IsBelow, all_in, asks, excludes, is_hit, next_mark, tally_of}
 use Rattle.conj_match.proofs.Lists.{ids_rise, rising_pairs}
 use Rattle.conj_match.proofs.Merge.{below_push, rising_push}
 
 -- one more entry of the number
-counted : (a negated : Bool) (n m : ℕ) → m ≡ cond a 255 (min n 254) → marked m negated ≡ cond (a || negated) 255 (min (n + cond (not negated) 1 0) 254)
+counted : (a negated : Bool) (n m : ℕ) → m ≡ cond a 255 (min n 254) → next_mark m negated ≡ cond (a || negated) 255 (min (n + cond (not negated) 1 0) 254)
 counted true true n m h = refl
 counted false true n m h = refl
 counted true false n m h =
@@ -54,7 +54,7 @@ tally_more id es e =
     ap (λ b. cond b 255 (min (count_by (asks id) (es ++ e ∷ [])) 254)) (any_more (excludes id) es e)
     ∙ ap (λ n. cond (list_any (excludes id) es || excludes id e) 255 (min n 254)) (count_more (asks id) es e)
 
-tally_same : (id : ℕ) (es : List Entry) (e : Entry) (m : ℕ) → e.id ≡ id → m ≡ tally_of id es → marked m e.negated ≡ tally_of id (es ++ e ∷ [])
+tally_same : (id : ℕ) (es : List Entry) (e : Entry) (m : ℕ) → e.id ≡ id → m ≡ tally_of id es → next_mark m e.negated ≡ tally_of id (es ++ e ∷ [])
 tally_same id es e m is before =
     counted (list_any (excludes id) es) e.negated (count_by (asks id) es) m before
     ∙ ap (λ b. cond (list_any (excludes id) es || b) 255 (min (count_by (asks id) es + cond (not e.negated) 1 0) 254)) (sym (same_sign e.id id e.negated is))
@@ -72,7 +72,7 @@ tally_other id es e other =
     plus_none n true h = absurd (false≢true (sym h))
     plus_none n false h = omega arith
 
-pub tallied_more : (marks : List ℕ) (before : List Entry) (e : Entry) (m : ℕ) → e.id < length marks → m ≡ marked (slice_index marks e.id) e.negated
+pub tallied_more : (marks : List ℕ) (before : List Entry) (e : Entry) (m : ℕ) → e.id < length marks → m ≡ next_mark (slice_index marks e.id) e.negated
     → AreTallied marks before → AreTallied (set marks e.id m) (before ++ e ∷ [])
 tallied_more marks before e m within is tallied id h =
     let here : id < length marks = omega (arith, length-set marks e.id m) in

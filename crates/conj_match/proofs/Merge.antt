@@ -10,30 +10,30 @@ use Rattle.postings.specs.declared.entry.Entry.{Entry}
 use Rattle.postings.specs.Order.{IsRising, entry_at}
 use Rattle.conj_match.specs.Place.{Place}
 use Rattle.conj_match.specs.Matching.{IsAnswer, is_match}
-use Rattle.conj_match.specs.Merge.{ArePassed, Decided, IsLeast, Passed, Stands, entries_of, is_shown, left_in, lesser, shown_id}
+use Rattle.conj_match.specs.Merge.{ArePassed, Decided, IsLeast, Passed, Stands, entries_of, is_shown, left_in, lesser, current_id}
 use Rattle.conj_match.proofs.Lists.{Above, AtLeast, ids_rise, match_agrees, no_match, shown_here, shown_past}
 
 abbrev Low : ℕ → Place → Type 0
-Low m c = MatchOption (shown_id c) (Unit {0}) (λ n. m ≤ n)
+Low m c = MatchOption (current_id c) (Unit {0}) (λ n. m ≤ n)
 
 abbrev LeastIs : List Place → ℕ → Type 0
-LeastIs cs m = All (Low m) cs × ((c : Place) × Contains cs c × (shown_id c ≡ Some m))
+LeastIs cs m = All (Low m) cs × ((c : Place) × Contains cs c × (current_id c ≡ Some m))
 
-low_none : (m : ℕ) (c : Place) → shown_id c ≡ None → Low m c
+low_none : (m : ℕ) (c : Place) → current_id c ≡ None → Low m c
 low_none m c e = subst (λ o. MatchOption o (Unit {0}) (λ n. m ≤ n)) (sym e) tt
 
-low_some : (m n : ℕ) (c : Place) → shown_id c ≡ Some n → m ≤ n → Low m c
+low_some : (m n : ℕ) (c : Place) → current_id c ≡ Some n → m ≤ n → Low m c
 low_some m n c e h = subst (λ o. MatchOption o (Unit {0}) (λ n. m ≤ n)) (sym e) h
 
 low_less : (m n : ℕ) (c : Place) → n ≤ m → Low m c → Low n c
-low_less m n c h low = by_cases m n (shown_id c) h low
+low_less m n c h low = by_cases m n (current_id c) h low
   where
     by_cases : (m n : ℕ) (o : Option ℕ) → n ≤ m → MatchOption o (Unit {0}) (λ x. m ≤ x) → MatchOption o (Unit {0}) (λ x. n ≤ x)
     by_cases m n None h low = tt
     by_cases m n (Some x) h low = omega arith
 
-least_push : (front : List Place) (c : Place) (least o : Option ℕ) → shown_id c ≡ o → IsLeast front least → IsLeast (front ++ c ∷ []) (lesser least o)
-least_push front c None None e all = All-push (λ c. shown_id c ≡ None) front c all e
+least_push : (front : List Place) (c : Place) (least o : Option ℕ) → current_id c ≡ o → IsLeast front least → IsLeast (front ++ c ∷ []) (lesser least o)
+least_push front c None None e all = All-push (λ c. current_id c ≡ None) front c all e
 least_push front c None (Some n) e all =
     (All-push (Low n) front c (λ j d within. low_none n (get_or front j d) (all j d within)) (low_some n n c e (omega arith)), (c, Contains-push front c, e))
 least_push front c (Some m) None e (all, (w, among, is)) =
@@ -50,16 +50,16 @@ least_push front c (Some m) (Some n) e (all, (w, among, is)) =
           (All-push (Low m) front c all (low_some m n c e h), (w, Contains-append_left front (c ∷ []) w among, is))
     ]
 
-pub least_more : (cs : List Place) (i : ℕ) (c : Place) (least : Option ℕ) → i < length cs → c ≡ get_or cs i c → IsLeast (take i cs) least → IsLeast (take (i + 1) cs) (lesser least (shown_id c))
+pub least_more : (cs : List Place) (i : ℕ) (c : Place) (least : Option ℕ) → i < length cs → c ≡ get_or cs i c → IsLeast (take i cs) least → IsLeast (take (i + 1) cs) (lesser least (current_id c))
 least_more cs i c least within is h =
     let front : take (i + 1) cs ≡ take i cs ++ c ∷ [] = take_more cs i c within ∙ ap (λ x. take i cs ++ x ∷ []) (sym is) in
-    subst (λ f. IsLeast f (lesser least (shown_id c))) (sym front) (least_push (take i cs) c least (shown_id c) refl h)
+    subst (λ f. IsLeast f (lesser least (current_id c))) (sym front) (least_push (take i cs) c least (current_id c) refl h)
 
 at_least : (b m : ℕ) (c : Place) → Stands b c → Low m c → AtLeast m c
 at_least b m c s low = record { low = λ within. subst (λ o. MatchOption (option_map (λ (e : Entry). e.id) o) (Unit {0}) (λ n. m ≤ n)) (shown_here b c s within) low }
 
 -- the cursor that shows the least number stands on it
-stands_on : (b m : ℕ) (c : Place) → Stands b c → shown_id c ≡ Some m → (c.place < length c.entries) × ((entry_at c.entries c.place).id ≡ m)
+stands_on : (b m : ℕ) (c : Place) → Stands b c → current_id c ≡ Some m → (c.place < length c.entries) × ((entry_at c.entries c.place).id ≡ m)
 stands_on b m c s e =
     elim (cases_lt c.place (length c.entries)) [
       | inl within ↦
@@ -135,7 +135,7 @@ left_passed m old new p =
     let from = p.first.0 in
     omega arith
 
-left_moved : (b m : ℕ) (old new : Place) → Stands b old → shown_id old ≡ Some m → Passed m old new → left new < left old
+left_moved : (b m : ℕ) (old new : Place) → Stands b old → current_id old ≡ Some m → Passed m old new → left new < left old
 left_moved b m old new s e p =
     let lengths : length new.entries ≡ length old.entries = ap length p.entries in
     let (within, is) = stands_on b m old s e in
@@ -151,7 +151,7 @@ left_moved b m old new s e p =
 pub left_falls : (b m : ℕ) (cs new : List Place) → All (Stands b) cs → IsLeast cs (Some m) → ArePassed m cs new → left_in new < left_in cs
 left_falls b m cs new s (all, (w, (i, within, at), is)) (len, each) =
     sum_lt cs new len (λ j d h. left_passed m (get_or cs j d) (get_or new j d) (each j d h)) i w within
-    (left_moved b m (get_or cs i w) (get_or new i w) (s i w within) (ap shown_id at ∙ is) (each i w within))
+    (left_moved b m (get_or cs i w) (get_or new i w) (s i w within) (ap current_id at ∙ is) (each i w within))
 
 -- before the first turn
 pub start : (lists : List (List Entry)) (k : ℕ) (cs : List Place) (ids : List ℕ) → ids ≡ [] → map entries_of cs ≡ lists → All (Stands 0) cs → Decided lists k cs ids 0
@@ -208,7 +208,7 @@ record Turn (lists : List (List Entry)) (k : ℕ) (cs new : List Place) (b m : �
 
 turn : (lists : List (List Entry)) (k : ℕ) (cs new : List Place) (ids : List ℕ) (b m : ℕ) → Decided lists k cs ids b → 1 ≤ k → IsLeast cs (Some m) → ArePassed m cs new → Turn lists k cs new b m
 turn lists k cs new ids b m d some (all, (w, (i, within, at), is)) (len, each) =
-    let on = stands_on b m (get_or cs i w) (d.stand i w within) (ap shown_id at ∙ is) in
+    let on = stands_on b m (get_or cs i w) (d.stand i w within) (ap current_id at ∙ is) in
     let low : b ≤ (entry_at (get_or cs i w).entries (get_or cs i w).place).id = (d.stand i w within).after (get_or cs i w).place (omega arith) on.0 in
     let from : b ≤ m = subst (λ n. b ≤ n) on.1 low in
     let least : All (AtLeast m) cs = λ j e h. at_least b m (get_or cs j e) (d.stand j e h) (all j e h) in
@@ -290,7 +290,7 @@ finished lists k cs ids b d some none = record {
   );
 }
   where
-    past : (b id : ℕ) (c : Place) → Stands b c → shown_id c ≡ None → Above id c
+    past : (b id : ℕ) (c : Place) → Stands b c → current_id c ≡ None → Above id c
     past b id c s e = record {
       high = λ within.
           let same : Some (entry_at c.entries c.place).id ≡ None = sym (ap (option_map (λ (e : Entry). e.id)) (shown_here b c s within)) ∙ e in

@@ -5,7 +5,7 @@ use Rattle.std.proofs.lemmas.Bool.{cases_Bool, cases_lt, le-ltb, lt-ltb}
 use Rattle.std.proofs.lemmas.List.{get_or-set_other, get_or-set_same, get_or_default, length-set, take-set}
 use Rattle.std.proofs.lemmas.List.Folds.{list_any_more}
 use Rattle.std.proofs.lemmas.List.Sums.{count_by_more_no, count_by_more_yes, sum_by-set}
-use Rattle.conj_match.specs.Merge.{IsLeast, Passed, left_in, lesser, shown_id, shows_negated, shows_plain}
+use Rattle.conj_match.specs.Merge.{IsLeast, Passed, left_in, lesser, current_id, shows_negated, shows_plain}
 use Rattle.conj_match.specs.Place.{Place, head_of, number_of}
 use Rattle.conj_match.proofs.Merge.{least_more}
 
@@ -36,7 +36,7 @@ count_after id old now i c x y within is ahead before step =
           still ∙ before ∙ sym (count_by_more_no (shows_plain id) old i c within (sym (ap (shows_plain id) same) ∙ lacks))
     ]
 
-pub least_after : (now : List Place) (i : ℕ) (c : Place) (least : Option ℕ) → i < length now → IsLeast (take i now) least → IsLeast (take (i + 1) (set now i c)) (lesser least (shown_id c))
+pub least_after : (now : List Place) (i : ℕ) (c : Place) (least : Option ℕ) → i < length now → IsLeast (take i now) least → IsLeast (take (i + 1) (set now i c)) (lesser least (current_id c))
 least_after now i c least within h =
     let there : i < length (set now i c) = omega (arith, length-set now i c) in
     least_more (set now i c) i c least there (sym (get_or-set_same now i c c within)) (subst (λ l. IsLeast l least) (sym (take-set now i c)) h)
@@ -97,5 +97,5 @@ lesser_min a b =
       ]
     ]
 
-pub least_is : (before after : ℕ) (c : Place) → number_of (head_of c) ≡ shown_id c → after ≡ min before (head_of c) → lesser (number_of before) (shown_id c) ≡ number_of after
+pub least_is : (before after : ℕ) (c : Place) → number_of (head_of c) ≡ current_id c → after ≡ min before (head_of c) → lesser (number_of before) (current_id c) ≡ number_of after
 least_is before after c number is = ap (lesser (number_of before)) (sym number) ∙ lesser_min before (head_of c) ∙ ap number_of (sym is)

@@ -1,6 +1,6 @@
 -- Which conjunctions match (Whang et al. 2009, section 4): those that no list excludes, and that at
 -- least as many lists ask for as the conjunction has predicates.
-use Rattle.std.specs.Prelude.{ℕ, ◌+◌, ◌*◌, ◌<◌, ◌&&◌, ◌==◌, ◌↔◌, nat_le, nat_lt, not, List, [], Bool, cond, count_by, get_or, length, map, slice_index, sum_by, Contains, IsTrue}
+use Rattle.std.specs.Prelude.{ℕ, ◌+◌, ◌*◌, ◌<◌, ◌&&◌, ◌==◌, ◌↔◌, nat_le, nat_lt, not, List, [], Bool, if◌then◌else◌, count_by, get_or, length, map, slice_index, sum_by, Contains, IsTrue}
 use Rattle.std.specs.List.{list_any}
 use Rattle.postings.specs.declared.entry.Entry.{Entry}
 
@@ -28,4 +28,4 @@ pub record IsAnswer (lists : List (List Entry)) (k : ℕ) (ids : List ℕ) : Typ
 -- the greatest number of entries that a match reads: none where fewer than `k` lists are chosen,
 -- else twice the entries of the lists, and one for each list
 abbrev pub cost_of : List (List Entry) → ℕ → ℕ
-cost_of lists k = cond (nat_lt (length lists) k) 0 (2 * sum_by length lists + length lists)
+cost_of lists k = if nat_lt (length lists) k then 0 else 2 * sum_by length lists + length lists

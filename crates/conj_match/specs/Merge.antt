@@ -5,21 +5,21 @@ use Rattle.std.specs.List.{list_any}
 use Rattle.std.specs.Option.{option_map_or}
 use Rattle.postings.specs.declared.entry.Entry.{Entry}
 use Rattle.postings.specs.Order.{IsRising, entry_at}
-use Rattle.conj_match.specs.Place.{Place, shown, IsFirstFrom}
+use Rattle.conj_match.specs.Place.{Place, current, IsFirstFrom}
 
 abbrev pub entries_of : Place → List Entry
 entries_of c = c.entries
 
 -- the number of the entry that the cursor shows
-abbrev pub shown_id : Place → Option ℕ
-shown_id c = option_map (λ (e : Entry). e.id) (shown c)
+abbrev pub current_id : Place → Option ℕ
+current_id c = option_map (λ (e : Entry). e.id) (current c)
 
 -- the cursor shows a negated entry of the conjunction, or another
 abbrev pub shows_negated : ℕ → Place → Bool
-shows_negated id c = option_map_or (λ (e : Entry). (e.id == id) && e.negated) (shown c) false
+shows_negated id c = option_map_or (λ (e : Entry). (e.id == id) && e.negated) (current c) false
 
 abbrev pub shows_plain : ℕ → Place → Bool
-shows_plain id c = option_map_or (λ (e : Entry). (e.id == id) && not e.negated) (shown c) false
+shows_plain id c = option_map_or (λ (e : Entry). (e.id == id) && not e.negated) (current c) false
 
 abbrev pub lesser : Option ℕ → Option ℕ → Option ℕ
 lesser None b = b
@@ -37,8 +37,8 @@ pub record Stands (b : ℕ) (c : Place) : Type 0 where
 -- each number that a cursor shows is at least this one, or there is none
 abbrev pub IsLeast : List Place → Option ℕ → Type 0
 IsLeast cs least = MatchOption least
-    (All (λ c. shown_id c ≡ None) cs)
-    (λ m. All (λ c. MatchOption (shown_id c) (Unit {0}) (λ n. m ≤ n)) cs × ((c : Place) × Contains cs c × (shown_id c ≡ Some m)))
+    (All (λ c. current_id c ≡ None) cs)
+    (λ m. All (λ c. MatchOption (current_id c) (Unit {0}) (λ n. m ≤ n)) cs × ((c : Place) × Contains cs c × (current_id c ≡ Some m)))
 
 -- the cursor went past the number
 pub record Passed (id : ℕ) (old new : Place) : Type 0 where

@@ -1,5 +1,5 @@
 -- The marks of a match by counting, which the crate's private clauses cite.
-use Rattle.std.specs.Prelude.{ℕ, ◌≡◌, ◌+◌, ◌<◌, ◌&&◌, ◌==◌, not, min, nat_le, List, Bool, true, cond, Contains, count_by, length, slice_index}
+use Rattle.std.specs.Prelude.{ℕ, ◌≡◌, ◌+◌, ◌<◌, ◌&&◌, ◌==◌, not, min, nat_le, List, Bool, true, if◌then◌else◌, Contains, count_by, length, slice_index}
 use Rattle.std.specs.List.{flat_map, list_any}
 use Rattle.postings.specs.declared.entry.Entry.{Entry}
 use Rattle.postings.specs.Order.{entry_at}
@@ -21,14 +21,17 @@ asks id e = (e.id == id) && not e.negated
 
 -- 255 where an entry excludes the conjunction, else how many ask for it, up to 254
 abbrev pub tally_of : ℕ → List Entry → ℕ
-tally_of id es = cond (list_any (excludes id) es) 255 (min (count_by (asks id) es) 254)
+tally_of id es = if list_any (excludes id) es then 255 else min (count_by (asks id) es) 254
 
 abbrev pub AreTallied : List ℕ → List Entry → Type 0
 AreTallied marks es = (id : ℕ) → id < length marks → slice_index marks id ≡ tally_of id es
 
 -- the mark after one more entry
-abbrev pub marked : ℕ → Bool → ℕ
-marked mark negated = cond negated 255 (cond (nat_le 254 mark) mark (mark + 1))
+abbrev pub next_mark : ℕ → Bool → ℕ
+next_mark mark negated =
+    if negated then 255
+    else if nat_le 254 mark then mark
+    else mark + 1
 
 -- the mark is that of a match
 abbrev pub is_hit : ℕ → ℕ → Bool

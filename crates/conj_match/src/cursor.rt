@@ -1,6 +1,6 @@
 ghost use Rattle.std.specs.Prelude.{◌≡◌, ◌≤◌, ◌<◌, ◌+◌, ◌-◌, ◌*◌, length, false, true, None};
-ghost use Rattle.conj_match.specs.Place.{HasHead, IsFirstFrom, head_of, number_of, shown};
-ghost use Rattle.conj_match.specs.Merge.{Passed, shown_id, shows_negated, shows_plain};
+ghost use Rattle.conj_match.specs.Place.{HasHead, IsFirstFrom, head_of, number_of, current};
+ghost use Rattle.conj_match.specs.Merge.{Passed, current_id, shows_negated, shows_plain};
 ghost use Rattle.conj_match.specs.Turn.{reaches};
 ghost use Rattle.postings.specs.Order.{IsRising};
 
@@ -27,14 +27,14 @@ pub struct Cursor<'a> {
 }
 
 impl<'a> Model for Cursor<'a> {
-    ghost use Rattle.conj_match.specs.Place.{Place, HasHead, shown};
+    ghost use Rattle.conj_match.specs.Place.{Place, HasHead, current};
     ghost use Rattle.std.specs.Prelude.{◌≡◌, ◌≤◌, length};
 
     ghost Value = { Place };
 
     ghost view = { λ c. record { entries = c.list.now; place = c.place; loaded = c.loaded } };
 
-    ghost invariant = { λ c. (c.place ≤ length c.list.now) × (c.entry ≡ shown (record { entries = c.list.now; place = c.place; loaded = c.loaded })) × HasHead c.entry c.head };
+    ghost invariant = { λ c. (c.place ≤ length c.list.now) × (c.entry ≡ current (record { entries = c.list.now; place = c.place; loaded = c.loaded })) × HasHead c.entry c.head };
 }
 
 impl<'a> Cursor<'a> {
@@ -66,7 +66,7 @@ impl<'a> Cursor<'a> {
 
     /// The entry at the place, or none before it is read and past the end.
     pub fn current(&self) -> Option<Entry>
-        ensures value { result ≡ shown self.now }
+        ensures value { result ≡ current self.now }
         ensures within { self.now.place ≤ length self.now.entries }
     {
         self.entry
@@ -129,14 +129,14 @@ impl<'a> Cursor<'a> {
     #[inline(always)]
     pub(crate) fn head(&self) -> u64
         ensures value { result ≡ head_of self.now }
-        ensures number { number_of result ≡ shown_id self.now }
+        ensures number { number_of result ≡ current_id self.now }
     {
         self.head
     }
 
     /// The number of the entry at the place.
     pub(crate) fn current_id(&self) -> Option<u32>
-        ensures { result ≡ shown_id self.now }
+        ensures { result ≡ current_id self.now }
     {
         self.entry.map(|entry| entry.id)
     }

@@ -1,8 +1,8 @@
-ghost use Rattle.std.specs.Prelude.{◌≡◌, ◌≤◌, ◌<◌, ◌+◌, ◌-◌, ℕ, All, IfOk, cond, count_by, length, map, min, sum_by, nat_le, not, true, ◌&&◌, ◌||◌};
+ghost use Rattle.std.specs.Prelude.{◌≡◌, ◌≤◌, ◌<◌, ◌+◌, ◌-◌, ℕ, All, IfOk, if◌then◌else◌, count_by, length, map, min, sum_by, nat_le, not, true, ◌&&◌, ◌||◌};
 ghost use Rattle.std.specs.List.{list_any};
 ghost use Rattle.conj_match.specs.Matching.{IsAnswer, lists_at};
 ghost use Rattle.conj_match.specs.Place.{head_of, number_of};
-ghost use Rattle.conj_match.specs.Merge.{ArePassed, Passed, Stands, IsLeast, entries_of, left_in, lesser, shown_id, shows_negated, shows_plain};
+ghost use Rattle.conj_match.specs.Merge.{ArePassed, Passed, Stands, IsLeast, entries_of, left_in, lesser, current_id, shows_negated, shows_plain};
 
 use crate::Cursor;
 use crate::cursor::PAST;
@@ -115,9 +115,9 @@ impl Turn {
         requires loaded { cursor.old.loaded ≡ true }
         requires room { self.old.plain < usize.MAX }
         ensures excluded { self.new.is_excluded ≡ (self.old.is_excluded || shows_negated id cursor.old) }
-        ensures plain { self.new.plain ≡ self.old.plain + cond (shows_plain id cursor.old) 1 0 }
+        ensures plain { self.new.plain ≡ self.old.plain + (if shows_plain id cursor.old then 1 else 0) }
         ensures least { self.new.least ≡ min self.old.least (head_of cursor.new) }
-        ensures number { number_of (head_of cursor.new) ≡ shown_id cursor.new }
+        ensures number { number_of (head_of cursor.new) ≡ current_id cursor.new }
         ensures passed { Passed id cursor.old cursor.new }
         ensures cost { steps.new ≤ steps.old + (cursor.new.place - cursor.old.place) }
     {
@@ -132,7 +132,7 @@ impl Turn {
     #[inline(always)]
     fn count(&mut self, cursor: &Cursor, id: u32)
         requires room { self.old.plain < usize.MAX }
-        ensures { self.new ≡ record self.old { is_excluded = self.old.is_excluded || shows_negated id cursor.now; plain = self.old.plain + cond (shows_plain id cursor.now) 1 0 } }
+        ensures { self.new ≡ record self.old { is_excluded = self.old.is_excluded || shows_negated id cursor.now; plain = self.old.plain + (if shows_plain id cursor.now then 1 else 0) } }
     {
         self.is_excluded |= cursor.shows_negated(id);
         self.plain += usize::from(cursor.shows_plain(id));
@@ -153,8 +153,8 @@ fn pass_all<L: Ledger>(cursors: &mut Vec<Cursor>, id: u32, steps: &mut Steps<L>)
         plain: 0,
         least: PAST,
     };
-    for at in 0..cursors.len() {
-        turn.visit(&mut cursors[at], id, steps);
+    for i in 0..cursors.len() {
+        turn.visit(&mut cursors[i], id, steps);
     }
     turn
 }

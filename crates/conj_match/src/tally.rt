@@ -3,7 +3,7 @@ ghost use Rattle.std.specs.List.{sum_by};
 ghost use Rattle.postings.specs.Order.{IsRising, entry_at};
 ghost use Rattle.postings.specs.declared.entry.Entry.{Entry};
 ghost use Rattle.conj_match.specs.Matching.{IsAnswer, lists_at};
-ghost use Rattle.conj_match.specs.Tally.{AreHits, AreTallied, IsBelow, all_in, is_hit, marked};
+ghost use Rattle.conj_match.specs.Tally.{AreHits, AreTallied, IsBelow, all_in, is_hit, next_mark};
 
 use postings::{Entry, Postings};
 use rtb_base::Steps;
@@ -88,12 +88,12 @@ fn mark_entry(marks: &mut [u8], entry: Entry)
     ensures marks { (before : List Entry) → AreTallied marks.old before → AreTallied marks.new (before ++ entry ∷ []) }
 {
     let place = entry.id as usize;
-    marks[place] = marked(marks[place], entry.negated);
+    marks[place] = next_mark(marks[place], entry.negated);
 }
 
 // The mark after an entry. Below `EXCLUDED` a mark counts, up to the number before it.
-fn marked(mark: u8, negated: bool) -> u8
-    ensures { result ≡ marked mark negated }
+fn next_mark(mark: u8, negated: bool) -> u8
+    ensures { result ≡ next_mark mark negated }
 {
     if negated {
         EXCLUDED

@@ -1,7 +1,7 @@
 -- Reading a string's body run by run and escape by escape, as the code does.
 use Rattle.std.proofs.Common.{◌≡◌, ◌≢◌, ℕ, zero, suc, ◌<◌, ◌==◌, List, [], ◌∷◌, ◌++◌, length, true, false, cond, Option, None, Some, refl, sym, ap, ◌∙◌, append_assoc, append-nil, arith, length-append, subst}
 use Rattle.std.proofs.lemmas.Bool.Decides.{nat_tests}
-use Rattle.exact_json.specs.Strings.{followers, is_plain, IsCharacter, Piece, character, escape, is_escape, escaped, alone, text_behind}
+use Rattle.exact_json.specs.Strings.{followers, is_plain, IsCharacter, Piece, character, escape, is_escape, escape_value, alone, text_behind}
 use Rattle.exact_json.specs.Reading.{Outcome, done, stops, short, ◌>>=◌, mapped, follow_at, escape_at, piece_at, pieces_at, body_at, quoted_at, past, char_at, skip_plain, is_special, EndsRun, after_run, before}
 use Rattle.exact_json.specs.Gives.{Fails}
 use Rattle.exact_json.specs.declared.stop.Stop.{Stop}
@@ -259,15 +259,15 @@ escape_two c s e = off (c == 117) _ _ (no_unit c e) ∙ on (is_escape c) _ _ e
 -- an escape of two bytes
 pub two_more : (new old later left bytes : List ℕ) (d : ℕ) (after : List ℕ) (c : ℕ) (rest : List ℕ)
     → mapped (λ t. new ++ t) (body_at None left) ≡ mapped (λ t. old ++ t) (body_at None bytes) → left ≡ d ∷ after → d ≡ 92 → after ≡ c ∷ rest → is_escape c ≡ true
-    → later ≡ new ++ escaped c ∷ []
+    → later ≡ new ++ escape_value c ∷ []
     → mapped (λ t. later ++ t) (body_at None rest) ≡ mapped (λ t. old ++ t) (body_at None bytes)
 unfolding body_at
 two_more new old later left bytes d after c rest same ed e92 ea ee et =
     let el : left ≡ 92 ∷ c ∷ rest = ed ∙ ap (λ k. k ∷ after) e92 ∙ ap (λ k. 92 ∷ k) ea in
     ap (λ k. mapped (λ t. k ++ t) (body_at None rest)) et
-    ∙ fused (λ t. (new ++ escaped c ∷ []) ++ t) (text_behind None) (pieces_at (suc (length rest)) rest)
-    ∙ alike (λ ps. (new ++ escaped c ∷ []) ++ text_behind None ps) (λ ps. new ++ text_behind None (escape c ∷ ps))
-    (λ ps. append_assoc new (escaped c ∷ []) (text_behind None ps)) (pieces_at (suc (length rest)) rest)
+    ∙ fused (λ t. (new ++ escape_value c ∷ []) ++ t) (text_behind None) (pieces_at (suc (length rest)) rest)
+    ∙ alike (λ ps. (new ++ escape_value c ∷ []) ++ text_behind None ps) (λ ps. new ++ text_behind None (escape c ∷ ps))
+    (λ ps. append_assoc new (escape_value c ∷ []) (text_behind None ps)) (pieces_at (suc (length rest)) rest)
     ∙ sym (fused (λ t. new ++ t) (λ ps. text_behind None (escape c ∷ ps)) (pieces_at (suc (length rest)) rest))
     ∙ ap (mapped (λ t. new ++ t)) (sym (body_step None 92 (c ∷ rest) (escape c) rest no_quote (escape_piece 92 (c ∷ rest) refl ∙ escape_two c rest ee)))
     ∙ ap (λ k. mapped (λ t. new ++ t) (body_at None k)) (sym el)

@@ -3,16 +3,13 @@ use Rattle.std.proofs.Common.{◌≡◌, ℕ, zero, suc, List, [], ◌∷◌, Bo
 use Rattle.std.specs.List.{All}
 use Rattle.std.specs.Str.{bytes_eq}
 use Rattle.std.proofs.lemmas.List.Elements.{All-nil, All-cons}
+use Rattle.std.proofs.lemmas.Bool.{and_from}
 use Rattle.rtb_num.specs.Numbers.{is_number}
 use Rattle.exact_json.specs.Tree.{Tree, null, boolean, number, string, array, object, Trees, no_trees, tree, Pairs, no_pairs, pair, later_or, get_pair, get}
 use Rattle.exact_json.specs.View.{trees_from, pairs_from, tree_of}
 use Rattle.exact_json.specs.declared.value.Value.{Value}
 use Rattle.exact_json.specs.Grammar.{Spells, SpellsItems, SpellsMoreItems, SpellsMembers, SpellsMoreMembers, IsTextWithin}
 use Rattle.exact_json.specs.Forms.{numbers_formed, all_formed, members_formed, HasForms, nests, all_nest, members_nest, NestsWithin}
-
-both : (a b : Bool) → a ≡ true → b ≡ true → (a && b) ≡ true
-both true b p q = q
-both false b p q = p
 
 first : (a b : Bool) → (a && b) ≡ true → a ≡ true
 first true b p = refl
@@ -38,21 +35,21 @@ mutual
 
   items_formed : (ts : Trees) (d : ℕ) (w : List ℕ) → SpellsItems d ts w → all_formed ts ≡ true
   items_formed no_trees d w h = refl
-  items_formed (tree t ts) d w (a, q, l, (sp, m, p, k, e1), e0) = both (numbers_formed t) (all_formed ts) (forms t d a l) (more_items_formed ts d m k)
+  items_formed (tree t ts) d w (a, q, l, (sp, m, p, k, e1), e0) = and_from (numbers_formed t) (all_formed ts) (forms t d a l) (more_items_formed ts d m k)
 
   more_items_formed : (ts : Trees) (d : ℕ) (w : List ℕ) → SpellsMoreItems d ts w → all_formed ts ≡ true
   more_items_formed no_trees d w h = refl
-  more_items_formed (tree t ts) d w (b, (sp, r, p, (a, q, l, (sp2, m, p2, k, e2), e1), e0), ew) = both (numbers_formed t) (all_formed ts) (forms t d a l) (more_items_formed ts d m k)
+  more_items_formed (tree t ts) d w (b, (sp, r, p, (a, q, l, (sp2, m, p2, k, e2), e1), e0), ew) = and_from (numbers_formed t) (all_formed ts) (forms t d a l) (more_items_formed ts d m k)
 
   members_are_formed : (ps : Pairs) (d : ℕ) (w : List ℕ) → SpellsMembers d ps w → members_formed ps ≡ true
   members_are_formed no_pairs d w h = refl
   members_are_formed (pair n t ps) d w (a, q, (n1, n2, s, (sq, v, pq, (b2, (sr, v2, pr, l, e5), e4), e3), e2), (sp, m, p, k, e1), e0) =
-      both (numbers_formed t) (members_formed ps) (forms t d v2 l) (more_members_formed ps d m k)
+      and_from (numbers_formed t) (members_formed ps) (forms t d v2 l) (more_members_formed ps d m k)
 
   more_members_formed : (ps : Pairs) (d : ℕ) (w : List ℕ) → SpellsMoreMembers d ps w → members_formed ps ≡ true
   more_members_formed no_pairs d w h = refl
   more_members_formed (pair n t ps) d w (b, (sp0, r, p0, (a, q, (n1, n2, s, (sq, v, pq, (b2, (sr, v2, pr, l, e5), e4), e3), e2), (sp, m, p, k, e1), e0), e6), ew) =
-      both (numbers_formed t) (members_formed ps) (forms t d v2 l) (more_members_formed ps d m k)
+      and_from (numbers_formed t) (members_formed ps) (forms t d v2 l) (more_members_formed ps d m k)
 
 mutual
   pub depth : (t : Tree) (d : ℕ) (w : List ℕ) → Spells d t w → NestsWithin d t
@@ -67,21 +64,21 @@ mutual
 
   items_nest : (ts : Trees) (d : ℕ) (w : List ℕ) → SpellsItems d ts w → all_nest d ts ≡ true
   items_nest no_trees d w h = refl
-  items_nest (tree t ts) d w (a, q, l, (sp, m, p, k, e1), e0) = both (nests d t) (all_nest d ts) (depth t d a l) (more_items_nest ts d m k)
+  items_nest (tree t ts) d w (a, q, l, (sp, m, p, k, e1), e0) = and_from (nests d t) (all_nest d ts) (depth t d a l) (more_items_nest ts d m k)
 
   more_items_nest : (ts : Trees) (d : ℕ) (w : List ℕ) → SpellsMoreItems d ts w → all_nest d ts ≡ true
   more_items_nest no_trees d w h = refl
-  more_items_nest (tree t ts) d w (b, (sp, r, p, (a, q, l, (sp2, m, p2, k, e2), e1), e0), ew) = both (nests d t) (all_nest d ts) (depth t d a l) (more_items_nest ts d m k)
+  more_items_nest (tree t ts) d w (b, (sp, r, p, (a, q, l, (sp2, m, p2, k, e2), e1), e0), ew) = and_from (nests d t) (all_nest d ts) (depth t d a l) (more_items_nest ts d m k)
 
   members_do_nest : (ps : Pairs) (d : ℕ) (w : List ℕ) → SpellsMembers d ps w → members_nest d ps ≡ true
   members_do_nest no_pairs d w h = refl
   members_do_nest (pair n t ps) d w (a, q, (n1, n2, s, (sq, v, pq, (b2, (sr, v2, pr, l, e5), e4), e3), e2), (sp, m, p, k, e1), e0) =
-      both (nests d t) (members_nest d ps) (depth t d v2 l) (more_members_nest ps d m k)
+      and_from (nests d t) (members_nest d ps) (depth t d v2 l) (more_members_nest ps d m k)
 
   more_members_nest : (ps : Pairs) (d : ℕ) (w : List ℕ) → SpellsMoreMembers d ps w → members_nest d ps ≡ true
   more_members_nest no_pairs d w h = refl
   more_members_nest (pair n t ps) d w (b, (sp0, r, p0, (a, q, (n1, n2, s, (sq, v, pq, (b2, (sr, v2, pr, l, e5), e4), e3), e2), (sp, m, p, k, e1), e0), e6), ew) =
-      both (nests d t) (members_nest d ps) (depth t d v2 l) (more_members_nest ps d m k)
+      and_from (nests d t) (members_nest d ps) (depth t d v2 l) (more_members_nest ps d m k)
 
 pub text_forms : (d : ℕ) (t : Tree) (w : List ℕ) → IsTextWithin d t w → HasForms t
 text_forms d t w (sp, r, p, (a, sq, l, q, e1), e0) = forms t d a l

@@ -3,6 +3,8 @@ use Rattle.std.proofs.Common.{◌≡◌, ℕ, ◌≤◌, ◌==◌, ◌&&◌, ◌
 use Rattle.std.specs.List.{list_all, list_any, before_first, after_first}
 use Rattle.std.proofs.lemmas.Bool.Decides.{nat_tests}
 use Rattle.std.proofs.lemmas.Grind.{common_steps}
+use Rattle.rtb_num.proofs.Written.{digit_no_point}
+use Rattle.rtb_num.proofs.Decimals.{digit_no_mark, point_no_mark}
 use Rattle.rtb_num.specs.Amounts.{is_digit, is_point, is_whole_part, is_decimal}
 use Rattle.rtb_num.specs.Numbers.{is_minus, is_exponent_mark, is_exponent, is_number, without_minus, without_sign}
 use Rattle.exact_json.specs.Numbers.{Phase, start, minus, leading_zero, whole, point, fraction, exponent, sign, power, digit_to, to_int, to_exponent, to_point, next_phase, ends_number, accepts}
@@ -91,20 +93,8 @@ past_figure F c d e =
 
 -- ---- byte by byte
 
-digit_no_point : (c : ℕ) → is_digit c ≡ true → is_point c ≡ false
-digit_no_point c e = grind (arith, nat_tests)
-
-digit_no_mark : (c : ℕ) → is_digit c ≡ true → is_exponent_mark c ≡ false
-digit_no_mark c e = grind (arith, nat_tests)
-
 digit_no_sign : (c : ℕ) → is_digit c ≡ true → (c == 43 || is_minus c) ≡ false
 digit_no_sign c e = grind (arith, nat_tests)
-
-pub digit_no_minus : (c : ℕ) → is_digit c ≡ true → is_minus c ≡ false
-digit_no_minus c e = grind (arith, nat_tests)
-
-point_no_mark : (c : ℕ) → is_point c ≡ true → is_exponent_mark c ≡ false
-point_no_mark c e = grind (arith, nat_tests)
 
 zero_is_digit : (c : ℕ) → (c == 48) ≡ true → is_digit c ≡ true
 zero_is_digit c e = grind (arith, nat_tests)

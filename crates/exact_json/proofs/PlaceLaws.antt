@@ -3,6 +3,7 @@ use Rattle.std.proofs.Common.{◌≡◌, ◌≢◌, ℕ, zero, suc, ◌+◌, ◌
 use Rattle.std.specs.Prelude.{codes}
 use Rattle.std.specs.List.{list_all}
 use Rattle.std.proofs.lemmas.Bool.Decides.{nat_tests}
+use Rattle.std.proofs.lemmas.Bool.{and_from}
 use Rattle.rtb_num.specs.Amounts.{is_digit, is_point}
 use Rattle.rtb_num.specs.Numbers.{is_minus, is_exponent_mark, is_number}
 use Rattle.exact_json.specs.Shapes.{AreSpaces, Passes}
@@ -30,10 +31,6 @@ fits_all p (c ∷ s) = fits_place p c && fits_all (step p c) s
 abbrev Goes : Place → List ℕ → Place → Type 0
 Goes p w q = (fits_all p w ≡ true) × (place_from p w ≡ q)
 
-both : (a b : Bool) → a ≡ true → b ≡ true → (a && b) ≡ true
-both true b p q = q
-both false b p q = p
-
 first : (a b : Bool) → (a && b) ≡ true → a ≡ true
 first true b p = refl
 first false b p = p
@@ -43,10 +40,10 @@ second true b p = p
 second false b p = not_both false p refl
 
 one : (p : Place) (c : ℕ) (q : Place) → fits_place p c ≡ true → step p c ≡ q → Goes p (c ∷ []) q
-one p c q f e = (both (fits_place p c) true f refl, e)
+one p c q f e = (and_from (fits_place p c) true f refl, e)
 
 more : (p q r : Place) (c : ℕ) (s : List ℕ) → fits_place p c ≡ true → step p c ≡ q → Goes q s r → Goes p (c ∷ s) r
-more p q r c s f e g = (both (fits_place p c) (fits_all (step p c) s) f (ap (λ x. fits_all x s) e ∙ g.0), ap (λ x. place_from x s) e ∙ g.1)
+more p q r c s f e g = (and_from (fits_place p c) (fits_all (step p c) s) f (ap (λ x. fits_all x s) e ∙ g.0), ap (λ x. place_from x s) e ∙ g.1)
 
 joined : (a b : List ℕ) (p q r : Place) → Goes p a q → Goes q b r → Goes p (a ++ b) r
 joined [] b p q r (f, e) h = subst (λ x. Goes x b r) (sym e) h
@@ -362,7 +359,7 @@ live_fits f g (rest, t, h) = front (place_behind f) g rest (parts f (g ++ rest) 
   where
     front : (p : Place) (a b : List ℕ) → fits_all p (a ++ b) ≡ true → fits_all p a ≡ true
     front p [] b e = refl
-    front p (c ∷ a) b e = both (fits_place p c) (fits_all (step p c) a) (first (fits_place p c) _ e) (front (step p c) a b (second (fits_place p c) _ e))
+    front p (c ∷ a) b e = and_from (fits_place p c) (fits_all (step p c) a) (first (fits_place p c) _ e) (front (step p c) a b (second (fits_place p c) _ e))
 
 abbrev IsWithin : Place → Type 0
 IsWithin outside = ⊥

@@ -6,8 +6,9 @@ use Rattle.rtb_num.specs.Numbers.{is_minus}
 use Rattle.exact_json.specs.Numbers.{Phase, start, minus, leading_zero, whole, next_phase, ends_number, digit_to, to_int, to_point}
 use Rattle.exact_json.specs.Reading.{Outcome, done, stops, short, mapped, scan, number_at, skip_digits, before}
 use Rattle.std.proofs.lemmas.Bool.Decides.{nat_tests}
+use Rattle.rtb_num.proofs.Decimals.{digit_no_minus}
 use Rattle.exact_json.proofs.Fronts.{by_test}
-use Rattle.exact_json.proofs.NumberForm.{on, off, digit_no_minus}
+use Rattle.exact_json.proofs.NumberForm.{on, off}
 use Rattle.exact_json.proofs.Right.{unchanged}
 
 -- what stands before the rest

@@ -1,5 +1,5 @@
 -- Reading as functions on lists, which the crate's private clauses cite.
-use Rattle.std.specs.Prelude.{◌≡◌, ℕ, zero, suc, ◌+◌, ◌-◌, ◌*◌, List, [], ◌∷◌, ◌++◌, length, take, Bool, true, false, cond, ◌==◌, ◌||◌, Option, None, Some, codes}
+use Rattle.std.specs.Prelude.{◌≡◌, ℕ, zero, suc, ◌+◌, ◌-◌, ◌*◌, List, [], ◌∷◌, ◌++◌, length, take, Bool, true, false, if◌then◌else◌, ◌==◌, ◌||◌, Option, None, Some, codes}
 use Rattle.rtb_num.specs.Amounts.{is_digit}
 use Rattle.exact_json.specs.Numbers.{start, next_phase, ends_number}
 use Rattle.exact_json.specs.Strings.{Piece, character, escape, code_unit, followers, is_plain, is_escape, four_hex, hex_onto, is_hex, hex_digit, is_tail, text_behind, alone}
@@ -31,7 +31,7 @@ in_turn f g s = f s >>= λ x rest. mapped (λ y. (x, y)) (g rest)
 -- a byte, and the reader of the rest
 abbrev pub byte_then : {A : Type 0} → ℕ → Reader A → Reader A
 byte_then k f [] = short
-byte_then k f (c ∷ s) = cond (c == k) (f s) (stops (c ∷ s))
+byte_then k f (c ∷ s) = if c == k then f s else stops (c ∷ s)
 
 abbrev pub is_space : ℕ → Bool
 is_space c = (c == 32) || ((c == 9) || ((c == 10) || (c == 13)))
@@ -39,24 +39,24 @@ is_space c = (c == 32) || ((c == 9) || ((c == 10) || (c == 13)))
 -- what stands behind white space
 unfoldable pub skip : List ℕ → List ℕ
 skip [] = []
-skip (c ∷ s) = cond (is_space c) (skip s) (c ∷ s)
+skip (c ∷ s) = if is_space c then skip s else c ∷ s
 
 -- bytes that pass these tests in turn
 abbrev pub passes_at : List (ℕ → Bool) → Reader (List ℕ)
 passes_at [] s = done [] s
 passes_at (p ∷ ps) [] = short
-passes_at (p ∷ ps) (c ∷ s) = cond (p c) (mapped (λ w. c ∷ w) (passes_at ps s)) (stops (c ∷ s))
+passes_at (p ∷ ps) (c ∷ s) = if p c then mapped (λ w. c ∷ w) (passes_at ps s) else stops (c ∷ s)
 
 -- these bytes
 abbrev pub word_at : List ℕ → Reader (List ℕ)
 word_at [] s = done [] s
 word_at (k ∷ ks) [] = short
-word_at (k ∷ ks) (c ∷ s) = cond (c == k) (mapped (λ w. c ∷ w) (word_at ks s)) (stops (c ∷ s))
+word_at (k ∷ ks) (c ∷ s) = if c == k then mapped (λ w. c ∷ w) (word_at ks s) else stops (c ∷ s)
 
 -- bytes as long as they lead from state to state, which must end in one where they may
 unfoldable pub scan : {Q : Type 0} → (Q → ℕ → Option Q) → (Q → Bool) → Q → Reader (List ℕ)
-scan next ends q [] = cond (ends q) (done [] []) short
-scan next ends q (c ∷ s) = elim (next q c) [ None ↦ cond (ends q) (done [] (c ∷ s)) (stops (c ∷ s)) | Some r ↦ mapped (λ w. c ∷ w) (scan next ends r s) ]
+scan next ends q [] = if ends q then done [] [] else short
+scan next ends q (c ∷ s) = elim (next q c) [ None ↦ if ends q then done [] (c ∷ s) else stops (c ∷ s) | Some r ↦ mapped (λ w. c ∷ w) (scan next ends r s) ]
 
 unfoldable pub number_at : Reader (List ℕ)
 number_at s = scan next_phase ends_number start s
@@ -70,18 +70,19 @@ follow_at (Some ps) c s = mapped (λ w. c ∷ w) (passes_at ps s)
 abbrev pub escape_at : Reader Piece
 escape_at [] = short
 escape_at (c ∷ s) =
-    cond (c == 117) (mapped (λ h. code_unit (hex_onto 0 h)) (passes_at four_hex s))
-    (cond (is_escape c) (done (escape c) s) (stops (c ∷ s)))
+    if c == 117 then mapped (λ h. code_unit (hex_onto 0 h)) (passes_at four_hex s)
+    else if is_escape c then done (escape c) s
+    else stops (c ∷ s)
 
 unfoldable pub piece_at : Reader Piece
 piece_at [] = short
-piece_at (c ∷ s) = cond (c == 92) (escape_at s) (mapped character (follow_at (followers c) c s))
+piece_at (c ∷ s) = if c == 92 then escape_at s else mapped character (follow_at (followers c) c s)
 
 -- pieces up to a quotation mark; the number bounds the turns, and one more than there are bytes is enough
 unfoldable pub pieces_at : ℕ → Reader (List Piece)
 pieces_at zero s = short
 pieces_at (suc n) [] = short
-pieces_at (suc n) (c ∷ s) = cond (c == 34) (done [] s) (mapped (λ (p : Piece × List Piece). p.0 ∷ p.1) (in_turn piece_at (pieces_at n) (c ∷ s)))
+pieces_at (suc n) (c ∷ s) = if c == 34 then done [] s else mapped (λ (p : Piece × List Piece). p.0 ∷ p.1) (in_turn piece_at (pieces_at n) (c ∷ s))
 
 -- the text of the pieces behind a high surrogate, or none, up to the quotation mark
 unfoldable pub body_at : Option ℕ → Reader (List ℕ)
@@ -96,14 +97,16 @@ unfoldable pub more_at : {A : Type 0} → Reader A → ℕ → ℕ → Reader (L
 more_at entry close zero s = short
 more_at entry close (suc n) [] = short
 more_at {A} entry close (suc n) (c ∷ s) =
-    cond (c == close) (done [] s)
-    (cond (c == 44) (mapped (λ (p : A × List A). p.0 ∷ p.1) (in_turn entry (λ rest. more_at entry close n (skip rest)) (skip s))) (stops (c ∷ s)))
+    if c == close then done [] s
+    else if c == 44 then mapped (λ (p : A × List A). p.0 ∷ p.1) (in_turn entry (λ rest. more_at entry close n (skip rest)) (skip s))
+    else stops (c ∷ s)
 
 -- the entries and the closing byte
 unfoldable pub entries_at : {A : Type 0} → Reader A → ℕ → Reader (List A)
 entries_at entry close [] = short
 entries_at {A} entry close (c ∷ s) =
-    cond (c == close) (done [] s) (mapped (λ (p : A × List A). p.0 ∷ p.1) (in_turn entry (λ rest. more_at entry close (length (skip rest)) (skip rest)) (c ∷ s)))
+    if c == close then done [] s
+    else mapped (λ (p : A × List A). p.0 ∷ p.1) (in_turn entry (λ rest. more_at entry close (length (skip rest)) (skip rest)) (c ∷ s))
 
 -- a member, where value reads the value
 unfoldable pub member_at : Reader Tree → Reader (List ℕ × Tree)
@@ -112,19 +115,21 @@ member_at value s = in_turn (byte_then 34 quoted_at) (λ rest. byte_then 58 (λ 
 -- a value that is neither an array nor an object, by its first byte
 unfoldable pub scalar_at : ℕ → Reader Tree
 scalar_at c s =
-    cond (c == 34) (mapped string (quoted_at s))
-    (cond ((c == 45) || is_digit c) (mapped number (number_at (c ∷ s)))
-    (cond (c == 110) (mapped (λ w. null) (word_at (codes "ull") s))
-    (cond (c == 116) (mapped (λ w. boolean true) (word_at (codes "rue") s))
-    (cond (c == 102) (mapped (λ w. boolean false) (word_at (codes "alse") s)) (stops (c ∷ s))))))
+    if c == 34 then mapped string (quoted_at s)
+    else if (c == 45) || is_digit c then mapped number (number_at (c ∷ s))
+    else if c == 110 then mapped (λ w. null) (word_at (codes "ull") s)
+    else if c == 116 then mapped (λ w. boolean true) (word_at (codes "rue") s)
+    else if c == 102 then mapped (λ w. boolean false) (word_at (codes "alse") s)
+    else stops (c ∷ s)
 
 -- arrays and objects nest at most that deep; no white space stands before
 unfoldable pub value_at : ℕ → Reader Tree
 value_at d [] = short
 value_at zero (c ∷ s) = scalar_at c s
 value_at (suc d) (c ∷ s) =
-    cond (c == 91) (mapped (λ ts. array (trees_from ts)) (entries_at (value_at d) 93 (skip s)))
-    (cond (c == 123) (mapped (λ ps. object (pairs_from ps)) (entries_at (member_at (value_at d)) 125 (skip s))) (scalar_at c s))
+    if c == 91 then mapped (λ ts. array (trees_from ts)) (entries_at (value_at d) 93 (skip s))
+    else if c == 123 then mapped (λ ps. object (pairs_from ps)) (entries_at (member_at (value_at d)) 125 (skip s))
+    else scalar_at c s
 
 -- the end of the text
 abbrev pub end_of : Tree → List ℕ → Outcome Tree
@@ -143,7 +148,7 @@ past o = mapped (λ x. tt) o
 -- a byte that passes, and no more is kept of it
 abbrev pub one_at : (ℕ → Bool) → Reader (Unit {0})
 one_at p [] = short
-one_at p (c ∷ s) = cond (p c) (done tt s) (stops (c ∷ s))
+one_at p (c ∷ s) = if p c then done tt s else stops (c ∷ s)
 
 abbrev pub ones_at : List (ℕ → Bool) → Reader (Unit {0})
 ones_at [] s = done tt s
@@ -162,17 +167,17 @@ char_at (c ∷ s) = past (follow_at (followers c) c s)
 -- what stands behind digits
 unfoldable pub skip_digits : List ℕ → List ℕ
 skip_digits [] = []
-skip_digits (c ∷ s) = cond (is_digit c) (skip_digits s) (c ∷ s)
+skip_digits (c ∷ s) = if is_digit c then skip_digits s else c ∷ s
 
 -- what stands behind plain characters
 unfoldable pub skip_plain : List ℕ → List ℕ
 skip_plain [] = []
-skip_plain (c ∷ s) = cond (is_plain c) (skip_plain s) (c ∷ s)
+skip_plain (c ∷ s) = if is_plain c then skip_plain s else c ∷ s
 
 -- a hexadecimal digit, as its value, and four of them
 abbrev pub hex_at : Reader ℕ
 hex_at [] = short
-hex_at (c ∷ s) = cond (is_hex c) (done (hex_digit c) s) (stops (c ∷ s))
+hex_at (c ∷ s) = if is_hex c then done (hex_digit c) s else stops (c ∷ s)
 
 unfoldable pub unit_at : Reader ℕ
 unit_at s = hex_at s >>= λ a r1. hex_at r1 >>= λ b r2. hex_at r2 >>= λ c r3. hex_at r3 >>= λ d rest. done (((a * 16 + b) * 16 + c) * 16 + d) rest

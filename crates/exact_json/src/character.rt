@@ -5,18 +5,6 @@ ghost use Rattle.exact_json.specs.Strings.{followers, in_range, is_plain};
 
 use crate::stop::Stop;
 
-fn in_range(low: u8, high: u8, byte: u8) -> bool
-    ensures { result ≡ in_range low high byte }
-{
-    low <= byte && byte <= high
-}
-
-fn is_plain(byte: u8) -> bool
-    ensures { result ≡ is_plain byte }
-{
-    in_range(0x20, 0x7F, byte) && byte != b'"' && byte != b'\\'
-}
-
 // What stands behind plain characters.
 #[inline(always)]
 #[tactic(auto, unfolding(crate::specs::Reading::skip_plain))]
@@ -32,6 +20,36 @@ pub(crate) fn skip_plain(bytes: &[u8]) -> &[u8]
         left = rest;
     }
     left
+}
+
+fn is_plain(byte: u8) -> bool
+    ensures { result ≡ is_plain byte }
+{
+    in_range(0x20, 0x7F, byte) && byte != b'"' && byte != b'\\'
+}
+
+fn in_range(low: u8, high: u8, byte: u8) -> bool
+    ensures { result ≡ in_range low high byte }
+{
+    low <= byte && byte <= high
+}
+
+// What stands behind an unescaped character.
+pub(crate) fn character_end(bytes: &[u8]) -> Result<&[u8], Stop>
+    ensures gives { Leaves tt result (char_at bytes.now) }
+    ensures shorter { IfOk result (λ rest. length rest.now < length bytes.now) }
+{
+    let Some((first, rest)) = bytes.split_first() else {
+        return Err(Stop::Short);
+    };
+    if is_plain(*first) {
+        return Ok(rest);
+    }
+    let Some((low, high, tails)) = followers_of(*first) else {
+        return Err(Stop::At(bytes.len()));
+    };
+    let rest = after_one(rest, low, high)?;
+    after_tails(rest, tails)
 }
 
 // The range of the second byte of a character and how many tails follow it, by its first byte.
@@ -89,22 +107,4 @@ fn after_tails(bytes: &[u8], tails: usize) -> Result<&[u8], Stop>
         due -= 1;
     }
     Ok(left)
-}
-
-// What stands behind an unescaped character.
-pub(crate) fn character_end(bytes: &[u8]) -> Result<&[u8], Stop>
-    ensures gives { Leaves tt result (char_at bytes.now) }
-    ensures shorter { IfOk result (λ rest. length rest.now < length bytes.now) }
-{
-    let Some((first, rest)) = bytes.split_first() else {
-        return Err(Stop::Short);
-    };
-    if is_plain(*first) {
-        return Ok(rest);
-    }
-    let Some((low, high, tails)) = followers_of(*first) else {
-        return Err(Stop::At(bytes.len()));
-    };
-    let rest = after_one(rest, low, high)?;
-    after_tails(rest, tails)
 }

@@ -27,70 +27,32 @@ pub(crate) fn is_digit(byte: u8) -> bool
     matches!(byte, b'0'..=b'9')
 }
 
-fn digit_to(phase: Phase, byte: u8) -> Option<Phase>
-    ensures { option_map phase_of result ≡ digit_to (phase_of phase) byte }
+// What stands behind a number.
+pub(crate) fn number_end(bytes: &[u8]) -> Result<&[u8], Stop>
+    ensures { Cuts bytes.now result (number_at bytes.now) }
 {
-    if is_digit(byte) { Some(phase) } else { None }
-}
-
-fn to_int(byte: u8) -> Option<Phase>
-    ensures { option_map phase_of result ≡ to_int byte }
-{
-    if byte == b'0' {
-        return Some(Phase::LeadingZero);
-    }
-    digit_to(Phase::Whole, byte)
-}
-
-fn to_exponent(byte: u8) -> Option<Phase>
-    ensures { option_map phase_of result ≡ to_exponent byte }
-{
-    if byte == b'e' || byte == b'E' {
-        Some(Phase::Exponent)
-    } else {
-        None
+    match digits_end(bytes) {
+        Some(rest) => Ok(rest),
+        None => any_number_end(bytes),
     }
 }
 
-fn to_point(byte: u8) -> Option<Phase>
-    ensures { option_map phase_of result ≡ to_point byte }
+// What stands behind a number that is digits alone, the first of them no 0.
+fn digits_end(bytes: &[u8]) -> Option<&[u8]>
+    ensures { IfSome result (λ rest. Cuts bytes.now (Ok rest) (number_at bytes.now)) }
 {
-    if byte == b'.' {
-        return Some(Phase::Point);
+    let (first, rest) = bytes.split_first()?;
+    if *first == b'0' || !is_digit(*first) {
+        return None;
     }
-    to_exponent(byte)
-}
-
-fn or_digit(phase: Phase, byte: u8, other: Option<Phase>) -> Option<Phase>
-    ensures { option_map phase_of result ≡ (if (is_digit byte) then (Some (phase_of phase)) else (option_map phase_of other)) }
-{
-    if is_digit(byte) { Some(phase) } else { other }
-}
-
-// The phase behind one more byte, where a number can go on by it.
-fn next_phase(phase: Phase, byte: u8) -> Option<Phase>
-    ensures { option_map phase_of result ≡ next_phase (phase_of phase) byte }
-{
-    match phase {
-        Phase::Start if byte == b'-' => Some(Phase::Minus),
-        Phase::Start | Phase::Minus => to_int(byte),
-        Phase::LeadingZero => to_point(byte),
-        Phase::Whole => or_digit(Phase::Whole, byte, to_point(byte)),
-        Phase::Point => digit_to(Phase::Fraction, byte),
-        Phase::Fraction => or_digit(Phase::Fraction, byte, to_exponent(byte)),
-        Phase::Exponent if byte == b'+' || byte == b'-' => Some(Phase::Sign),
-        Phase::Exponent | Phase::Sign | Phase::Power => digit_to(Phase::Power, byte),
+    let left = skip_digits(rest);
+    let Some((next, _)) = left.split_first() else {
+        return Some(left);
+    };
+    match to_point(*next) {
+        None => Some(left),
+        Some(_) => None,
     }
-}
-
-// Whether a number may end in this phase.
-fn may_end(phase: Phase) -> bool
-    ensures { result ≡ ends_number (phase_of phase) }
-{
-    matches!(
-        phase,
-        Phase::LeadingZero | Phase::Whole | Phase::Fraction | Phase::Power
-    )
 }
 
 // What stands behind digits.
@@ -110,21 +72,22 @@ fn skip_digits(bytes: &[u8]) -> &[u8]
     left
 }
 
-// What stands behind a number that is digits alone, the first of them no 0.
-fn digits_end(bytes: &[u8]) -> Option<&[u8]>
-    ensures { IfSome result (λ rest. Cuts bytes.now (Ok rest) (number_at bytes.now)) }
+fn to_point(byte: u8) -> Option<Phase>
+    ensures { option_map phase_of result ≡ to_point byte }
 {
-    let (first, rest) = bytes.split_first()?;
-    if *first == b'0' || !is_digit(*first) {
-        return None;
+    if byte == b'.' {
+        return Some(Phase::Point);
     }
-    let left = skip_digits(rest);
-    let Some((next, _)) = left.split_first() else {
-        return Some(left);
-    };
-    match to_point(*next) {
-        None => Some(left),
-        Some(_) => None,
+    to_exponent(byte)
+}
+
+fn to_exponent(byte: u8) -> Option<Phase>
+    ensures { option_map phase_of result ≡ to_exponent byte }
+{
+    if byte == b'e' || byte == b'E' {
+        Some(Phase::Exponent)
+    } else {
+        None
     }
 }
 
@@ -152,12 +115,49 @@ fn any_number_end(bytes: &[u8]) -> Result<&[u8], Stop>
     }
 }
 
-// What stands behind a number.
-pub(crate) fn number_end(bytes: &[u8]) -> Result<&[u8], Stop>
-    ensures { Cuts bytes.now result (number_at bytes.now) }
+// The phase behind one more byte, where a number can go on by it.
+fn next_phase(phase: Phase, byte: u8) -> Option<Phase>
+    ensures { option_map phase_of result ≡ next_phase (phase_of phase) byte }
 {
-    match digits_end(bytes) {
-        Some(rest) => Ok(rest),
-        None => any_number_end(bytes),
+    match phase {
+        Phase::Start if byte == b'-' => Some(Phase::Minus),
+        Phase::Start | Phase::Minus => to_int(byte),
+        Phase::LeadingZero => to_point(byte),
+        Phase::Whole => or_digit(Phase::Whole, byte, to_point(byte)),
+        Phase::Point => digit_to(Phase::Fraction, byte),
+        Phase::Fraction => or_digit(Phase::Fraction, byte, to_exponent(byte)),
+        Phase::Exponent if byte == b'+' || byte == b'-' => Some(Phase::Sign),
+        Phase::Exponent | Phase::Sign | Phase::Power => digit_to(Phase::Power, byte),
     }
+}
+
+fn to_int(byte: u8) -> Option<Phase>
+    ensures { option_map phase_of result ≡ to_int byte }
+{
+    if byte == b'0' {
+        return Some(Phase::LeadingZero);
+    }
+    digit_to(Phase::Whole, byte)
+}
+
+fn digit_to(phase: Phase, byte: u8) -> Option<Phase>
+    ensures { option_map phase_of result ≡ digit_to (phase_of phase) byte }
+{
+    if is_digit(byte) { Some(phase) } else { None }
+}
+
+fn or_digit(phase: Phase, byte: u8, other: Option<Phase>) -> Option<Phase>
+    ensures { option_map phase_of result ≡ (if (is_digit byte) then (Some (phase_of phase)) else (option_map phase_of other)) }
+{
+    if is_digit(byte) { Some(phase) } else { other }
+}
+
+// Whether a number may end in this phase.
+fn may_end(phase: Phase) -> bool
+    ensures { result ≡ ends_number (phase_of phase) }
+{
+    matches!(
+        phase,
+        Phase::LeadingZero | Phase::Whole | Phase::Fraction | Phase::Power
+    )
 }

@@ -11,16 +11,26 @@ pub(crate) enum Place {
     Escaped,
 }
 
-fn due_behind(due: u8, byte: u8) -> u8
-    ensures { result ≡ due_behind due byte }
+// The place behind a front.
+pub(crate) fn place_behind(front: &[u8]) -> Place
+    ensures { place_of result ≡ place_behind front.now }
 {
-    if byte <= 0xBF {
-        return due.saturating_sub(1);
+    let mut place = Place::Outside;
+    for byte in front {
+        place = step(place, *byte);
     }
-    if byte <= 0xDF {
-        return 1;
+    place
+}
+
+fn step(place: Place, byte: u8) -> Place
+    ensures { place_of result ≡ step (place_of place) byte }
+{
+    match place {
+        Place::Outside if byte == b'"' => Place::Inside(0),
+        Place::Outside => Place::Outside,
+        Place::Inside(due) => inside_step(due, byte),
+        Place::Escaped => Place::Inside(0),
     }
-    if byte <= 0xEF { 2 } else { 3 }
 }
 
 // The place behind a byte inside a string.
@@ -37,26 +47,16 @@ fn inside_step(due: u8, byte: u8) -> Place
     }
 }
 
-fn step(place: Place, byte: u8) -> Place
-    ensures { place_of result ≡ step (place_of place) byte }
+fn due_behind(due: u8, byte: u8) -> u8
+    ensures { result ≡ due_behind due byte }
 {
-    match place {
-        Place::Outside if byte == b'"' => Place::Inside(0),
-        Place::Outside => Place::Outside,
-        Place::Inside(due) => inside_step(due, byte),
-        Place::Escaped => Place::Inside(0),
+    if byte <= 0xBF {
+        return due.saturating_sub(1);
     }
-}
-
-// The place behind a front.
-pub(crate) fn place_behind(front: &[u8]) -> Place
-    ensures { place_of result ≡ place_behind front.now }
-{
-    let mut place = Place::Outside;
-    for byte in front {
-        place = step(place, *byte);
+    if byte <= 0xDF {
+        return 1;
     }
-    place
+    if byte <= 0xEF { 2 } else { 3 }
 }
 
 // Whether a byte that stands there and ends no text breaks UTF-8.

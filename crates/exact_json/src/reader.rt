@@ -11,79 +11,39 @@ use crate::value::{Items, Members, Value};
 use rtb_num::Txt;
 use std::alloc::{AllocError, Global};
 
-// How many members an object with more than one has room for before it grows, and how many values an
-// array: most objects of a bid request have two to six members, and most arrays one or two values.
-const FIRST_MEMBERS: usize = 6;
-
-const FIRST_ITEMS: usize = 2;
-
-fn is_space(byte: u8) -> bool
-    ensures { result ≡ is_space byte }
+// The value of a whole text that nests at most so deep.
+#[tactic(auto, unfolding(crate::specs::Reading::text_at))]
+pub(crate) fn text_of(alloc: Global, bytes: &[u8], depth: usize) -> Result<Value, Stop>
+    ensures { Reads result (text_at depth bytes.now) }
 {
-    if byte > b' ' {
-        return false;
+    let (value, rest) = value_of(alloc, skip_spaces(bytes), depth)?;
+    let rest = skip_spaces(rest);
+    if !rest.is_empty() {
+        return Err(Stop::At(rest.len()));
     }
-    matches!(byte, b' ' | b'\t' | b'\n' | b'\r')
+    Ok(value)
 }
 
-// What stands behind white space.
-#[tactic(auto, unfolding(crate::specs::Reading::skip))]
-fn skip_spaces(bytes: &[u8]) -> &[u8]
-    ensures value { result.now ≡ skip bytes.now }
-    ensures shorter { length result.now ≤ length bytes.now }
+#[cycle(reading)]
+#[tactic(auto, unfolding(crate::specs::Reading::value_at))]
+fn value_of(alloc: Global, bytes: &[u8], depth: usize) -> Result<(Value, &[u8]), Stop>
+    ensures { Gives tree_of result (value_at depth bytes.now) }
 {
-    let mut left = bytes;
-    while let Some((first, rest)) = left.split_first() {
-        if !is_space(*first) {
-            return left;
-        }
-        left = rest;
+    if depth == 0 {
+        return scalar_of(alloc, bytes);
     }
-    left
-}
-
-// What stands behind this word.
-fn after_word<'a>(bytes: &'a [u8], word: &[u8]) -> Result<&'a [u8], Stop>
-    ensures { Leaves word.now result (word_at word.now bytes.now) }
-{
-    let mut left = bytes;
-    for expected in word {
-        let Some((first, rest)) = left.split_first() else {
-            return Err(Stop::Short);
-        };
-        if *first != *expected {
-            return Err(Stop::At(left.len()));
-        }
-        left = rest;
+    let Some((first, rest)) = bytes.split_first() else {
+        return Err(Stop::Short);
+    };
+    if *first == b'[' {
+        let (items, rest) = items_of(alloc, skip_spaces(rest), depth - 1)?;
+        return Ok((Value::Arr(items), rest));
     }
-    Ok(left)
-}
-
-// The bytes before the rest, which is an end of them.
-fn text_before(alloc: Global, bytes: &[u8], rest: &[u8]) -> Result<Txt, AllocError>
-    requires { length rest.now ≤ length bytes.now }
-    ensures { IfOk result (λ text. text ≡ reading.before rest.now bytes.now) }
-{
-    Txt::from_front(alloc, bytes, bytes.len() - rest.len())
-}
-
-// The room to begin with behind a first entry: one where the closing byte follows.
-#[inline(always)]
-fn first_room(left: &[u8], close: u8, usual: usize) -> usize
-    ensures { (result ≡ 1) ⊎ (result ≡ usual) }
-{
-    match left.first() {
-        Some(next) if *next == close => 1,
-        _ => usual,
+    if *first == b'{' {
+        let (members, rest) = members_of(alloc, skip_spaces(rest), depth - 1)?;
+        return Ok((Value::Obj(members), rest));
     }
-}
-
-fn number_of(alloc: Global, bytes: &[u8]) -> Result<(Txt, &[u8]), Stop>
-    ensures { Gives (λ text. text) result (reading.number_at bytes.now) }
-{
-    let rest = number_end(bytes)?;
-    let text = text_before(alloc, bytes, rest)?;
-    Ok((text, rest))
+    scalar_of(alloc, bytes)
 }
 
 // A value that is neither an array nor an object.
@@ -118,27 +78,40 @@ fn scalar_of(alloc: Global, bytes: &[u8]) -> Result<(Value, &[u8]), Stop>
     Err(Stop::At(bytes.len()))
 }
 
-#[cycle(reading)]
-#[tactic(auto, unfolding(crate::specs::Reading::value_at))]
-fn value_of(alloc: Global, bytes: &[u8], depth: usize) -> Result<(Value, &[u8]), Stop>
-    ensures { Gives tree_of result (value_at depth bytes.now) }
+fn number_of(alloc: Global, bytes: &[u8]) -> Result<(Txt, &[u8]), Stop>
+    ensures { Gives (λ text. text) result (reading.number_at bytes.now) }
 {
-    if depth == 0 {
-        return scalar_of(alloc, bytes);
-    }
-    let Some((first, rest)) = bytes.split_first() else {
-        return Err(Stop::Short);
-    };
-    if *first == b'[' {
-        let (items, rest) = items_of(alloc, skip_spaces(rest), depth - 1)?;
-        return Ok((Value::Arr(items), rest));
-    }
-    if *first == b'{' {
-        let (members, rest) = members_of(alloc, skip_spaces(rest), depth - 1)?;
-        return Ok((Value::Obj(members), rest));
-    }
-    scalar_of(alloc, bytes)
+    let rest = number_end(bytes)?;
+    let text = text_before(alloc, bytes, rest)?;
+    Ok((text, rest))
 }
+
+// The bytes before the rest, which is an end of them.
+fn text_before(alloc: Global, bytes: &[u8], rest: &[u8]) -> Result<Txt, AllocError>
+    requires { length rest.now ≤ length bytes.now }
+    ensures { IfOk result (λ text. text ≡ reading.before rest.now bytes.now) }
+{
+    Txt::from_front(alloc, bytes, bytes.len() - rest.len())
+}
+
+// What stands behind this word.
+fn after_word<'a>(bytes: &'a [u8], word: &[u8]) -> Result<&'a [u8], Stop>
+    ensures { Leaves word.now result (word_at word.now bytes.now) }
+{
+    let mut left = bytes;
+    for expected in word {
+        let Some((first, rest)) = left.split_first() else {
+            return Err(Stop::Short);
+        };
+        if *first != *expected {
+            return Err(Stop::At(left.len()));
+        }
+        left = rest;
+    }
+    Ok(left)
+}
+
+const FIRST_ITEMS: usize = 2;
 
 // The items of an array and its closing bracket.
 #[inline(never)]
@@ -158,6 +131,42 @@ fn items_of(alloc: Global, bytes: &[u8], depth: usize) -> Result<(Items, &[u8]),
     let mut values = Vec::with_capacity(alloc, first_room(rest, b']', FIRST_ITEMS))?;
     values.push(value)?;
     more_items_of(alloc, values, rest, depth)
+}
+
+// What stands behind white space.
+#[tactic(auto, unfolding(crate::specs::Reading::skip))]
+fn skip_spaces(bytes: &[u8]) -> &[u8]
+    ensures value { result.now ≡ skip bytes.now }
+    ensures shorter { length result.now ≤ length bytes.now }
+{
+    let mut left = bytes;
+    while let Some((first, rest)) = left.split_first() {
+        if !is_space(*first) {
+            return left;
+        }
+        left = rest;
+    }
+    left
+}
+
+fn is_space(byte: u8) -> bool
+    ensures { result ≡ is_space byte }
+{
+    if byte > b' ' {
+        return false;
+    }
+    matches!(byte, b' ' | b'\t' | b'\n' | b'\r')
+}
+
+// The room to begin with behind a first entry: one where the closing byte follows.
+#[inline(always)]
+fn first_room(left: &[u8], close: u8, usual: usize) -> usize
+    ensures { (result ≡ 1) ⊎ (result ≡ usual) }
+{
+    match left.first() {
+        Some(next) if *next == close => 1,
+        _ => usual,
+    }
 }
 
 // What follows the first items.
@@ -187,45 +196,9 @@ fn more_items_of(
     }
 }
 
-// The name of a member.
-#[inline(always)]
-fn name_of(alloc: Global, bytes: &[u8]) -> Result<(Txt, &[u8]), Stop>
-    ensures { Gives (λ text. text) result (byte_then 34 quoted_at bytes.now) }
-{
-    let Some((first, rest)) = bytes.split_first() else {
-        return Err(Stop::Short);
-    };
-    if *first != b'"' {
-        return Err(Stop::At(bytes.len()));
-    }
-    string_of(alloc, rest)
-}
-
-// A colon and the value of a member.
-#[inline(always)]
-#[cycle(reading)]
-fn valued_of(alloc: Global, bytes: &[u8], depth: usize) -> Result<(Value, &[u8]), Stop>
-    ensures { Gives tree_of result (byte_then 58 (λ after. value_at depth (skip after)) bytes.now) }
-{
-    let Some((first, rest)) = bytes.split_first() else {
-        return Err(Stop::Short);
-    };
-    if *first != b':' {
-        return Err(Stop::At(bytes.len()));
-    }
-    value_of(alloc, skip_spaces(rest), depth)
-}
-
-#[inline(always)]
-#[cycle(reading)]
-#[tactic(auto, unfolding(crate::specs::Reading::member_at))]
-fn member_of(alloc: Global, bytes: &[u8], depth: usize) -> Result<((Txt, Value), &[u8]), Stop>
-    ensures { Gives (λ member. (member.0, tree_of member.1)) result (member_at (value_at depth) bytes.now) }
-{
-    let (name, rest) = name_of(alloc, bytes)?;
-    let (value, rest) = valued_of(alloc, skip_spaces(rest), depth)?;
-    Ok(((name, value), rest))
-}
+// How many members an object with more than one has room for before it grows, and how many values an
+// array: most objects of a bid request have two to six members, and most arrays one or two values.
+const FIRST_MEMBERS: usize = 6;
 
 // The members of an object and its closing brace.
 #[inline(never)]
@@ -245,6 +218,46 @@ fn members_of(alloc: Global, bytes: &[u8], depth: usize) -> Result<(Members, &[u
     let mut pairs = Vec::with_capacity(alloc, first_room(rest, b'}', FIRST_MEMBERS))?;
     pairs.push(pair)?;
     more_members_of(alloc, pairs, rest, depth)
+}
+
+#[inline(always)]
+#[cycle(reading)]
+#[tactic(auto, unfolding(crate::specs::Reading::member_at))]
+fn member_of(alloc: Global, bytes: &[u8], depth: usize) -> Result<((Txt, Value), &[u8]), Stop>
+    ensures { Gives (λ member. (member.0, tree_of member.1)) result (member_at (value_at depth) bytes.now) }
+{
+    let (name, rest) = name_of(alloc, bytes)?;
+    let (value, rest) = value_after_colon(alloc, skip_spaces(rest), depth)?;
+    Ok(((name, value), rest))
+}
+
+// The name of a member.
+#[inline(always)]
+fn name_of(alloc: Global, bytes: &[u8]) -> Result<(Txt, &[u8]), Stop>
+    ensures { Gives (λ text. text) result (byte_then 34 quoted_at bytes.now) }
+{
+    let Some((first, rest)) = bytes.split_first() else {
+        return Err(Stop::Short);
+    };
+    if *first != b'"' {
+        return Err(Stop::At(bytes.len()));
+    }
+    string_of(alloc, rest)
+}
+
+// A colon and the value of a member.
+#[inline(always)]
+#[cycle(reading)]
+fn value_after_colon(alloc: Global, bytes: &[u8], depth: usize) -> Result<(Value, &[u8]), Stop>
+    ensures { Gives tree_of result (byte_then 58 (λ after. value_at depth (skip after)) bytes.now) }
+{
+    let Some((first, rest)) = bytes.split_first() else {
+        return Err(Stop::Short);
+    };
+    if *first != b':' {
+        return Err(Stop::At(bytes.len()));
+    }
+    value_of(alloc, skip_spaces(rest), depth)
 }
 
 // What follows the first members.
@@ -272,17 +285,4 @@ fn more_members_of(
         pairs.push(pair)?;
         left = skip_spaces(rest);
     }
-}
-
-// The value of a whole text that nests at most so deep.
-#[tactic(auto, unfolding(crate::specs::Reading::text_at))]
-pub(crate) fn text_of(alloc: Global, bytes: &[u8], depth: usize) -> Result<Value, Stop>
-    ensures { Reads result (text_at depth bytes.now) }
-{
-    let (value, rest) = value_of(alloc, skip_spaces(bytes), depth)?;
-    let rest = skip_spaces(rest);
-    if !rest.is_empty() {
-        return Err(Stop::At(rest.len()));
-    }
-    Ok(value)
 }

@@ -2,18 +2,60 @@ ghost use Rattle.std.specs.Prelude.{◌≡◌, ◌<◌, ◌≤◌, ◌+◌, ◌+
 ghost use Rattle.exact_json.specs.Gives.{Gives, Runs};
 ghost use Rattle.exact_json.specs.Escapes.{piece_view};
 ghost use Rattle.exact_json.specs.Reading.{EndsRun, after_run, body_at, escape_at, hex_at, is_special, mapped, quoted_at, unit_at};
-ghost use Rattle.exact_json.specs.Strings.{Piece, alone, escaped, hex_digit, is_escape, is_hex, is_high, is_low, paired, text_behind, unit_text, utf8};
+ghost use Rattle.exact_json.specs.Strings.{Piece, alone, escape_value, hex_digit, is_escape, is_hex, is_high, is_low, code_point, text_behind, unit_text, utf8};
 
 use crate::character::{character_end, skip_plain};
 use crate::stop::Stop;
 use rtb_num::Txt;
 use std::alloc::{AllocError, Global};
 
-// What ends a run of unescaped characters, where they are well formed.
-fn is_special(byte: u8) -> bool
-    ensures { result ≡ is_special byte }
+// What stands behind a backslash: a byte, or a unit of UTF-16.
+#[derive(Clone, Copy, Debug, Drop)]
+enum Escape {
+    Byte(u8),
+    Unit(u16),
+}
+
+// The text of a string, behind its opening quotation mark. Where it has plain characters alone, it is
+// gone over once and copied once.
+#[inline(always)]
+pub(crate) fn string_of(alloc: Global, bytes: &[u8]) -> Result<(Txt, &[u8]), Stop>
+    ensures gives { Gives (λ t. t) result (quoted_at bytes.now) }
+    ensures shorter { IfOk result (λ p. length p.1.now ≤ length bytes.now) }
 {
-    byte == b'"' || byte == b'\\'
+    let rest = skip_plain(bytes);
+    let Some((first, after)) = rest.split_first() else {
+        return unescape(Txt::new(alloc), bytes);
+    };
+    if *first != b'"' {
+        return unescape(Txt::new(alloc), bytes);
+    }
+    let text = Txt::from_front(alloc, bytes, bytes.len() - rest.len())?;
+    Ok((text, after))
+}
+
+// The text so far and that of the pieces up to the quotation mark.
+#[inline(never)]
+fn unescape(mut text: Txt, bytes: &[u8]) -> Result<(Txt, &[u8]), Stop>
+    ensures gives { Gives (λ t. t) result (mapped (λ t. text ++ t) (quoted_at bytes.now)) }
+    ensures shorter { IfOk result (λ p. length p.1.now ≤ length bytes.now) }
+{
+    let mut high = None;
+    let mut left = bytes;
+    loop {
+        let (run, rest) = run_of(left)?;
+        high = push_run(&mut text, high, run)?;
+        let Some((first, after)) = rest.split_first() else {
+            return Err(Stop::Short);
+        };
+        if *first == b'"' {
+            push_alone(&mut text, high)?;
+            return Ok((text, after));
+        }
+        let (escape, after) = escape_of(after)?;
+        high = push_escape(&mut text, high, escape)?;
+        left = push_escapes(&mut text, high, after)?;
+    }
 }
 
 // The unescaped characters at the front, and the rest: a quotation mark, a backslash or nothing.
@@ -33,118 +75,38 @@ fn run_of(bytes: &[u8]) -> Result<(&[u8], &[u8]), Stop>
     Ok((&bytes[..bytes.len() - left.len()], left))
 }
 
-fn is_hex(byte: u8) -> bool
-    ensures { result ≡ is_hex byte }
+// What ends a run of unescaped characters, where they are well formed.
+fn is_special(byte: u8) -> bool
+    ensures { result ≡ is_special byte }
 {
-    matches!(byte, b'0'..=b'9' | b'A'..=b'F' | b'a'..=b'f')
+    byte == b'"' || byte == b'\\'
 }
 
-fn hex_digit(byte: u8) -> u16
-    requires { is_hex byte ≡ true }
-    ensures value { result ≡ hex_digit byte }
-    ensures bound { result < 16 }
+// Appends a run behind a high surrogate, or none.
+fn push_run(text: &mut Txt, high: Option<u16>, run: &[u8]) -> Result<Option<u16>, AllocError>
+    requires { IfSome high (λ h. is_high h ≡ true) }
+    ensures high { IfOk result (λ h. IfSome h (λ n. is_high n ≡ true)) }
+    ensures value { IfOk result (λ h. (s : List ℕ) → mapped (λ t. text.new ++ t) (body_at h s) ≡ mapped (λ t. text.old ++ t) (after_run high run.now s)) }
 {
-    match byte {
-        b'0'..=b'9' => byte as u16 - 48,
-        b'A'..=b'F' => byte as u16 - 55,
-        _ => byte as u16 - 87,
+    if run.is_empty() {
+        return Ok(high);
     }
-}
-
-fn hex_of(bytes: &[u8]) -> Result<(u16, &[u8]), Stop>
-    ensures gives { Gives (λ n. n) result (hex_at bytes.now) }
-    ensures bound { IfOk result (λ p. p.0 < 16) }
-    ensures shorter { IfOk result (λ p. length p.1.now ≤ length bytes.now) }
-{
-    let Some((first, rest)) = bytes.split_first() else {
-        return Err(Stop::Short);
-    };
-    if !is_hex(*first) {
-        return Err(Stop::At(bytes.len()));
-    }
-    Ok((hex_digit(*first), rest))
-}
-
-// Four hexadecimal digits: a unit of UTF-16.
-#[tactic(auto, unfolding(crate::specs::Reading::unit_at))]
-fn unit_of(bytes: &[u8]) -> Result<(u16, &[u8]), Stop>
-    ensures gives { Gives (λ n. n) result (unit_at bytes.now) }
-    ensures shorter { IfOk result (λ p. length p.1.now ≤ length bytes.now) }
-{
-    let (a, rest) = hex_of(bytes)?;
-    let (b, rest) = hex_of(rest)?;
-    let (c, rest) = hex_of(rest)?;
-    let (d, rest) = hex_of(rest)?;
-    Ok((((a * 16 + b) * 16 + c) * 16 + d, rest))
-}
-
-// What stands behind a backslash: a byte, or a unit of UTF-16.
-#[derive(Clone, Copy, Debug, Drop)]
-enum Escape {
-    Byte(u8),
-    Unit(u16),
-}
-
-fn is_escape(byte: u8) -> bool
-    ensures { result ≡ is_escape byte }
-{
-    matches!(byte, b'"' | b'\\' | b'/' | b'b' | b'f' | b'n' | b'r' | b't')
-}
-
-// The character that the byte behind a backslash stands for.
-fn escaped(byte: u8) -> u8
-    ensures { result ≡ escaped byte }
-{
-    match byte {
-        b'b' => 0x08,
-        b'f' => 0x0C,
-        b'n' => b'\n',
-        b'r' => b'\r',
-        b't' => b'\t',
-        _ => byte,
-    }
-}
-
-fn escape_of(bytes: &[u8]) -> Result<(Escape, &[u8]), Stop>
-    ensures gives { Gives piece_view result (escape_at bytes.now) }
-    ensures shorter { IfOk result (λ p. length p.1.now ≤ length bytes.now) }
-{
-    let Some((first, rest)) = bytes.split_first() else {
-        return Err(Stop::Short);
-    };
-    if *first == b'u' {
-        let (unit, rest) = unit_of(rest)?;
-        return Ok((Escape::Unit(unit), rest));
-    }
-    if !is_escape(*first) {
-        return Err(Stop::At(bytes.len()));
-    }
-    Ok((Escape::Byte(*first), rest))
-}
-
-fn is_high(unit: u16) -> bool
-    ensures { result ≡ is_high unit }
-{
-    matches!(unit, 0xD800..=0xDBFF)
-}
-
-fn is_low(unit: u16) -> bool
-    ensures { result ≡ is_low unit }
-{
-    matches!(unit, 0xDC00..=0xDFFF)
-}
-
-// The character of a high and a low surrogate.
-fn paired(high: u16, low: u16) -> u32
-    requires high { is_high high ≡ true }
-    requires low { is_low low ≡ true }
-    ensures value { result ≡ paired high low }
-    ensures bound { result < 1114112 }
-{
-    0x10000 + (high as u32 - 0xD800) * 0x400 + (low as u32 - 0xDC00)
+    push_alone(text, high)?;
+    text.extend(run)?;
+    Ok(None)
 }
 
 const REPLACEMENT: u32 = 0xFFFD;
+
+// Appends what stands for a high surrogate that no low one follows.
+fn push_alone(text: &mut Txt, high: Option<u16>) -> Result<(), AllocError>
+    ensures { OnOk result (text.new ≡ text.old ++ alone high) }
+{
+    match high {
+        None => Ok(()),
+        Some(_) => push_utf8(text, REPLACEMENT),
+    }
+}
 
 // Appends a character in UTF-8.
 fn push_utf8(text: &mut Txt, code: u32) -> Result<(), AllocError>
@@ -172,28 +134,115 @@ fn push_utf8(text: &mut Txt, code: u32) -> Result<(), AllocError>
     ])
 }
 
-// Appends what stands for a high surrogate that no low one follows.
-fn push_alone(text: &mut Txt, high: Option<u16>) -> Result<(), AllocError>
-    ensures { OnOk result (text.new ≡ text.old ++ alone high) }
+fn escape_of(bytes: &[u8]) -> Result<(Escape, &[u8]), Stop>
+    ensures gives { Gives piece_view result (escape_at bytes.now) }
+    ensures shorter { IfOk result (λ p. length p.1.now ≤ length bytes.now) }
 {
-    match high {
-        None => Ok(()),
-        Some(_) => push_utf8(text, REPLACEMENT),
+    let Some((first, rest)) = bytes.split_first() else {
+        return Err(Stop::Short);
+    };
+    if *first == b'u' {
+        let (unit, rest) = unit_of(rest)?;
+        return Ok((Escape::Unit(unit), rest));
+    }
+    if !is_escape(*first) {
+        return Err(Stop::At(bytes.len()));
+    }
+    Ok((Escape::Byte(*first), rest))
+}
+
+// Four hexadecimal digits: a unit of UTF-16.
+#[tactic(auto, unfolding(crate::specs::Reading::unit_at))]
+fn unit_of(bytes: &[u8]) -> Result<(u16, &[u8]), Stop>
+    ensures gives { Gives (λ n. n) result (unit_at bytes.now) }
+    ensures shorter { IfOk result (λ p. length p.1.now ≤ length bytes.now) }
+{
+    let (a, rest) = hex_of(bytes)?;
+    let (b, rest) = hex_of(rest)?;
+    let (c, rest) = hex_of(rest)?;
+    let (d, rest) = hex_of(rest)?;
+    Ok((((a * 16 + b) * 16 + c) * 16 + d, rest))
+}
+
+fn hex_of(bytes: &[u8]) -> Result<(u16, &[u8]), Stop>
+    ensures gives { Gives (λ n. n) result (hex_at bytes.now) }
+    ensures bound { IfOk result (λ p. p.0 < 16) }
+    ensures shorter { IfOk result (λ p. length p.1.now ≤ length bytes.now) }
+{
+    let Some((first, rest)) = bytes.split_first() else {
+        return Err(Stop::Short);
+    };
+    if !is_hex(*first) {
+        return Err(Stop::At(bytes.len()));
+    }
+    Ok((hex_digit(*first), rest))
+}
+
+fn is_hex(byte: u8) -> bool
+    ensures { result ≡ is_hex byte }
+{
+    matches!(byte, b'0'..=b'9' | b'A'..=b'F' | b'a'..=b'f')
+}
+
+fn hex_digit(byte: u8) -> u16
+    requires { is_hex byte ≡ true }
+    ensures value { result ≡ hex_digit byte }
+    ensures bound { result < 16 }
+{
+    match byte {
+        b'0'..=b'9' => byte as u16 - 48,
+        b'A'..=b'F' => byte as u16 - 55,
+        _ => byte as u16 - 87,
     }
 }
 
-// Appends a run behind a high surrogate, or none.
-fn push_run(text: &mut Txt, high: Option<u16>, run: &[u8]) -> Result<Option<u16>, AllocError>
+fn is_escape(byte: u8) -> bool
+    ensures { result ≡ is_escape byte }
+{
+    matches!(byte, b'"' | b'\\' | b'/' | b'b' | b'f' | b'n' | b'r' | b't')
+}
+
+// Appends an escape behind a high surrogate, or none.
+fn push_escape(text: &mut Txt, high: Option<u16>, escape: Escape) -> Result<Option<u16>, AllocError>
     requires { IfSome high (λ h. is_high h ≡ true) }
     ensures high { IfOk result (λ h. IfSome h (λ n. is_high n ≡ true)) }
-    ensures value { IfOk result (λ h. (s : List ℕ) → mapped (λ t. text.new ++ t) (body_at h s) ≡ mapped (λ t. text.old ++ t) (after_run high run.now s)) }
+    ensures value { IfOk result (λ h. (ps : List Piece) → text.new ++ text_behind h ps ≡ text.old ++ text_behind high (piece_view escape ∷ ps)) }
 {
-    if run.is_empty() {
-        return Ok(high);
+    match escape {
+        Escape::Byte(byte) => {
+            push_alone(text, high)?;
+            text.push(escape_value(byte))?;
+            Ok(None)
+        }
+        Escape::Unit(unit) if is_high(unit) => {
+            push_alone(text, high)?;
+            Ok(Some(unit))
+        }
+        Escape::Unit(unit) => {
+            push_low(text, high, unit)?;
+            Ok(None)
+        }
     }
-    push_alone(text, high)?;
-    text.extend(run)?;
-    Ok(None)
+}
+
+// The character that the byte behind a backslash stands for.
+fn escape_value(byte: u8) -> u8
+    ensures { result ≡ escape_value byte }
+{
+    match byte {
+        b'b' => 0x08,
+        b'f' => 0x0C,
+        b'n' => b'\n',
+        b'r' => b'\r',
+        b't' => b'\t',
+        _ => byte,
+    }
+}
+
+fn is_high(unit: u16) -> bool
+    ensures { result ≡ is_high unit }
+{
+    matches!(unit, 0xD800..=0xDBFF)
 }
 
 // Appends a unit that is no high surrogate, behind one, or none.
@@ -206,32 +255,25 @@ fn push_low(text: &mut Txt, high: Option<u16>, unit: u16) -> Result<(), AllocErr
         return push_utf8(text, unit as u32);
     }
     match high {
-        Some(high) => push_utf8(text, paired(high, unit)),
+        Some(high) => push_utf8(text, code_point(high, unit)),
         None => push_utf8(text, REPLACEMENT),
     }
 }
 
-// Appends an escape behind a high surrogate, or none.
-fn push_escape(text: &mut Txt, high: Option<u16>, escape: Escape) -> Result<Option<u16>, AllocError>
-    requires { IfSome high (λ h. is_high h ≡ true) }
-    ensures high { IfOk result (λ h. IfSome h (λ n. is_high n ≡ true)) }
-    ensures value { IfOk result (λ h. (ps : List Piece) → text.new ++ text_behind h ps ≡ text.old ++ text_behind high (piece_view escape ∷ ps)) }
+fn is_low(unit: u16) -> bool
+    ensures { result ≡ is_low unit }
 {
-    match escape {
-        Escape::Byte(byte) => {
-            push_alone(text, high)?;
-            text.push(escaped(byte))?;
-            Ok(None)
-        }
-        Escape::Unit(unit) if is_high(unit) => {
-            push_alone(text, high)?;
-            Ok(Some(unit))
-        }
-        Escape::Unit(unit) => {
-            push_low(text, high, unit)?;
-            Ok(None)
-        }
-    }
+    matches!(unit, 0xDC00..=0xDFFF)
+}
+
+// The character of a high and a low surrogate.
+fn code_point(high: u16, low: u16) -> u32
+    requires high { is_high high ≡ true }
+    requires low { is_low low ≡ true }
+    ensures value { result ≡ code_point high low }
+    ensures bound { result < 1114112 }
+{
+    0x10000 + (high as u32 - 0xD800) * 0x400 + (low as u32 - 0xDC00)
 }
 
 // Appends the escapes of two bytes that stand at the front, where no high surrogate is before them. It
@@ -258,50 +300,8 @@ fn push_escapes<'a>(
         if !is_escape(*byte) {
             return Ok(left);
         }
-        text.push(escaped(*byte))?;
+        text.push(escape_value(*byte))?;
         left = rest;
     }
     Ok(left)
-}
-
-// The text so far and that of the pieces up to the quotation mark.
-#[inline(never)]
-fn escaped_of(mut text: Txt, bytes: &[u8]) -> Result<(Txt, &[u8]), Stop>
-    ensures gives { Gives (λ t. t) result (mapped (λ t. text ++ t) (quoted_at bytes.now)) }
-    ensures shorter { IfOk result (λ p. length p.1.now ≤ length bytes.now) }
-{
-    let mut high = None;
-    let mut left = bytes;
-    loop {
-        let (run, rest) = run_of(left)?;
-        high = push_run(&mut text, high, run)?;
-        let Some((first, after)) = rest.split_first() else {
-            return Err(Stop::Short);
-        };
-        if *first == b'"' {
-            push_alone(&mut text, high)?;
-            return Ok((text, after));
-        }
-        let (escape, after) = escape_of(after)?;
-        high = push_escape(&mut text, high, escape)?;
-        left = push_escapes(&mut text, high, after)?;
-    }
-}
-
-// The text of a string, behind its opening quotation mark. Where it has plain characters alone, it is
-// gone over once and copied once.
-#[inline(always)]
-pub(crate) fn string_of(alloc: Global, bytes: &[u8]) -> Result<(Txt, &[u8]), Stop>
-    ensures gives { Gives (λ t. t) result (quoted_at bytes.now) }
-    ensures shorter { IfOk result (λ p. length p.1.now ≤ length bytes.now) }
-{
-    let rest = skip_plain(bytes);
-    let Some((first, after)) = rest.split_first() else {
-        return escaped_of(Txt::new(alloc), bytes);
-    };
-    if *first != b'"' {
-        return escaped_of(Txt::new(alloc), bytes);
-    }
-    let text = Txt::from_front(alloc, bytes, bytes.len() - rest.len())?;
-    Ok((text, after))
 }

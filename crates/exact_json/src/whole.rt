@@ -18,23 +18,20 @@ use std::alloc::Global;
 // How deep arrays and objects may nest.
 const MAX_DEPTH: usize = 64;
 
-// Some rest makes the front a text that nests at most one level deeper. `None` is no memory.
-fn is_alive(alloc: Global, front: &[u8]) -> Option<bool>
-    ensures alive { result ≡ Some true → LiveWithin one_deeper front.now }
-    ensures dead { result ≡ Some false → LiveWithin one_deeper front.now → ⊥ }
+/// The value that the bytes spell, all of them, where they are a text that nests at most 64 deep;
+/// else the fault with its place: the least offset whose byte no text has there, or the length
+/// where the bytes are the front of a text.
+pub fn read(alloc: Global, bytes: &[u8]) -> Result<Doc, JsonFault>
+    ensures found { IfOk result (λ doc. IsText (doc_tree doc) bytes.now) }
+    ensures only { (t : Tree) → IsText t bytes.now → MatchResult result (λ doc. doc_tree doc ≡ t) (λ e. e ≡ fault.Memory) }
+    ensures fault { IfErr result (Explains bytes.now) }
 {
-    match text_of(alloc, front, MAX_DEPTH + 1) {
-        Ok(_value) => return Some(true),
-        Err(Stop::Memory) => return None,
-        Err(Stop::Short) => return Some(true),
-        Err(Stop::At(_)) => return Some(false),
+    match text_of(alloc, bytes, MAX_DEPTH) {
+        Ok(root) => Ok(Doc::from_root(root)),
+        Err(Stop::Memory) => Err(JsonFault::Memory),
+        Err(Stop::Short) => Err(JsonFault::Ended { at: bytes.len() }),
+        Err(Stop::At(left)) => Err(fault_at(alloc, bytes, bytes.len() - left)),
     }
-}
-
-fn opens(byte: u8) -> bool
-    ensures { result ≡ opens byte }
-{
-    byte == b'[' || byte == b'{'
 }
 
 // The fault of bytes that are live up to this place and not with its byte.
@@ -56,19 +53,22 @@ fn fault_at(alloc: Global, bytes: &[u8], at: usize) -> JsonFault
     }
 }
 
-/// The value that the bytes spell, all of them, where they are a text that nests at most 64 deep;
-/// else the fault with its place: the least offset whose byte no text has there, or the length
-/// where the bytes are the front of a text.
-pub fn read(alloc: Global, bytes: &[u8]) -> Result<Doc, JsonFault>
-    ensures found { IfOk result (λ doc. IsText (doc_tree doc) bytes.now) }
-    ensures only { (t : Tree) → IsText t bytes.now → MatchResult result (λ doc. doc_tree doc ≡ t) (λ e. e ≡ fault.Memory) }
-    ensures fault { IfErr result (Explains bytes.now) }
+fn opens(byte: u8) -> bool
+    ensures { result ≡ opens byte }
 {
-    match text_of(alloc, bytes, MAX_DEPTH) {
-        Ok(root) => Ok(Doc::from_root(root)),
-        Err(Stop::Memory) => Err(JsonFault::Memory),
-        Err(Stop::Short) => Err(JsonFault::Ended { at: bytes.len() }),
-        Err(Stop::At(left)) => Err(fault_at(alloc, bytes, bytes.len() - left)),
+    byte == b'[' || byte == b'{'
+}
+
+// Some rest makes the front a text that nests at most one level deeper. `None` is no memory.
+fn is_alive(alloc: Global, front: &[u8]) -> Option<bool>
+    ensures alive { result ≡ Some true → LiveWithin one_deeper front.now }
+    ensures dead { result ≡ Some false → LiveWithin one_deeper front.now → ⊥ }
+{
+    match text_of(alloc, front, MAX_DEPTH + 1) {
+        Ok(_value) => return Some(true),
+        Err(Stop::Memory) => return None,
+        Err(Stop::Short) => return Some(true),
+        Err(Stop::At(_)) => return Some(false),
     }
 }
 

@@ -7,7 +7,7 @@ use Rattle.campaign.specs.declared.parts.FactFault.{FactFault}
 use Rattle.campaign.specs.declared.parts.FactParts.{FactParts}
 use Rattle.campaign.specs.declared.parts.FactFault.TheVariants.{BidZero, TextLength}
 use Rattle.campaign.specs.declared.field.CampField.TheVariants.{Adm, Adomain, Crid, Seat}
-use Rattle.campaign.specs.Faults.{checked, fact_faults, fault_unless, is_text}
+use Rattle.campaign.specs.Faults.{ok_unless, fact_faults, fault_unless, is_text}
 use Rattle.exchange_run.specs.Numbered.{facts_of}
 
 -- a number has 1 to 10 digits
@@ -51,8 +51,8 @@ faultless n bid h some =
     (le-leb (length (codes "ad " ++ decimal n)) 65536 adm) (behind (codes "cr") n h (omega arith))
 
 -- so making the facts answers none
-pub never : (n bid : ℕ) (p : FactParts) (f : FactFault) → n < 2 ^ 32 → 1 ≤ bid → p ≡ facts_of n bid → Err f ≡ checked (fact_faults p) p → ⊥
+pub never : (n bid : ℕ) (p : FactParts) (f : FactFault) → n < 2 ^ 32 → 1 ≤ bid → p ≡ facts_of n bid → Err f ≡ ok_unless (fact_faults p) p → ⊥
 never n bid p f h some e fault =
     let none : fact_faults p ≡ [] = ap fact_faults e ∙ faultless n bid h some in
-    let all : Err f ≡ Ok p = fault ∙ ap (λ fs. checked fs p) none in
+    let all : Err f ≡ Ok p = fault ∙ ap (λ fs. ok_unless fs p) none in
     cc

@@ -5,6 +5,7 @@ use Rattle.std.specs.Option.{option_map_or}
 use Rattle.std.specs.Str.{bytes_eq}
 use Rattle.std.specs.Cmp.Lexicographic.{bytes_decides}
 use Rattle.std.proofs.lemmas.Bool.Decides.{nat_tests}
+use Rattle.std.specs.Cmp.Derive.{one_truth}
 use Rattle.rtb_types.specs.declared.request.BidRequest.{BidRequest}
 use Rattle.rtb_types.specs.declared.request.Imp.{Imp}
 use Rattle.target_expr.specs.declared.attr.Attr.TheVariants.{Domain}
@@ -12,7 +13,7 @@ use Rattle.target_expr.specs.declared.attr.Attr.{Attr}
 use Rattle.target_expr.specs.declared.fault.ExprFault.{ExprFault}
 use Rattle.target_expr.specs.declared.fault.ExprFault.TheVariants.{AttrTwice, EmptyList, Memory, NoConjunction, TooMany, UnknownAttr}
 use Rattle.target_expr.specs.declared.pred.RawPred.{RawPred}
-use Rattle.target_expr.specs.Kept.{IsFirstUnlessMemory, faults, kept}
+use Rattle.target_expr.specs.Kept.{IsFirstUnlessMemory, faults, keep}
 use Rattle.target_expr.specs.Truth.{holds, value_at}
 use Rattle.assign.specs.Rows.{pairs_of, site_rows}
 use Rattle.assign.proofs.Rising.{pairs_value}
@@ -27,17 +28,12 @@ pub faultless : (o : Option (List ℕ)) → is_short o ≡ true → faults (raw_
 faultless None e = refl
 faultless (Some domain) e = rw (not_long (length domain) e)
 
-pub kept_as : (o : Option (List ℕ)) → kept (raw_target_of o) ≡ target_of o
+pub kept_as : (o : Option (List ℕ)) → keep (raw_target_of o) ≡ target_of o
 kept_as None = refl
 kept_as (Some domain) = refl
 
-same_bool : (a b : Bool) → (a ≡ true → b ≡ true) → (b ≡ true → a ≡ true) → a ≡ b
-same_bool true b f g = sym (f refl)
-same_bool false true f g = g refl
-same_bool false false f g = refl
-
 turned : (x y : List ℕ) → bytes_eq x y ≡ bytes_eq y x
-turned x y = same_bool (bytes_eq x y) (bytes_eq y x)
+turned x y = one_truth (bytes_eq x y) (bytes_eq y x)
     (λ e. (bytes_decides y x).1 (sym ((bytes_decides x y).0 e)))
     (λ e. (bytes_decides x y).1 (sym ((bytes_decides y x).0 e)))
 

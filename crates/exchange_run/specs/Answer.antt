@@ -1,5 +1,5 @@
 -- What `try` answers, and what a whole run does.
-use Rattle.std.specs.Prelude.{◌≡◌, ◌≢◌, ℕ, ◌<◌, ◌≤◌, ◌⊎◌, ◌==◌, List, [], ◌∷◌, ◌++◌, cond, length, Option, None, Some, IsSome, codes}
+use Rattle.std.specs.Prelude.{◌≡◌, ◌≢◌, ℕ, ◌<◌, ◌≤◌, ◌⊎◌, ◌==◌, List, [], ◌∷◌, ◌++◌, if◌then◌else◌, length, Option, None, Some, IsSome, codes}
 use Rattle.rtb_base.specs.Faults.{Rose}
 use Rattle.rtb_io.specs.Statuses.{code_of}
 use Rattle.rtb_io.specs.declared.status.Status.{Status}
@@ -27,7 +27,7 @@ max_input = 262144
 
 -- the sales, or `no-bid` where nothing is sold
 abbrev pub sold_line : BidRequest → List Sale → List ℕ
-sold_line r sales = cond (length sales == 0) (codes "no-bid") (response_text r.id sales)
+sold_line r sales = if length sales == 0 then codes "no-bid" else response_text r.id sales
 
 -- a refusal
 abbrev pub refusal_of : List ℕ → Reply
@@ -35,7 +35,7 @@ refusal_of body = record { status = status.Refused; line = body }
 
 -- what is sold, or that this stage has no rules for the request
 abbrev pub reply_to : List Campaign → BidRequest → Reply
-reply_to campaigns r = cond (is_unbuilt r) (refusal_of (error_text (codes "not-built"))) (record { status = status.Done; line = sold_line r (sales_of campaigns r) })
+reply_to campaigns r = if is_unbuilt r then refusal_of (error_text (codes "not-built")) else record { status = status.Done; line = sold_line r (sales_of campaigns r) }
 
 -- the first fault is refused; without one the request is sold
 abbrev pub reply_by : List Campaign → List ReqFault → BidRequest → Reply

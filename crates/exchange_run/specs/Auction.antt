@@ -1,5 +1,5 @@
 -- Who offers for an impression, and what is sold.
-use Rattle.std.specs.Prelude.{ℕ, ◌&&◌, nat_le, List, [], ◌∷◌, Bool, true, false, Option, None, Some, cond, option_map, option_and_then, is_some}
+use Rattle.std.specs.Prelude.{ℕ, ◌&&◌, nat_le, List, [], ◌∷◌, Bool, true, false, Option, None, Some, if◌then◌else◌, option_map, option_and_then, is_some}
 use Rattle.std.specs.List.{enumerate_from, filter_map}
 use Rattle.std.specs.Str.{bytes_eq}
 use Rattle.clearing.specs.Clearing.{outcome}
@@ -25,7 +25,7 @@ is_offering domain imp c = is_some imp.banner && (is_wanted c.domain domain && n
 
 -- the offer of a campaign of that number, in the public pool
 abbrev pub offer_of : Option (List ℕ) → Imp → ℕ × Campaign → Option Offer
-offer_of domain imp p = cond (is_offering domain imp p.1) (Some (record { campaign = p.0; bid = p.1.bid; pool = 0 })) None
+offer_of domain imp p = if is_offering domain imp p.1 then Some (record { campaign = p.0; bid = p.1.bid; pool = 0 }) else None
 
 -- the offers of the campaigns, which are numbered from 1 on
 abbrev pub offers_of : Option (List ℕ) → Imp → List Campaign → List Offer

@@ -1,7 +1,7 @@
 -- What is said of words that are of no command, to whoever wrote them.
 use Rattle.std.specs.Prelude.{ℕ, nat_le, not, List, [], ◌∷◌, ◌++◌, length, find, get_or, Option, None, Some, is_some, if◌then◌else◌, codes}
 use Rattle.std.specs.Str.{bytes_eq}
-use Rattle.json_out.specs.Strings.{quoted}
+use Rattle.json_out.specs.Strings.{string_text}
 use Rattle.exchange_run.specs.Words.{campaign_of}
 
 -- a right command
@@ -10,7 +10,7 @@ example_line = codes "rtbx: a right command is: rtbx try 2.50@news.example 1.00\
 
 -- the word that is wrong, written as a string of JSON, and what it is not
 abbrev pub about_word : List ℕ → List ℕ → List ℕ
-about_word word why = codes "rtbx: " ++ quoted word ++ why ++ example_line
+about_word word why = codes "rtbx: " ++ string_text word ++ why ++ example_line
 
 abbrev pub about_campaign : Option (List ℕ) → List ℕ
 about_campaign None = []

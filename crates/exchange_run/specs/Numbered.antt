@@ -1,5 +1,5 @@
 -- What a campaign of the command is kept as, which only private clauses cite.
-use Rattle.std.specs.Prelude.{◌≡◌, ℕ, ◌^◌, ◌==◌, ◌&&◌, nat_le, List, [], ◌∷◌, ◌++◌, length, Bool, true, false, cond, Option, Some, None, is_some, find, map, option_and_then, codes, decimal}
+use Rattle.std.specs.Prelude.{◌≡◌, ℕ, ◌^◌, ◌==◌, ◌&&◌, nat_le, List, [], ◌∷◌, ◌++◌, length, Bool, true, false, if◌then◌else◌, Option, Some, None, is_some, find, map, option_and_then, codes, decimal}
 use Rattle.std.specs.List.{enumerate_from, flat_map}
 use Rattle.clearing.specs.declared.Offer.{Offer}
 use Rattle.campaign.specs.declared.parts.FactParts.{FactParts}
@@ -64,7 +64,7 @@ targets_of numbered = map (λ (p : ℕ × Campaign). (p.0, target_of p.1.domain)
 
 -- the offer of a numbered campaign that wants the impression
 abbrev pub offer_at : Imp → ℕ × Campaign → Option Offer
-offer_at imp p = cond (is_some imp.banner && nat_le imp.floor p.1.bid) (Some (record { campaign = p.0; bid = p.1.bid; pool = 0 })) None
+offer_at imp p = if is_some imp.banner && nat_le imp.floor p.1.bid then Some (record { campaign = p.0; bid = p.1.bid; pool = 0 }) else None
 
 -- the offer of the campaign of this number, which wants the impression
 abbrev pub offer_numbered : List (ℕ × Campaign) → Imp → ℕ → Option Offer
@@ -72,8 +72,9 @@ offer_numbered numbered imp n = option_and_then (offer_at imp) (find (λ (p : �
 
 -- the offer of a numbered campaign for an impression that assigns these pairs
 abbrev pub offer_under : List (Attr × List ℕ) → Imp → ℕ × Campaign → Option Offer
-offer_under pairs imp p = cond (is_some imp.banner && (holds pairs (target_of p.1.domain) && nat_le imp.floor p.1.bid))
-    (Some (record { campaign = p.0; bid = p.1.bid; pool = 0 })) None
+offer_under pairs imp p = if is_some imp.banner && (holds pairs (target_of p.1.domain) && nat_le imp.floor p.1.bid) then
+    Some (record { campaign = p.0; bid = p.1.bid; pool = 0 })
+    else None
 
 -- the campaigns without their numbers
 abbrev pub campaigns_only : List (ℕ × Campaign) → List Campaign

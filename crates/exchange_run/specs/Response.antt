@@ -2,14 +2,14 @@
 use Rattle.std.specs.Prelude.{ℕ, ◌==◌, not, List, [], ◌∷◌, ◌++◌, filter, map, codes, decimal}
 use Rattle.std.specs.List.{concat, enumerate_from, join_with_byte}
 use Rattle.rtb_num.specs.Amounts.{micros_text}
-use Rattle.json_out.specs.Strings.{quoted}
+use Rattle.json_out.specs.Strings.{string_text}
 use Rattle.exchange_run.specs.Auction.{Sale}
 
 -- A bid object. Sales are numbered from 1 in the order of the impressions, and the number is the
 -- bid's `id`. Campaign n has the markup `ad n`, the domain `adn.example` and the creative `crn`.
 -- Numbers are given as their digits.
 abbrev pub bid_head : List ℕ → List ℕ → List ℕ
-bid_head n imp = codes "{\"id\":\"" ++ n ++ codes "\",\"impid\":" ++ quoted imp ++ codes ",\"price\":"
+bid_head n imp = codes "{\"id\":\"" ++ n ++ codes "\",\"impid\":" ++ string_text imp ++ codes ",\"price\":"
 
 abbrev pub bid_tail : List ℕ → List ℕ
 bid_tail c = concat (codes ",\"adm\":\"ad " ∷ c ∷ codes "\",\"adomain\":[\"ad" ∷ c ∷ codes ".example\"],\"cid\":\"" ∷ c ∷ codes "\",\"crid\":\"cr" ∷ c ∷ codes "\"}" ∷ [])
@@ -33,7 +33,7 @@ abbrev pub seat_text : List Sale → ℕ → List ℕ
 seat_text sales c = codes "{\"bid\":[" ++ join_with_byte 44 (seat_bids sales c) ++ seat_tail (decimal c)
 
 abbrev pub response_head : List ℕ → List ℕ
-response_head id = codes "{\"id\":" ++ quoted id ++ codes ",\"seatbid\":["
+response_head id = codes "{\"id\":" ++ string_text id ++ codes ",\"seatbid\":["
 
 -- one object a seat, in the order of what each bought first
 abbrev pub response_text : List ℕ → List Sale → List ℕ

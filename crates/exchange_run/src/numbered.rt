@@ -74,6 +74,39 @@ impl NumberedCampaign {
     }
 }
 
+// The facts of the campaign of that number, which have no fault.
+fn facts(alloc: Global, number: u32, bid: Micros) -> Result<Facts, AllocError>
+    requires { 1 ≤ bid }
+    ensures { IfOk result (λ f. f ≡ facts_of number bid) }
+{
+    let parts = parts(alloc, number, bid)?;
+    match Facts::make(parts) {
+        Ok(facts) => Ok(facts),
+        Err(_) => unreachable!(),
+    }
+}
+
+fn parts(alloc: Global, number: u32, bid: Micros) -> Result<FactParts, AllocError>
+    ensures { IfOk result (λ p. p ≡ facts_of number bid) }
+{
+    Ok(FactParts {
+        seat: numbered_text(alloc, b"s", number)?,
+        adomain: advertiser_domain(alloc, number)?,
+        cat: List::new(alloc),
+        w: None,
+        h: None,
+        attr: List::new(alloc),
+        secure: true,
+        bid,
+        deals: List::new(alloc),
+        budget: budget(),
+        adm: numbered_text(alloc, b"ad ", number)?,
+        crid: numbered_text(alloc, b"cr", number)?,
+        adid: None,
+        cap: None,
+    })
+}
+
 // The number behind a text.
 fn numbered_text(alloc: Global, front: &[u8], number: u32) -> Result<Txt, AllocError>
     ensures { IfOk result (λ t. t ≡ front.now ++ decimal number) }
@@ -105,50 +138,16 @@ fn budget() -> Nanos
     }
 }
 
-fn parts(alloc: Global, number: u32, bid: Micros) -> Result<FactParts, AllocError>
-    ensures { IfOk result (λ p. p ≡ facts_of number bid) }
+// The target of a campaign that wants the domain, or any.
+fn target(alloc: Global, domain: Option<&[u8]>) -> Result<Expr, AllocError>
+    requires { IsTrue (is_short (option_map (λ d. d.now) domain)) }
+    ensures { IfOk result (λ e. e ≡ target_of (option_map (λ d. d.now) domain.entry)) }
 {
-    Ok(FactParts {
-        seat: numbered_text(alloc, b"s", number)?,
-        adomain: advertiser_domain(alloc, number)?,
-        cat: List::new(alloc),
-        w: None,
-        h: None,
-        attr: List::new(alloc),
-        secure: true,
-        bid,
-        deals: List::new(alloc),
-        budget: budget(),
-        adm: numbered_text(alloc, b"ad ", number)?,
-        crid: numbered_text(alloc, b"cr", number)?,
-        adid: None,
-        cap: None,
-    })
-}
-
-// The facts of the campaign of that number, which have no fault.
-fn facts(alloc: Global, number: u32, bid: Micros) -> Result<Facts, AllocError>
-    requires { 1 ≤ bid }
-    ensures { IfOk result (λ f. f ≡ facts_of number bid) }
-{
-    let parts = parts(alloc, number, bid)?;
-    match Facts::make(parts) {
-        Ok(facts) => Ok(facts),
-        Err(_) => unreachable!(),
+    let written = raw_target(alloc, domain)?;
+    match Expr::make(alloc, &written) {
+        Ok(target) => Ok(target),
+        Err(fault) => Err(want_of_memory(fault)),
     }
-}
-
-// `domain in [DOMAIN]`.
-fn domain_pred(alloc: Global, domain: &[u8]) -> Result<RawPred, AllocError>
-    ensures { IfOk result (λ p. p ≡ record { attr = codes "domain"; negated = false; values = domain.now ∷ [] }) }
-{
-    let mut values = List::new(alloc);
-    values.push(Txt::from_slice(alloc, domain)?)?;
-    Ok(RawPred {
-        attr: Txt::from_slice(alloc, b"domain")?,
-        negated: false,
-        values,
-    })
 }
 
 // The conjunctions that a campaign states.
@@ -164,6 +163,19 @@ fn raw_target(alloc: Global, domain: Option<&[u8]>) -> Result<List<List<RawPred>
     Ok(conjunctions)
 }
 
+// `domain in [DOMAIN]`.
+fn domain_pred(alloc: Global, domain: &[u8]) -> Result<RawPred, AllocError>
+    ensures { IfOk result (λ p. p ≡ record { attr = codes "domain"; negated = false; values = domain.now ∷ [] }) }
+{
+    let mut values = List::new(alloc);
+    values.push(Txt::from_slice(alloc, domain)?)?;
+    Ok(RawPred {
+        attr: Txt::from_slice(alloc, b"domain")?,
+        negated: false,
+        values,
+    })
+}
+
 // Want of memory, the only fault that is left.
 fn want_of_memory(fault: ExprFault) -> AllocError
     requires { fault ≡ Memory }
@@ -171,17 +183,5 @@ fn want_of_memory(fault: ExprFault) -> AllocError
     match fault {
         ExprFault::Memory => AllocError,
         _ => unreachable!(),
-    }
-}
-
-// The target of a campaign that wants the domain, or any.
-fn target(alloc: Global, domain: Option<&[u8]>) -> Result<Expr, AllocError>
-    requires { IsTrue (is_short (option_map (λ d. d.now) domain)) }
-    ensures { IfOk result (λ e. e ≡ target_of (option_map (λ d. d.now) domain.entry)) }
-{
-    let written = raw_target(alloc, domain)?;
-    match Expr::make(alloc, &written) {
-        Ok(target) => Ok(target),
-        Err(fault) => Err(want_of_memory(fault)),
     }
 }

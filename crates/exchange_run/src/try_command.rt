@@ -23,14 +23,103 @@ use rtb_read::{ReqFault, read_request};
 use rtb_types::BidRequest;
 use std::alloc::{AllocError, Global};
 
-/// The longest input that is taken, in bytes.
-const MAX_INPUT: usize = 262_144;
-
 /// A status and the line that goes with it.
 #[derive(Debug, Drop)]
 struct Reply {
     status: Status,
     line: Txt,
+}
+
+/// Runs the command `try`: reads one bid request (OpenRTB 2.5), sells it to the campaigns that the words
+/// name, and writes the bid response, `no-bid` or the refusal, and a line feed.
+///
+/// It answers the status that the program ends with: 0 where the request was sold or got no bid, 1
+/// where it was refused, 2 where the words are of no command, 9 for want of memory, 10 where the
+/// source failed, each of the last three with a line of its own; and in place of each of them 7,
+/// where the sink failed. From the source it takes at most 266,240 bytes.
+pub fn try_run<S: Source, K: Sink>(alloc: Global, words: &[Txt], source: &mut S, sink: &mut K) -> u8
+    // What the run comes to is written, or a front of it where the sink fails.
+    ensures told { result ≢ code_of NotWritten → Told words.now (S.left source.old) (S.left source.new) (S.faults source.old) (S.faults source.new) (K.written sink.old) (K.written sink.new) result }
+    ensures half_told { result ≡ code_of NotWritten → HalfTold words.now (S.left source.old) (S.left source.new) (S.faults source.old) (S.faults source.new) (K.written sink.old) (K.written sink.new) }
+    ensures cause { RisesOnlyWhere (result ≡ code_of NotWritten) (K.faults sink.old) (K.faults sink.new) }
+
+    // It is usage exactly where the words are of no command, unless the sink fails.
+    ensures usage { command_of words.now ≡ None → (result ≡ code_of Usage) ⊎ (result ≡ code_of NotWritten) }
+    ensures named { result ≡ code_of Usage → command_of words.now ≡ None }
+    ensures not_read { result ≡ code_of NotRead → Rose (S.faults source.old) (S.faults source.new) }
+
+    // Words of no command leave the source alone; of another source not more is taken than this.
+    ensures unread { command_of words.now ≡ None → source.new ≡ source.old }
+    ensures taken { TakesAtMost 266240 (S.left source.old) (S.left source.new) }
+{
+    match reply_or_status(alloc, words, source) {
+        Ok(reply) => tell(reply.status, reply.line.as_bytes(), sink).code(),
+        Err(status) => end_with(status, sink).code(),
+    }
+}
+
+/// The longest input that is taken, in bytes.
+const MAX_INPUT: usize = 262_144;
+
+// What the run comes to, before it is written: a reply, or the status of what stands in its place.
+fn reply_or_status<S: Source>(alloc: Global, words: &[Txt], source: &mut S) -> Result<Reply, Status>
+    ensures replied { IfOk result (λ r. IsOutcome words.now (S.left source.old) (S.left source.new) (S.faults source.old) (S.faults source.new) r.status r.line) }
+    ensures stopped { IfErr result (λ s. IsOutcome words.now (S.left source.old) (S.left source.new) (S.faults source.old) (S.faults source.new) s (line_of s)) }
+    ensures ends { IfOk result (λ r. (r.status ≡ Done) ⊎ (r.status ≡ Refused)) }
+    ensures stops { IfErr result (λ s. s ≢ NotWritten) }
+    ensures usage { command_of words.now ≡ None → result ≡ Err Status.Usage }
+    ensures named { result ≡ Err Status.Usage → command_of words.now ≡ None }
+    ensures not_read { result ≡ Err Status.NotRead → Rose (S.faults source.old) (S.faults source.new) }
+    ensures unread { command_of words.now ≡ None → source.new ≡ source.old }
+    ensures taken { TakesAtMost 266240 (S.left source.old) (S.left source.new) }
+{
+    match command_in(words) {
+        None => Err(Status::Usage),
+        Some(campaigns) => match read_all(alloc, source, MAX_INPUT) {
+            Ok(bytes) => match reply_line(alloc, campaigns, bytes.as_bytes()) {
+                Ok(reply) => Ok(reply),
+                Err(_) => Err(Status::Memory),
+            },
+            Err(ReadFault::Failed) => Err(Status::NotRead),
+            Err(ReadFault::Memory) => Err(Status::Memory),
+        },
+    }
+}
+
+// The reply to the bytes, with a line feed.
+fn reply_line(alloc: Global, words: &[Txt], bytes: &[u8]) -> Result<Reply, AllocError>
+    requires campaigns { IsSome (campaigns_of words.now) }
+    requires few { length words.now ≤ 64 }
+    ensures replies { IfOk result (λ r. Replies (campaigns_of words.now) bytes.now r.status r.line) }
+    ensures ends { IfOk result (λ r. (r.status ≡ Done) ⊎ (r.status ≡ Refused)) }
+{
+    match campaigns_in(alloc, words) {
+        Ok(campaigns) => {
+            let mut reply = bytes_reply(alloc, campaigns.as_slice(), bytes)?;
+            reply.line.push(b'\n')?;
+            Ok(reply)
+        }
+        Err(fault) => Err(fault),
+    }
+}
+
+// The reply to the bytes.
+fn bytes_reply(
+    alloc: Global,
+    campaigns: &[NumberedCampaign],
+    bytes: &[u8],
+) -> Result<Reply, AllocError>
+    requires few { length campaigns.now ≤ 64 }
+    requires numbered { AreNumbered campaigns.now }
+    ensures { IfOk result (IsReply (campaigns_only campaigns.now) bytes.now) }
+{
+    if bytes.len() > MAX_INPUT {
+        return refusal(alloc, b"body-too-large");
+    }
+    match read(alloc, bytes) {
+        Ok(doc) => doc_reply(alloc, campaigns, &doc),
+        Err(fault) => json_refusal(alloc, fault),
+    }
 }
 
 // A refusal that names only what is wrong.
@@ -43,6 +132,18 @@ fn refusal(alloc: Global, word: &[u8]) -> Result<Reply, AllocError>
         status: Status::Refused,
         line,
     })
+}
+
+// What is sold of the request that the text makes, or its first fault.
+fn doc_reply(alloc: Global, campaigns: &[NumberedCampaign], doc: &Doc) -> Result<Reply, AllocError>
+    requires few { length campaigns.now ≤ 64 }
+    requires numbered { AreNumbered campaigns.now }
+    ensures { IfOk result (λ r. r ≡ tree_reply (campaigns_only campaigns.now) (doc_tree doc.now)) }
+{
+    match read_request(alloc, doc) {
+        Ok(request) => request_reply(alloc, campaigns, &request),
+        Err(fault) => request_refusal(alloc, &fault),
+    }
 }
 
 // What is sold of the request, or that this stage has no rules for it.
@@ -86,18 +187,6 @@ fn request_refusal(alloc: Global, fault: &ReqFault) -> Result<Reply, AllocError>
     })
 }
 
-// What is sold of the request that the text makes, or its first fault.
-fn doc_reply(alloc: Global, campaigns: &[NumberedCampaign], doc: &Doc) -> Result<Reply, AllocError>
-    requires few { length campaigns.now ≤ 64 }
-    requires numbered { AreNumbered campaigns.now }
-    ensures { IfOk result (λ r. r ≡ tree_reply (campaigns_only campaigns.now) (doc_tree doc.now)) }
-{
-    match read_request(alloc, doc) {
-        Ok(request) => request_reply(alloc, campaigns, &request),
-        Err(fault) => request_refusal(alloc, &fault),
-    }
-}
-
 // The refusal of bytes that are no JSON text.
 fn json_refusal(alloc: Global, fault: JsonFault) -> Result<Reply, AllocError>
     ensures refused { IfOk result (λ r. r ≡ refusal_of (json_fault_text fault)) }
@@ -112,93 +201,4 @@ fn json_refusal(alloc: Global, fault: JsonFault) -> Result<Reply, AllocError>
         status: Status::Refused,
         line,
     })
-}
-
-// The reply to the bytes.
-fn bytes_reply(
-    alloc: Global,
-    campaigns: &[NumberedCampaign],
-    bytes: &[u8],
-) -> Result<Reply, AllocError>
-    requires few { length campaigns.now ≤ 64 }
-    requires numbered { AreNumbered campaigns.now }
-    ensures { IfOk result (IsReply (campaigns_only campaigns.now) bytes.now) }
-{
-    if bytes.len() > MAX_INPUT {
-        return refusal(alloc, b"body-too-large");
-    }
-    match read(alloc, bytes) {
-        Ok(doc) => doc_reply(alloc, campaigns, &doc),
-        Err(fault) => json_refusal(alloc, fault),
-    }
-}
-
-// The reply to the bytes, with a line feed.
-fn reply_line(alloc: Global, words: &[Txt], bytes: &[u8]) -> Result<Reply, AllocError>
-    requires campaigns { IsSome (campaigns_of words.now) }
-    requires few { length words.now ≤ 64 }
-    ensures replies { IfOk result (λ r. Replies (campaigns_of words.now) bytes.now r.status r.line) }
-    ensures ends { IfOk result (λ r. (r.status ≡ Done) ⊎ (r.status ≡ Refused)) }
-{
-    match campaigns_in(alloc, words) {
-        Ok(campaigns) => {
-            let mut reply = bytes_reply(alloc, campaigns.as_slice(), bytes)?;
-            reply.line.push(b'\n')?;
-            Ok(reply)
-        }
-        Err(fault) => Err(fault),
-    }
-}
-
-// What the run comes to, before it is written: a reply, or the status of what stands in its place.
-fn outcome<S: Source>(alloc: Global, words: &[Txt], source: &mut S) -> Result<Reply, Status>
-    ensures replied { IfOk result (λ r. IsOutcome words.now (S.left source.old) (S.left source.new) (S.faults source.old) (S.faults source.new) r.status r.line) }
-    ensures stopped { IfErr result (λ s. IsOutcome words.now (S.left source.old) (S.left source.new) (S.faults source.old) (S.faults source.new) s (line_of s)) }
-    ensures ends { IfOk result (λ r. (r.status ≡ Done) ⊎ (r.status ≡ Refused)) }
-    ensures stops { IfErr result (λ s. s ≢ NotWritten) }
-    ensures usage { command_of words.now ≡ None → result ≡ Err Status.Usage }
-    ensures named { result ≡ Err Status.Usage → command_of words.now ≡ None }
-    ensures not_read { result ≡ Err Status.NotRead → Rose (S.faults source.old) (S.faults source.new) }
-    ensures unread { command_of words.now ≡ None → source.new ≡ source.old }
-    ensures taken { TakesAtMost 266240 (S.left source.old) (S.left source.new) }
-{
-    match command_in(words) {
-        None => Err(Status::Usage),
-        Some(campaigns) => match read_all(alloc, source, MAX_INPUT) {
-            Ok(bytes) => match reply_line(alloc, campaigns, bytes.as_bytes()) {
-                Ok(reply) => Ok(reply),
-                Err(_) => Err(Status::Memory),
-            },
-            Err(ReadFault::Failed) => Err(Status::NotRead),
-            Err(ReadFault::Memory) => Err(Status::Memory),
-        },
-    }
-}
-
-/// Runs the command `try`: reads one bid request (OpenRTB 2.5), sells it to the campaigns that the words
-/// name, and writes the bid response, `no-bid` or the refusal, and a line feed.
-///
-/// It answers the status that the program ends with: 0 where the request was sold or got no bid, 1
-/// where it was refused, 2 where the words are of no command, 9 for want of memory, 10 where the
-/// source failed, each of the last three with a line of its own; and in place of each of them 7,
-/// where the sink failed. From the source it takes at most 266,240 bytes.
-pub fn try_run<S: Source, K: Sink>(alloc: Global, words: &[Txt], source: &mut S, sink: &mut K) -> u8
-    // What the run comes to is written, or a front of it where the sink fails.
-    ensures told { result ≢ code_of NotWritten → Told words.now (S.left source.old) (S.left source.new) (S.faults source.old) (S.faults source.new) (K.written sink.old) (K.written sink.new) result }
-    ensures half_told { result ≡ code_of NotWritten → HalfTold words.now (S.left source.old) (S.left source.new) (S.faults source.old) (S.faults source.new) (K.written sink.old) (K.written sink.new) }
-    ensures cause { RisesOnlyWhere (result ≡ code_of NotWritten) (K.faults sink.old) (K.faults sink.new) }
-
-    // It is usage exactly where the words are of no command, unless the sink fails.
-    ensures usage { command_of words.now ≡ None → (result ≡ code_of Usage) ⊎ (result ≡ code_of NotWritten) }
-    ensures named { result ≡ code_of Usage → command_of words.now ≡ None }
-    ensures not_read { result ≡ code_of NotRead → Rose (S.faults source.old) (S.faults source.new) }
-
-    // Words of no command leave the source alone; of another source not more is taken than this.
-    ensures unread { command_of words.now ≡ None → source.new ≡ source.old }
-    ensures taken { TakesAtMost 266240 (S.left source.old) (S.left source.new) }
-{
-    match outcome(alloc, words, source) {
-        Ok(reply) => tell(reply.status, reply.line.as_bytes(), sink).code(),
-        Err(status) => end_with(status, sink).code(),
-    }
 }

@@ -4,18 +4,11 @@ ghost use Rattle.exchange_run.specs.Unbuilt.{has_lists as has_lists_of, is_unbui
 
 use rtb_types::{BidRequest, Imp};
 
-fn is_unbuilt_imp(imp: &Imp) -> bool
-    ensures { result ≡ is_unbuilt_imp_of imp.now }
+/// Whether this stage has no rules for the request.
+pub(crate) fn is_unbuilt(request: &BidRequest) -> bool
+    ensures { result ≡ is_unbuilt_request request.now }
 {
-    !imp.pmp.deals.is_empty()
-        || imp.pmp.private_auction
-        || imp.currency.as_bytes() != b"USD".as_slice()
-}
-
-fn are_unbuilt(imps: &[Imp]) -> bool
-    ensures { result ≡ list_any is_unbuilt_imp_of imps.now }
-{
-    imps.iter().any(|imp| is_unbuilt_imp(imp))
+    request.at == 1 || request.test || has_lists(request) || are_unbuilt(request.imps.as_slice())
 }
 
 fn has_lists(request: &BidRequest) -> bool
@@ -27,9 +20,16 @@ fn has_lists(request: &BidRequest) -> bool
         || !request.badv.is_empty()
 }
 
-/// Whether this stage has no rules for the request.
-pub(crate) fn is_unbuilt(request: &BidRequest) -> bool
-    ensures { result ≡ is_unbuilt_request request.now }
+fn are_unbuilt(imps: &[Imp]) -> bool
+    ensures { result ≡ list_any is_unbuilt_imp_of imps.now }
 {
-    request.at == 1 || request.test || has_lists(request) || are_unbuilt(request.imps.as_slice())
+    imps.iter().any(|imp| is_unbuilt_imp(imp))
+}
+
+fn is_unbuilt_imp(imp: &Imp) -> bool
+    ensures { result ≡ is_unbuilt_imp_of imp.now }
+{
+    !imp.pmp.deals.is_empty()
+        || imp.pmp.private_auction
+        || imp.currency.as_bytes() != b"USD".as_slice()
 }

@@ -1,4 +1,4 @@
-ghost use Rattle.std.specs.Prelude.{◌≡◌, ◌==◌, ◌<◌, ◌≤◌, position, length, IfSome, Option, None, Some, cond, option_map, is_some, IfOk, IsSome, IsTrue};
+ghost use Rattle.std.specs.Prelude.{◌≡◌, ◌==◌, ◌<◌, ◌≤◌, position, length, IfSome, Option, None, Some, if◌then◌else◌, option_map, is_some, IfOk, IsSome, IsTrue};
 ghost use Rattle.std.specs.List.{after_first, before_first, list_all, list_any};
 ghost use Rattle.exchange_run.specs.Words.{amount_of, campaign_of, campaign_words, campaigns_of, command_of, domain_of, bid_of, is_at};
 ghost use Rattle.exchange_run.specs.Numbered.{AreNumbered, is_short, campaigns_only};
@@ -18,16 +18,33 @@ pub(crate) struct NamedCampaign<'a> {
     pub domain: Option<&'a [u8]>,
 }
 
-const MAX_DOMAIN: usize = 255;
-
 /// The most campaigns of a command.
 pub(crate) const MAX_CAMPAIGNS: usize = 64;
 
-fn place_of(text: &[u8], byte: u8) -> Option<usize>
-    ensures place { result ≡ position (λ c. c == byte) text.now }
-    ensures inside { IfSome result (λ at. at < length text.now) }
+/// Whether the word is a campaign.
+pub(crate) fn is_campaign(word: &Txt) -> bool
+    ensures { result ≡ is_some (campaign_of word.now) }
 {
-    text.iter().position(|c| *c == byte)
+    campaign(word.as_bytes()).is_some()
+}
+
+// `BID` or `BID@DOMAIN`.
+fn campaign(word: &[u8]) -> Option<NamedCampaign<'_>>
+    ensures { option_map campaign_view result ≡ campaign_of word.now }
+{
+    let bid = bid(word)?;
+    let domain = domain(word)?;
+    Some(NamedCampaign { bid, domain })
+}
+
+fn bid(word: &[u8]) -> Option<Micros>
+    ensures { result ≡ bid_of word.now }
+{
+    let bid = amount(bid_part(word))?;
+    if bid.get() == 0 {
+        return None;
+    }
+    Some(bid)
 }
 
 // The amount that a number of JSON is worth exactly, up to a million dollars.
@@ -50,25 +67,14 @@ fn bid_part(word: &[u8]) -> &[u8]
     }
 }
 
-// What stands behind the first `@`, if there is one.
-fn domain_part(word: &[u8]) -> Option<&[u8]>
-    ensures { option_map (λ d. d.now) result ≡ cond (list_any is_at word.now) (Some (after_first is_at word.now)) None }
+fn place_of(text: &[u8], byte: u8) -> Option<usize>
+    ensures place { result ≡ position (λ c. c == byte) text.now }
+    ensures inside { IfSome result (λ at. at < length text.now) }
 {
-    match place_of(word, b'@') {
-        Some(at) => Some(&word[at + 1..]),
-        None => None,
-    }
+    text.iter().position(|c| *c == byte)
 }
 
-fn bid(word: &[u8]) -> Option<Micros>
-    ensures { result ≡ bid_of word.now }
-{
-    let bid = amount(bid_part(word))?;
-    if bid.get() == 0 {
-        return None;
-    }
-    Some(bid)
-}
+const MAX_DOMAIN: usize = 255;
 
 fn domain(word: &[u8]) -> Option<Option<&[u8]>>
     ensures { option_map (λ d. option_map (λ t. t.now) d) result ≡ domain_of word.now }
@@ -87,26 +93,27 @@ fn domain(word: &[u8]) -> Option<Option<&[u8]>>
     }
 }
 
-// `BID` or `BID@DOMAIN`.
-fn campaign(word: &[u8]) -> Option<NamedCampaign<'_>>
-    ensures { option_map campaign_view result ≡ campaign_of word.now }
+// What stands behind the first `@`, if there is one.
+fn domain_part(word: &[u8]) -> Option<&[u8]>
+    ensures { option_map (λ d. d.now) result ≡ (if list_any is_at word.now then Some (after_first is_at word.now) else None) }
 {
-    let bid = bid(word)?;
-    let domain = domain(word)?;
-    Some(NamedCampaign { bid, domain })
+    match place_of(word, b'@') {
+        Some(at) => Some(&word[at + 1..]),
+        None => None,
+    }
 }
 
-/// Whether the word is a campaign.
-pub(crate) fn is_campaign(word: &Txt) -> bool
-    ensures { result ≡ is_some (campaign_of word.now) }
+/// The words of the command `try` behind its name, where each is a campaign.
+#[tactic(auto, using(crate::proofs::Campaigns::all_are))]
+pub(crate) fn command_in(words: &[Txt]) -> Option<&[Txt]>
+    ensures command { is_some result ≡ is_some (command_of words.now) }
+    ensures words { IfSome result (λ ws. (campaigns_of ws.now ≡ command_of words.now) × IsSome (campaigns_of ws.now) × (length ws.now ≤ 64)) }
 {
-    campaign(word.as_bytes()).is_some()
-}
-
-fn are_campaigns(words: &[Txt]) -> bool
-    ensures { result ≡ list_all (λ word. is_some (campaign_of word)) words.now }
-{
-    words.iter().all(|word| is_campaign(word))
+    let words = words_behind_try(words)?;
+    if !are_campaigns(words) {
+        return None;
+    }
+    Some(words)
 }
 
 // What stands behind the command's name: at most 64 words.
@@ -127,29 +134,10 @@ fn words_behind_try(words: &[Txt]) -> Option<&[Txt]>
     }
 }
 
-/// The words of the command `try` behind its name, where each is a campaign.
-#[tactic(auto, using(crate::proofs::Campaigns::all_are))]
-pub(crate) fn command_in(words: &[Txt]) -> Option<&[Txt]>
-    ensures command { is_some result ≡ is_some (command_of words.now) }
-    ensures words { IfSome result (λ ws. (campaigns_of ws.now ≡ command_of words.now) × IsSome (campaigns_of ws.now) × (length ws.now ≤ 64)) }
+fn are_campaigns(words: &[Txt]) -> bool
+    ensures { result ≡ list_all (λ word. is_some (campaign_of word)) words.now }
 {
-    let words = words_behind_try(words)?;
-    if !are_campaigns(words) {
-        return None;
-    }
-    Some(words)
-}
-
-fn campaign_named(word: &Txt) -> NamedCampaign<'_>
-    requires { IsSome (campaign_of word.now) }
-    ensures value { Some (campaign_view result) ≡ campaign_of word.now }
-    ensures some_bid { 1 ≤ result.bid }
-    ensures short { IsTrue (is_short (campaign_view result).domain) }
-{
-    match campaign(word.as_bytes()) {
-        Some(campaign) => campaign,
-        None => unreachable!(),
-    }
+    words.iter().all(|word| is_campaign(word))
 }
 
 /// The campaigns that the words name, in their order, numbered from 1.
@@ -169,4 +157,16 @@ pub(crate) fn campaigns_in(
         campaigns.push(NumberedCampaign::make(alloc, number, &campaign_named(word))?)?;
     }
     Ok(campaigns)
+}
+
+fn campaign_named(word: &Txt) -> NamedCampaign<'_>
+    requires { IsSome (campaign_of word.now) }
+    ensures value { Some (campaign_view result) ≡ campaign_of word.now }
+    ensures some_bid { 1 ≤ result.bid }
+    ensures short { IsTrue (is_short (campaign_view result).domain) }
+{
+    match campaign(word.as_bytes()) {
+        Some(campaign) => campaign,
+        None => unreachable!(),
+    }
 }

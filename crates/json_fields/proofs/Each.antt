@@ -2,6 +2,7 @@
 use Rattle.std.proofs.Common.{◌≡◌, ℕ, ◌+◌, ◌<◌, List, [], ◌∷◌, ◌++◌, map, take, drop, length, get_or, Bool, true, ◌&&◌, arith, subst, refl, sym, ap, ◌∙◌, append_assoc, append-nil, length-append, take-append-drop}
 use Rattle.std.specs.List.{enumerate_from, flat_map, list_all}
 use Rattle.std.proofs.lemmas.List.{take_more, map-append, map_push, length-map, length-take-le}
+use Rattle.std.proofs.lemmas.Bool.{and_from}
 use Rattle.json_fields.specs.Answers.{IsFirst}
 use Rattle.json_fields.specs.Items.{each_at}
 use Rattle.json_fields.proofs.First.{in_front, behind, neither}
@@ -77,13 +78,16 @@ pub right_none : {B : Type 0} (a b : List B) → a ++ b ≡ [] → b ≡ []
 right_none [] b e = e
 right_none (x ∷ a) b e = cc
 
-both_true : (a b : Bool) → a ≡ true → b ≡ true → (a && b) ≡ true
-both_true a b e f = ap (λ c. c && b) e ∙ f
-
 clean_from : {A B : Type 0} (f : ℕ → A → List B) (p : A → Bool) → ((k : ℕ) (x : A) → f k x ≡ [] → p x ≡ true) → (n : ℕ) (xs : List A) → from f n xs ≡ [] → list_all p xs ≡ true
 clean_from f p h n [] e = refl
-clean_from f p h n (x ∷ xs) e = both_true (p x) (list_all p xs) (h n x (left_none _ _ e)) (clean_from f p h (n + 1) xs (right_none (f n x) _ e))
+clean_from f p h n (x ∷ xs) e = and_from (p x) (list_all p xs) (h n x (left_none _ _ e)) (clean_from f p h (n + 1) xs (right_none (f n x) _ e))
 
 pub each_clean : {A B : Type 0} (f : ℕ → A → List B) (p : A → Bool) → ((k : ℕ) (x : A) → f k x ≡ [] → p x ≡ true) → (xs : List A) → each_at f xs ≡ [] → list_all p xs ≡ true
 unfolding each_at
 each_clean f p h xs e = clean_from f p h 0 xs e
+
+-- the values that a loop has read, and one more
+pub map_more : {V A B : Type 0} (f : A → B) (v : V → A) (vs : List V) (k : ℕ) (x : V) (ys : List B) (y : B) → k < length vs → x ≡ get_or vs k x
+    → ys ≡ map f (map v (take k vs)) → y ≡ f (v x) → ys ++ y ∷ [] ≡ map f (map v (take (k + 1) vs))
+map_more f v vs k x ys y h is before same =
+    ap (λ zs. zs ++ y ∷ []) before ∙ ap (λ z. map f (map v (take k vs)) ++ z ∷ []) same ∙ sym (map_push f (map v (take k vs)) (v x)) ∙ sym (ap (map f) (front_more v vs k x h is))

@@ -8,11 +8,11 @@ use Rattle.std.proofs.lemmas.Bool.{and_parts}
 use Rattle.std.proofs.lemmas.Bool.Decides.{nat_tests}
 use Rattle.std.proofs.Math.Nat.{mul-pos, zero-mul}
 use Rattle.rtb_num.specs.Amounts.{number_of}
-use Rattle.rtb_num.specs.Numbers.{Number, number_in, IsWithinMillionths, IsMillionths, IsWhole, IsInteger, is_below_zero}
+use Rattle.rtb_num.specs.Numbers.{Number, number_in, IsWithinMillionths, IsMillionths, IsWhole, IsInteger, is_below_zero, with_sign}
 use Rattle.rtb_num.specs.declared.read_amounts.PriceFault.{PriceFault}
 use Rattle.rtb_num.proofs.Numbers.{pow_ten_pos}
-use Rattle.rtb_num.proofs.Millionths.{within_is, exactly_is}
-use Rattle.json_fields.specs.Amounts.{units_in, is_exactly_units, units_up, signed, is_between, whole_of, in_32_bits, floor_of, exact_of}
+use Rattle.rtb_num.proofs.Millionths.{within_is, exactly_is, with_sign_is}
+use Rattle.json_fields.specs.Amounts.{units_in, is_exactly_units, units_up, is_between, whole_of, in_32_bits, floor_of, exact_of}
 
 apart : {A : Type 0} → true ≡ false → A
 apart e = cc
@@ -83,29 +83,15 @@ within_int : (z : ℤ) → negsuc 2147483647 ≤ℤ z → z ≤ℤ pos 214748364
 within_int z low high =
     ap (λ b. b && int_le z (pos 2147483647)) (t_true (int_le (negsuc 2147483647) z) low.le) ∙ t_true (int_le z (pos 2147483647)) high.le
 
--- what is below 0 is not 0
-below_pos : (n : Number) → is_below_zero n ≡ true → IsWhole n 0 → ⊥
-below_pos n b w =
-    let some = positive (number_of n.digits) (and_parts n.minus (not (number_of n.digits == 0)) b).1 in
-    omega (arith, mul-pos some (pow_ten_pos n.up), sym w ∙ zero-mul (10 ^ n.down))
-  where
-    positive : (k : ℕ) → not (k == 0) ≡ true → 0 < k
-    positive k e = grind (arith, nat_tests)
-
-signed_is : (n : Number) (u : ℕ) (b : Bool) → IsWhole n u → b ≡ is_below_zero n → IsInteger n (signed b u)
-signed_is n u false w e = (sym e, w)
-signed_is n zero true w e = absurd (below_pos n (sym e) w)
-signed_is n (suc m) true w e = let next : m + 1 ≡ suc m = omega arith in (sym e, ap (λ k. k * 10 ^ n.down) next ∙ w)
-
 -- a number has one value
-one_value : (n : Number) (z : ℤ) → IsInteger n z → (is_exactly_units 0 n ≡ true) × (signed (is_below_zero n) (units_in 0 n) ≡ z)
+one_value : (n : Number) (z : ℤ) → IsInteger n z → (is_exactly_units 0 n ≡ true) × (with_sign (is_below_zero n) (units_in 0 n) ≡ z)
 one_value n (pos m) (sign, w) =
     let p = whole_parts n m w in
-    (p.1, ap (λ b. signed b (units_in 0 n)) sign ∙ ap (λ k. pos k) p.0)
+    (p.1, ap (λ b. with_sign b (units_in 0 n)) sign ∙ ap (λ k. pos k) p.0)
 one_value n (negsuc m) (sign, w) =
     let p = whole_parts n (m + 1) w in
     let next : m + 1 ≡ suc m = omega arith in
-    (p.1, ap (λ b. signed b (units_in 0 n)) sign ∙ ap (λ k. neg_ℤ (pos k)) (p.0 ∙ next))
+    (p.1, ap (λ b. with_sign b (units_in 0 n)) sign ∙ ap (λ k. neg_ℤ (pos k)) (p.0 ∙ next))
 
 abbrev fitting : ℤ → Option ℤ
 fitting z = cond (is_between (negsuc 2147483647) (pos 2147483647) z) (Some z) None
@@ -122,15 +108,15 @@ fits_32 : (s : List ℕ) (z : ℤ) → IsInteger (number_in s) z → negsuc 2147
 unfolding whole_of in_32_bits
 fits_32 s z value low high =
     let one = one_value (number_in s) z value in
-    let v = signed (is_below_zero (number_in s)) (units_in 0 (number_in s)) in
+    let v = with_sign (is_below_zero (number_in s)) (units_in 0 (number_in s)) in
     sym (ap (λ b. option_and_then fitting (cond b (Some v) None)) one.0 ∙ ap fitting one.1 ∙ ap (λ b. cond b (Some z) None) (within_int z low high))
 
 nothing_32 : (s : List ℕ) → ((z : ℤ) → negsuc 2147483647 ≤ℤ z → z ≤ℤ pos 2147483647 → IsInteger (number_in s) z → ⊥) → None ≡ in_32_bits s
 unfolding whole_of in_32_bits
 nothing_32 s none = by (is_exactly_units 0 (number_in s)) refl
   where
-    by : (b : Bool) → is_exactly_units 0 (number_in s) ≡ b → None ≡ option_and_then fitting (cond b (Some (signed (is_below_zero (number_in s)) (units_in 0 (number_in s)))) None)
-    by true e = left_out _ (λ low high. none _ low high (signed_is (number_in s) _ _ (parts_whole (number_in s) e) refl))
+    by : (b : Bool) → is_exactly_units 0 (number_in s) ≡ b → None ≡ option_and_then fitting (cond b (Some (with_sign (is_below_zero (number_in s)) (units_in 0 (number_in s)))) None)
+    by true e = left_out _ (λ low high. none _ low high (with_sign_is (number_in s) _ _ (parts_whole (number_in s) e) refl))
     by false e = refl
 
 pub whole_32 : (s : List ℕ) (r : Option ℤ) → IfSome r (λ z. IsInteger (number_in s) z) → IfSome r (λ z. negsuc 2147483647 ≤ℤ z) → IfSome r (λ z. z ≤ℤ pos 2147483647)
@@ -143,7 +129,7 @@ unfolding whole_of
 is_whole_value s b is = by b (is_exactly_units 0 (number_in s)) is refl
   where
     by : (a e : Bool) → (IsTrue a ↔ ((m : ℕ) × IsWhole (number_in s) m)) → is_exactly_units 0 (number_in s) ≡ e
-        → a ≡ is_some (cond e (Some (signed (is_below_zero (number_in s)) (units_in 0 (number_in s)))) None)
+        → a ≡ is_some (cond e (Some (with_sign (is_below_zero (number_in s)) (units_in 0 (number_in s)))) None)
     by true true h g = refl
     by true false h g = (let found = h.0 refl in absurd (clash (whole_parts (number_in s) found.0 found.1).1 g))
     by false true h g = h.1 (_, parts_whole (number_in s) g)

@@ -1,5 +1,5 @@
 -- A member of an object as a field of some type, or its flaw.
-use Rattle.std.specs.Prelude.{ℕ, ℤ, pos, ◌&&◌, nat_le, int_le, List, length, Bool, true, false, cond, Option, Some, None, option_map, option_and_then, Result, Ok, Err}
+use Rattle.std.specs.Prelude.{ℕ, ℤ, pos, ◌&&◌, nat_le, int_le, List, length, Bool, true, false, if◌then◌else◌, Option, Some, None, option_map, option_and_then, Result, Ok, Err}
 use Rattle.exact_json.specs.Tree.{Tree, null, boolean, number, string, array, object, list_of, get}
 use Rattle.json_fields.specs.Amounts.{in_32_bits, floor_of, exact_of, is_between}
 use Rattle.json_fields.specs.Answers.{and_then, map_err, map_ok}
@@ -59,7 +59,7 @@ as_object (object ps) = Ok (object ps)
 
 -- a text of 1 to n bytes
 abbrev pub text_within : ℕ → List ℕ → Result (List ℕ) Flaw
-text_within n s = cond (nat_le 1 (length s) && nat_le (length s) n) (Ok s) (Err Flaw.Range)
+text_within n s = if nat_le 1 (length s) && nat_le (length s) n then Ok s else Err Flaw.Range
 
 unfoldable pub as_text_within : ℕ → Tree → Result (List ℕ) Flaw
 as_text_within n t = and_then (text_within n) (as_text t)
@@ -67,7 +67,7 @@ as_text_within n t = and_then (text_within n) (as_text t)
 -- a whole number within bounds
 abbrev pub whole_within : Bounds → Option ℤ → Result ℤ Flaw
 whole_within bounds None = Err Flaw.Range
-whole_within bounds (Some z) = cond (is_between bounds.least bounds.greatest z) (Ok z) (Err Flaw.Range)
+whole_within bounds (Some z) = if is_between bounds.least bounds.greatest z then Ok z else Err Flaw.Range
 
 unfoldable pub as_whole : Bounds → Tree → Result ℤ Flaw
 as_whole bounds t = and_then (λ x. whole_within bounds (in_32_bits x)) (as_number t)

@@ -16,12 +16,14 @@ use exact_json::Value;
 use rtb_num::{List, Txt};
 use std::alloc::Global;
 
-fn text_at(place: usize, value: &Value) -> Result<Txt, ListFlaw>
-    ensures { Answers ListFlaw.Memory (map (ListFlaw.Item place) (flaws_of (as_text (tree_of value.now)))) (value_or [] (as_text (tree_of value.now))) result }
+/// A list of texts, and the empty one where it is absent.
+pub fn texts(alloc: Global, object: &Value, name: &[u8]) -> Result<List<Txt>, ListFlaw>
+    ensures { Answers ListFlaw.Memory (list_flaws as_text (present_in name.now (tree_of object.now))) (list_values as_text (present_in name.now (tree_of object.now))) result }
 {
-    match text_in(value) {
-        Ok(text) => Ok(text.copy()?),
-        Err(flaw) => Err(ListFlaw::Item(place, flaw)),
+    match array(object, name) {
+        Ok(Some(values)) => Ok(List::from_vec(all_texts(alloc, values)?)),
+        Ok(None) => Ok(List::new(alloc)),
+        Err(flaw) => Err(ListFlaw::Whole(flaw)),
     }
 }
 
@@ -35,36 +37,13 @@ fn all_texts(alloc: Global, values: &[Value]) -> Result<Vec<Txt>, ListFlaw>
     Ok(texts)
 }
 
-/// A list of texts, and the empty one where it is absent.
-pub fn texts(alloc: Global, object: &Value, name: &[u8]) -> Result<List<Txt>, ListFlaw>
-    ensures { Answers ListFlaw.Memory (list_flaws as_text (present_in name.now (tree_of object.now))) (list_values as_text (present_in name.now (tree_of object.now))) result }
+fn text_at(place: usize, value: &Value) -> Result<Txt, ListFlaw>
+    ensures { Answers ListFlaw.Memory (map (ListFlaw.Item place) (flaws_of (as_text (tree_of value.now)))) (value_or [] (as_text (tree_of value.now))) result }
 {
-    match array(object, name) {
-        Ok(Some(values)) => Ok(List::from_vec(all_texts(alloc, values)?)),
-        Ok(None) => Ok(List::new(alloc)),
-        Err(flaw) => Err(ListFlaw::Whole(flaw)),
-    }
-}
-
-fn whole_at(place: usize, value: &Value, bounds: &Bounds) -> Result<i32, ListFlaw>
-    requires forms { HasForms (tree_of value.now) }
-    ensures { Answers ListFlaw.Memory (map (ListFlaw.Item place) (flaws_of (as_whole bounds.now (tree_of value.now)))) (value_or (pos 0) (as_whole bounds.now (tree_of value.now))) result }
-{
-    match whole_in(value, bounds) {
-        Ok(n) => Ok(n),
+    match text_in(value) {
+        Ok(text) => Ok(text.copy()?),
         Err(flaw) => Err(ListFlaw::Item(place, flaw)),
     }
-}
-
-fn all_whole_numbers(alloc: Global, values: &[Value], bounds: &Bounds) -> Result<Vec<i32>, ListFlaw>
-    requires forms { All (λ v. HasForms (tree_of v)) values.now }
-    ensures { Answers ListFlaw.Memory (items_flaws (as_whole bounds.now) (map tree_of values.now)) (items_values (as_whole bounds.now) (map tree_of values.now)) (map_ok (λ v. v.items) result) }
-{
-    let mut numbers = Vec::with_capacity(alloc, values.len())?;
-    for (place, value) in values.iter().enumerate() {
-        numbers.push(whole_at(place, value, bounds)?)?;
-    }
-    Ok(numbers)
 }
 
 /// A list of whole numbers within the bounds, and the empty one where it is absent.
@@ -84,5 +63,26 @@ pub fn whole_numbers(
         }
         Ok(None) => Ok(List::new(alloc)),
         Err(flaw) => Err(ListFlaw::Whole(flaw)),
+    }
+}
+
+fn all_whole_numbers(alloc: Global, values: &[Value], bounds: &Bounds) -> Result<Vec<i32>, ListFlaw>
+    requires forms { All (λ v. HasForms (tree_of v)) values.now }
+    ensures { Answers ListFlaw.Memory (items_flaws (as_whole bounds.now) (map tree_of values.now)) (items_values (as_whole bounds.now) (map tree_of values.now)) (map_ok (λ v. v.items) result) }
+{
+    let mut numbers = Vec::with_capacity(alloc, values.len())?;
+    for (place, value) in values.iter().enumerate() {
+        numbers.push(whole_at(place, value, bounds)?)?;
+    }
+    Ok(numbers)
+}
+
+fn whole_at(place: usize, value: &Value, bounds: &Bounds) -> Result<i32, ListFlaw>
+    requires forms { HasForms (tree_of value.now) }
+    ensures { Answers ListFlaw.Memory (map (ListFlaw.Item place) (flaws_of (as_whole bounds.now (tree_of value.now)))) (value_or (pos 0) (as_whole bounds.now (tree_of value.now))) result }
+{
+    match whole_in(value, bounds) {
+        Ok(n) => Ok(n),
+        Err(flaw) => Err(ListFlaw::Item(place, flaw)),
     }
 }

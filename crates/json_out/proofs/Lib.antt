@@ -1,3 +1,4 @@
 mod Escapes
 mod Innermost
 mod Read
+pub mod Objects

@@ -3,7 +3,7 @@ use Rattle.std.proofs.Common.{◌≡◌, ℕ, ◌+◌, ◌*◌, ◌/◌, ◌%◌
 use Rattle.std.specs.List.{flat_map}
 use Rattle.std.proofs.lemmas.Bool.Decides.{nat_tests}
 use Rattle.std.proofs.lemmas.List.{append_cancel_right}
-use Rattle.json_out.specs.Strings.{hexadecimal, escaped, quoted, short_escape, IsDigit, IsChar, AreChars, IsString}
+use Rattle.json_out.specs.Strings.{hexadecimal, escape, string_text, short_escape, IsDigit, IsChar, AreChars, IsString}
 
 is_same : (c d : ℕ) → (c == d) ≡ true → c ≡ d
 is_same c d e = grind (arith, nat_tests)
@@ -34,16 +34,16 @@ char_by c false false true e f g =
     inr (inr (c / 16, c % 16, hexadecimal (c / 16), hexadecimal (c % 16), high, omega arith, digit (c / 16) (omega arith), digit (c % 16) (omega arith), refl))
 char_by c false false false e f g = inl (is_from c 32 g, is_other c 34 e, is_other c 92 f, refl)
 
-char : (c : ℕ) → IsChar c (escaped c)
+char : (c : ℕ) → IsChar c (escape c)
 char c = char_by c (c == 34) (c == 92) (nat_lt c 32) refl refl refl
 
-chars : (s : List ℕ) → AreChars s (flat_map escaped s)
+chars : (s : List ℕ) → AreChars s (flat_map escape s)
 chars [] = refl
-chars (c ∷ s) = (escaped c, flat_map escaped s, char c, chars s, refl)
+chars (c ∷ s) = (escape c, flat_map escape s, char c, chars s, refl)
 
 -- what the writer writes says what it was given
-pub reads_back : (s : List ℕ) → IsString s (quoted s)
-reads_back s = (flat_map escaped s, chars s, refl)
+pub reads_back : (s : List ℕ) → IsString s (string_text s)
+reads_back s = (flat_map escape s, chars s, refl)
 
 same_digit : (m n d e : ℕ) → IsDigit m d → IsDigit n e → d ≡ e → m ≡ n
 same_digit m n d e (inl (a, p)) (inl (b, q)) h = omega arith

@@ -1,2 +1,4 @@
 pub mod Strings
 pub mod Writer
+pub mod Texts
+pub mod Inside

@@ -1,20 +1,24 @@
 -- Strings of RFC 8259, section 7: how the writer writes one, and what one says.
-use Rattle.std.specs.Prelude.{◌≡◌, ◌≢◌, ℕ, ◌+◌, ◌*◌, ◌/◌, ◌%◌, ◌<◌, ◌≤◌, ◌==◌, nat_lt, List, [], ◌∷◌, ◌++◌, ◌⊎◌, Option, Some, cond}
+use Rattle.std.specs.Prelude.{◌≡◌, ◌≢◌, ℕ, ◌+◌, ◌*◌, ◌/◌, ◌%◌, ◌<◌, ◌≤◌, ◌==◌, nat_lt, List, [], ◌∷◌, ◌++◌, ◌⊎◌, Option, Some, if◌then◌else◌}
 use Rattle.std.specs.List.{flat_map}
 use Rattle.std.specs.Map.{lookup}
 
 -- a hexadecimal digit, in lower case
 abbrev pub hexadecimal : ℕ → ℕ
-hexadecimal n = cond (nat_lt n 10) (48 + n) (87 + n)
+hexadecimal n = if nat_lt n 10 then 48 + n else 87 + n
 
 -- A byte inside a string: a quotation mark and a reverse solidus behind a reverse solidus, a
 -- control character as `\u00` and two hexadecimal digits, and each other byte as it is.
-abbrev pub escaped : ℕ → List ℕ
-escaped c = cond (c == 34) (92 ∷ 34 ∷ []) (cond (c == 92) (92 ∷ 92 ∷ []) (cond (nat_lt c 32) (92 ∷ 117 ∷ 48 ∷ 48 ∷ hexadecimal (c / 16) ∷ hexadecimal (c % 16) ∷ []) (c ∷ [])))
+abbrev pub escape : ℕ → List ℕ
+escape c =
+    if c == 34 then 92 ∷ 34 ∷ []
+    else if c == 92 then 92 ∷ 92 ∷ []
+    else if nat_lt c 32 then 92 ∷ 117 ∷ 48 ∷ 48 ∷ hexadecimal (c / 16) ∷ hexadecimal (c % 16) ∷ []
+    else c ∷ []
 
 -- the string of these bytes
-abbrev pub quoted : List ℕ → List ℕ
-quoted s = 34 ∷ (flat_map escaped s ++ 34 ∷ [])
+abbrev pub string_text : List ℕ → List ℕ
+string_text s = 34 ∷ (flat_map escape s ++ 34 ∷ [])
 
 -- What a string says. The rules `unescaped` and `char` of section 7 are given byte by byte: bytes
 -- from 0x80 on, of which UTF-8 makes a character, stand as they are. A `\u` escape is given for the

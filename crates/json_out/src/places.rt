@@ -1,6 +1,6 @@
 ghost use Rattle.std.specs.Prelude.{◌≡◌, ◌∷◌, [], drop, IsTrue, OnOk, OnErr};
 ghost use Rattle.std.specs.List.{slice_get};
-ghost use Rattle.json_out.specs.Writer.{beginning, ending, filled as filled_in, is_open, named as named_in, separator, wants_name, wants_value};
+ghost use Rattle.json_out.specs.Writer.{beginning, ending, fill as fill_in, is_open, name_in, separator, wants_name, wants_value};
 
 use std::alloc::{AllocError, Global};
 use std::marker::Model;
@@ -130,7 +130,7 @@ impl Places {
 
     // A value stands in the innermost.
     pub(crate) fn fill(&mut self)
-        ensures { self.new ≡ filled_in self.old }
+        ensures { self.new ≡ fill_in self.old }
     {
         match self.innermost() {
             Some(Place::Array { .. }) => self.replace(Place::Array { filled: true }),
@@ -144,7 +144,7 @@ impl Places {
 
     // The next member of the innermost has its name.
     pub(crate) fn name(&mut self)
-        ensures { self.new ≡ named_in self.old }
+        ensures { self.new ≡ name_in self.old }
     {
         if let Some(Place::Object { filled, .. }) = self.innermost() {
             self.replace(Place::Object {

@@ -1,22 +1,41 @@
 ghost use Rattle.std.specs.Prelude.{◌≡◌, ◌<◌, ◌≤◌, ◌/◌, ◌%◌, ◌++◌, ◌∷◌, [], ℕ, List, length, take, OnOk, OnErr};
 ghost use Rattle.std.specs.List.{flat_map};
-ghost use Rattle.json_out.specs.Strings.{IsString, escaped, hexadecimal, quoted};
+ghost use Rattle.json_out.specs.Strings.{IsString, escape, hexadecimal, string_text};
 
 use rtb_num::Txt;
 use std::alloc::AllocError;
 
-// A hexadecimal digit, in lower case.
-fn hexadecimal(n: u8) -> u8
-    requires { n < 16 }
-    ensures { result ≡ hexadecimal n }
+/// Appends the string of these bytes; where memory is refused, its front may stay.
+pub fn push_string(out: &mut Txt, text: &[u8]) -> Result<(), AllocError>
+    ensures ok { OnOk result (out.new ≡ out.old ++ string_text text.now) }
+    ensures front { (more : List ℕ) × (out.new ≡ out.old ++ more) }
 {
-    if n < 10 { b'0' + n } else { b'a' + (n - 10) }
+    out.push(b'"')?;
+    push_escaped(out, text)?;
+    out.push(b'"')
+}
+
+// Appends the inside of a string; where memory is refused, its front may stay.
+fn push_escaped(out: &mut Txt, text: &[u8]) -> Result<(), AllocError>
+    ensures ok { OnOk result (out.new ≡ out.old ++ flat_map escape text.now) }
+    ensures front { (more : List ℕ) × (out.new ≡ out.old ++ more) }
+{
+    let mut rest = text;
+    loop {
+        let plain = plain_len(rest);
+        out.extend(&rest[..plain])?;
+        let Some((byte, behind)) = rest[plain..].split_first() else {
+            return Ok(());
+        };
+        push_byte(out, *byte)?;
+        rest = behind;
+    }
 }
 
 // How many bytes at the front stand in a string as they are.
 fn plain_len(text: &[u8]) -> usize
     ensures bound { result ≤ length text.now }
-    ensures plain { flat_map escaped (take result text.now) ≡ take result text.now }
+    ensures plain { flat_map escape (take result text.now) ≡ take result text.now }
 {
     for (i, byte) in text.iter().enumerate() {
         if *byte < b' ' || *byte == b'"' || *byte == b'\\' {
@@ -28,7 +47,7 @@ fn plain_len(text: &[u8]) -> usize
 
 // Appends one byte of a string.
 fn push_byte(out: &mut Txt, byte: u8) -> Result<(), AllocError>
-    ensures ok { OnOk result (out.new ≡ out.old ++ escaped byte) }
+    ensures ok { OnOk result (out.new ≡ out.old ++ escape byte) }
     ensures err { OnErr result (out.new ≡ out.old) }
 {
     match byte {
@@ -49,36 +68,17 @@ fn push_control(out: &mut Txt, byte: u8) -> Result<(), AllocError>
     out.extend(&[b'\\', b'u', b'0', b'0', high, low])
 }
 
-// Appends the inside of a string; where memory is refused, its front may stay.
-fn push_escaped(out: &mut Txt, text: &[u8]) -> Result<(), AllocError>
-    ensures ok { OnOk result (out.new ≡ out.old ++ flat_map escaped text.now) }
-    ensures front { (more : List ℕ) × (out.new ≡ out.old ++ more) }
+// A hexadecimal digit, in lower case.
+fn hexadecimal(n: u8) -> u8
+    requires { n < 16 }
+    ensures { result ≡ hexadecimal n }
 {
-    let mut rest = text;
-    loop {
-        let plain = plain_len(rest);
-        out.extend(&rest[..plain])?;
-        let Some((byte, behind)) = rest[plain..].split_first() else {
-            return Ok(());
-        };
-        push_byte(out, *byte)?;
-        rest = behind;
-    }
-}
-
-/// Appends the string of these bytes; where memory is refused, its front may stay.
-pub fn push_string(out: &mut Txt, text: &[u8]) -> Result<(), AllocError>
-    ensures ok { OnOk result (out.new ≡ out.old ++ quoted text.now) }
-    ensures front { (more : List ℕ) × (out.new ≡ out.old ++ more) }
-{
-    out.push(b'"')?;
-    push_escaped(out, text)?;
-    out.push(b'"')
+    if n < 10 { b'0' + n } else { b'a' + (n - 10) }
 }
 
 /// Appends a name and the colon behind it; where memory is refused, its front may stay.
 pub(crate) fn push_name(out: &mut Txt, name: &[u8]) -> Result<(), AllocError>
-    ensures ok { OnOk result (out.new ≡ out.old ++ quoted name.now ++ 58 ∷ []) }
+    ensures ok { OnOk result (out.new ≡ out.old ++ string_text name.now ++ 58 ∷ []) }
     ensures front { (more : List ℕ) × (out.new ≡ out.old ++ more) }
 {
     push_string(out, name)?;
@@ -89,6 +89,6 @@ pub(crate) fn push_name(out: &mut Txt, name: &[u8]) -> Result<(), AllocError>
 /// RFC 8259, section 7, that says the bytes that it was given, and a string says one thing. Bytes from
 /// 0x80 on stand for themselves, so what is written is a JSON string where the bytes are UTF-8.
 pub fn strings_read_back()
-    ensures back { (s : List ℕ) → IsString s (quoted s) }
+    ensures back { (s : List ℕ) → IsString s (string_text s) }
     ensures one { (s t bytes : List ℕ) → IsString s bytes → IsString t bytes → s ≡ t }
 {}

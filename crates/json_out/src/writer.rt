@@ -1,7 +1,7 @@
 ghost use Rattle.std.specs.Prelude.{◌≡◌, ◌++◌, ◌∷◌, [], ℕ, List, length, take, decimal, false, IsTrue, IfOk, OnOk, OnErr};
 ghost use Rattle.rtb_num.specs.Amounts.{micros_text, nanos_text};
-ghost use Rattle.json_out.specs.Strings.{quoted};
-ghost use Rattle.json_out.specs.Writer.{Written, begun, beginning, blank, can_end, ended, ending, filled, is_whole, put_name, put_value, separator, takes_name, takes_value};
+ghost use Rattle.json_out.specs.Strings.{string_text};
+ghost use Rattle.json_out.specs.Writer.{Written, begin, beginning, blank, can_end, end, ending, is_whole, put_name, put_value, separator, takes_name, takes_value};
 ghost use Rattle.json_out.specs.declared.places.Place.TheVariants.{Array, Object};
 
 use crate::places::{Place, Places};
@@ -75,7 +75,7 @@ impl Writer {
     /// Begins an object (section 4).
     pub fn obj(&mut self) -> Result<(), AllocError>
         requires { IsTrue (takes_value self.old) }
-        ensures ok { OnOk result (self.new ≡ begun self.old (Object false false)) }
+        ensures ok { OnOk result (self.new ≡ begin self.old (Object false false)) }
         ensures err { OnErr result (self.new ≡ self.old) }
     {
         self.begin(Place::Object {
@@ -87,7 +87,7 @@ impl Writer {
     /// Begins an array (section 5).
     pub fn arr(&mut self) -> Result<(), AllocError>
         requires { IsTrue (takes_value self.old) }
-        ensures ok { OnOk result (self.new ≡ begun self.old (Array false)) }
+        ensures ok { OnOk result (self.new ≡ begin self.old (Array false)) }
         ensures err { OnErr result (self.new ≡ self.old) }
     {
         self.begin(Place::Array { filled: false })
@@ -96,7 +96,7 @@ impl Writer {
     /// Ends the innermost array or object.
     pub fn end(&mut self) -> Result<(), AllocError>
         requires { IsTrue (can_end self.old) }
-        ensures ok { OnOk result (self.new ≡ ended self.old) }
+        ensures ok { OnOk result (self.new ≡ end self.old) }
         ensures err { OnErr result (self.new ≡ self.old) }
     {
         self.text.extend(self.places.ending())?;
@@ -122,7 +122,7 @@ impl Writer {
     /// are.
     pub fn text(&mut self, text: &[u8]) -> Result<(), AllocError>
         requires { IsTrue (takes_value self.old) }
-        ensures ok { OnOk result (self.new ≡ put_value self.old (quoted text.now)) }
+        ensures ok { OnOk result (self.new ≡ put_value self.old (string_text text.now)) }
         ensures err { OnErr result (self.new ≡ self.old) }
     {
         let before = self.separate()?;
@@ -182,7 +182,7 @@ impl Writer {
     }
 
     fn begin(&mut self, place: Place) -> Result<(), AllocError>
-        ensures ok { OnOk result (self.new ≡ begun self.old place) }
+        ensures ok { OnOk result (self.new ≡ begin self.old place) }
         ensures err { OnErr result (self.new ≡ self.old) }
     {
         let before = self.separate()?;

@@ -2,34 +2,34 @@
 use Rattle.std.proofs.Common.{◌≡◌, ℕ, ◌+◌, ◌-◌, ◌<◌, ◌≤◌, suc, zero, List, [], ◌∷◌, Bool, refl, sym, ◌∙◌, ap, subst, arith, length, map, Some, None, Option, option_map, slice_get}
 use Rattle.postings.specs.declared.entry.Entry.{Entry}
 use Rattle.postings.specs.Order.{entry_at}
-use Rattle.postings.specs.Packed.{AreMarked, id_of, is_marked, unpacked, unpacked_from}
+use Rattle.postings.specs.Packed.{AreMarked, id_of, is_marked, unpack, unpack_from}
 
-marked_from : (marks : List ℕ) (n : ℕ) (es : List Entry) → ((i : ℕ) → i < length es → is_marked marks (n + i) ≡ (entry_at es i).negated) → unpacked_from marks n (map id_of es) ≡ es
+marked_from : (marks : List ℕ) (n : ℕ) (es : List Entry) → ((i : ℕ) → i < length es → is_marked marks (n + i) ≡ (entry_at es i).negated) → unpack_from marks n (map id_of es) ≡ es
 marked_from marks n [] marked = refl
 marked_from marks n (e ∷ es) marked =
     let start : n ≡ n + 0 = omega arith in
     let here : is_marked marks n ≡ e.negated = ap (is_marked marks) start ∙ marked 0 (omega arith) in
-    let rest : unpacked_from marks (n + 1) (map id_of es) ≡ es = marked_from marks (n + 1) es (λ i h.
+    let rest : unpack_from marks (n + 1) (map id_of es) ≡ es = marked_from marks (n + 1) es (λ i h.
     let same : n + suc i ≡ n + 1 + i = omega arith in
     ap (is_marked marks) (sym same) ∙ marked (suc i) (omega arith)) in
-    ap (λ (b : Bool). record { id = e.id; negated = b } ∷ unpacked_from marks (n + 1) (map id_of es)) here ∙ ap (λ t. e ∷ t) rest
+    ap (λ (b : Bool). record { id = e.id; negated = b } ∷ unpack_from marks (n + 1) (map id_of es)) here ∙ ap (λ t. e ∷ t) rest
 
-pub unpacked_is : (marks : List ℕ) (es : List Entry) → AreMarked marks es → unpacked (map id_of es) marks ≡ es
+pub unpacked_is : (marks : List ℕ) (es : List Entry) → AreMarked marks es → unpack (map id_of es) marks ≡ es
 unpacked_is marks es marked = marked_from marks 0 es (λ i h. ap (is_marked marks) (omega arith) ∙ marked i h)
 
-length_from : (marks : List ℕ) (n : ℕ) (ids : List ℕ) → length (unpacked_from marks n ids) ≡ length ids
+length_from : (marks : List ℕ) (n : ℕ) (ids : List ℕ) → length (unpack_from marks n ids) ≡ length ids
 length_from marks n [] = refl
 length_from marks n (id ∷ ids) = ap suc (length_from marks (n + 1) ids)
 
-pub unpacked_length : (ids marks : List ℕ) → length (unpacked ids marks) ≡ length ids
+pub unpacked_length : (ids marks : List ℕ) → length (unpack ids marks) ≡ length ids
 unpacked_length ids marks = length_from marks 0 ids
 
-get_from : (marks : List ℕ) (n : ℕ) (ids : List ℕ) (i : ℕ) → slice_get (unpacked_from marks n ids) i ≡ option_map (λ (id : ℕ). record { id = id; negated = is_marked marks (n + i) }) (slice_get ids i)
+get_from : (marks : List ℕ) (n : ℕ) (ids : List ℕ) (i : ℕ) → slice_get (unpack_from marks n ids) i ≡ option_map (λ (id : ℕ). record { id = id; negated = is_marked marks (n + i) }) (slice_get ids i)
 get_from marks n [] i = refl
 get_from marks n (id ∷ ids) zero = ap (λ k. Some (record { id = id; negated = is_marked marks k })) (omega arith)
 get_from marks n (id ∷ ids) (suc i) =
     let same : n + 1 + i ≡ n + suc i = omega arith in
     get_from marks (n + 1) ids i ∙ ap (λ k. option_map (λ (id : ℕ). record { id = id; negated = is_marked marks k }) (slice_get ids i)) same
 
-pub unpacked_get : (ids marks : List ℕ) (i : ℕ) → slice_get (unpacked ids marks) i ≡ option_map (λ (id : ℕ). record { id = id; negated = is_marked marks i }) (slice_get ids i)
+pub unpacked_get : (ids marks : List ℕ) (i : ℕ) → slice_get (unpack ids marks) i ≡ option_map (λ (id : ℕ). record { id = id; negated = is_marked marks i }) (slice_get ids i)
 unpacked_get ids marks i = get_from marks 0 ids i ∙ ap (λ k. option_map (λ (id : ℕ). record { id = id; negated = is_marked marks k }) (slice_get ids i)) (omega arith)

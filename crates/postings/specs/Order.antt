@@ -1,13 +1,13 @@
 -- The order of the entries of a posting list (Whang et al. 2009, section 4: lists are sorted by the
 -- conjunction's number).
-use Rattle.std.specs.Prelude.{ℕ, ◌≡◌, ◌+◌, ◌-◌, ◌*◌, ◌<◌, List, cond, true, length, get_or}
+use Rattle.std.specs.Prelude.{ℕ, ◌≡◌, ◌+◌, ◌-◌, ◌*◌, ◌<◌, List, if◌then◌else◌, true, length, get_or}
 use Rattle.postings.specs.declared.entry.Entry.{Entry}
 use Rattle.postings.specs.declared.fault.BuildFault.{BuildFault}
 use Rattle.postings.specs.declared.fault.BuildFault.TheVariants.{NotSorted, Repeated, Memory}
 
 -- entries stand by number, and of one number the negated one stands first
 abbrev pub rank_of : Entry → ℕ
-rank_of e = 2 * e.id + cond e.negated 0 1
+rank_of e = 2 * e.id + (if e.negated then 0 else 1)
 
 -- the entry at the place, or the least entry past the end
 abbrev pub entry_at : List Entry → ℕ → Entry

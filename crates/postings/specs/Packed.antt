@@ -13,12 +13,12 @@ unfoldable pub is_marked : List ℕ → ℕ → Bool
 is_marked marks i = bit_at (slice_index marks (i / 64)) (i % 64) == 1
 
 -- the entries of these numbers, the first at place n
-abbrev pub unpacked_from : List ℕ → ℕ → List ℕ → List Entry
-unpacked_from marks n [] = []
-unpacked_from marks n (id ∷ ids) = record { id = id; negated = is_marked marks n } ∷ unpacked_from marks (n + 1) ids
+abbrev pub unpack_from : List ℕ → ℕ → List ℕ → List Entry
+unpack_from marks n [] = []
+unpack_from marks n (id ∷ ids) = record { id = id; negated = is_marked marks n } ∷ unpack_from marks (n + 1) ids
 
-abbrev pub unpacked : List ℕ → List ℕ → List Entry
-unpacked ids marks = unpacked_from marks 0 ids
+abbrev pub unpack : List ℕ → List ℕ → List Entry
+unpack ids marks = unpack_from marks 0 ids
 
 -- the bits are those of the entries
 abbrev pub AreMarked : List ℕ → List Entry → Type 0

@@ -36,13 +36,13 @@ impl Model for Postings {
     ghost use Rattle.std.specs.Prelude.{List, ◌≤◌, ◌*◌, length};
     ghost use Rattle.postings.specs.declared.entry.Entry.{Entry};
     ghost use Rattle.postings.specs.Order.{IsRising};
-    ghost use Rattle.postings.specs.Packed.{unpacked};
+    ghost use Rattle.postings.specs.Packed.{unpack};
 
     ghost Value = { List Entry };
 
-    ghost view = { λ p. unpacked p.ids.items p.marks.items };
+    ghost view = { λ p. unpack p.ids.items p.marks.items };
 
-    ghost invariant = { λ p. IsRising (unpacked p.ids.items p.marks.items) × (length p.ids.items ≤ 64 * length p.marks.items) };
+    ghost invariant = { λ p. IsRising (unpack p.ids.items p.marks.items) × (length p.ids.items ≤ 64 * length p.marks.items) };
 }
 
 impl Postings {
@@ -57,7 +57,7 @@ impl Postings {
     {
         match first_fault(entries.as_slice()) {
             Some(fault) => Err(fault),
-            None => packed(alloc, entries.as_slice()),
+            None => pack(alloc, entries.as_slice()),
         }
     }
 
@@ -88,7 +88,7 @@ impl Postings {
 }
 
 // The posting list of entries that rise.
-fn packed(alloc: Global, entries: &[Entry]) -> Result<Postings, BuildFault>
+fn pack(alloc: Global, entries: &[Entry]) -> Result<Postings, BuildFault>
     requires { IsRising entries.now }
     ensures value { IfOk result (λ p. p ≡ entries.now) }
     ensures fault { IfErr result (λ e. e ≡ memory) }

@@ -9,6 +9,7 @@ use target_expr::Expr;
 /// Answers a call of this area, or tells that it is none.
 ///
 /// - `read_campaign | CAMPAIGN`: of the JSON text, what it states, or the first fault.
+/// - `why_no_campaign | CAMPAIGN`: what is wrong with it, in words.
 /// - `make_facts | NAME=VALUE | ..`: `made`, or the fault, of facts whose other fields are right. A list's
 ///   items end with `;`, and `none` is no value. `attr` lists whole numbers.
 /// - `cap | COUNT | SECONDS`: the cap, or `none`.
@@ -18,10 +19,11 @@ use target_expr::Expr;
 pub fn answer(alloc: Global, call: &[u8], args: &[Txt], out: &mut Txt) -> Result<bool, AllocError> {
     match (call, args) {
         (b"read_campaign", [text]) => verdict(alloc, text, out)?,
-        (b"make_facts", said) => made(alloc, said, out)?,
+        (b"why_no_campaign", [text]) => put_why(alloc, text, out)?,
+        (b"make_facts", said) => make_facts(alloc, said, out)?,
         (b"cap", [count, seconds]) => put_cap(alloc, cap_of(count, seconds), out)?,
-        (b"encode_facts", [text]) => encoded(alloc, text, out)?,
-        (b"decode_facts", [bytes, place]) => decoded(alloc, bytes, place, out)?,
+        (b"encode_facts", [text]) => encode(alloc, text, out)?,
+        (b"decode_facts", [bytes, place]) => decode(alloc, bytes, place, out)?,
         (b"torn_fronts", [bytes]) => fronts(alloc, bytes, out)?,
         _ => return Ok(false),
     }
@@ -63,26 +65,43 @@ fn verdict(alloc: Global, text: &Txt, out: &mut Txt) -> Result<(), AllocError> {
     }
 }
 
+// Why the text is no campaign, in words.
+fn put_why(alloc: Global, text: &Txt, out: &mut Txt) -> Result<(), AllocError> {
+    match exact_json::read(alloc, text.as_bytes()) {
+        Ok(doc) => match read_campaign(alloc, &doc) {
+            Ok(_) => out.extend(b"it is one"),
+            Err(fault) => out.extend(format!(in alloc; "{fault}")?.as_bytes()),
+        },
+        Err(fault) => out.extend(format!(in alloc; "{fault}")?.as_bytes()),
+    }
+}
+
 fn put_fault(alloc: Global, fault: CampFault, out: &mut Txt) -> Result<(), AllocError> {
     match fault {
         CampFault::NotObject => out.extend(b"not-object"),
-        CampFault::Missing { field } => put(b"missing ", field, out),
-        CampFault::WrongType { field } => put(b"wrong-type ", field, out),
-        CampFault::Range { field } => put(b"range ", field, out),
+        CampFault::Missing { field } => put(alloc, b"missing ", field, out),
+        CampFault::WrongType { field } => put(alloc, b"wrong-type ", field, out),
+        CampFault::Range { field } => put(alloc, b"range ", field, out),
         CampFault::Price { field, fault } => {
-            put(b"price ", field, out)?;
+            put(alloc, b"price ", field, out)?;
             out.extend(price_words(fault))
         }
-        CampFault::Fact { fault } => put_fact(fault, out),
+        CampFault::Fact { fault } => put_fact(alloc, fault, out),
         CampFault::Target { fault } => put_expr_fault(alloc, fault, out),
         CampFault::Memory => Err(AllocError),
     }
 }
 
-// The words and the path of the field.
-fn put(words: &[u8], field: CampField, out: &mut Txt) -> Result<(), AllocError> {
-    out.extend(words)?;
-    field.write(out)
+// The words and the path of the field, and how the field is shown where that is something else.
+fn put(alloc: Global, words: &[u8], field: CampField, out: &mut Txt) -> Result<(), AllocError> {
+    let mut path = Txt::new(alloc);
+    field.write(&mut path)?;
+    out.extend_all(&[words, path.as_bytes()])?;
+    let shown = format!(in alloc; "{field}")?;
+    if shown.as_bytes() != path.as_bytes() {
+        out.extend_all(&[b", but ", shown.as_bytes()])?;
+    }
+    Ok(())
 }
 
 fn price_words(fault: PriceFault) -> &'static [u8] {
@@ -93,10 +112,10 @@ fn price_words(fault: PriceFault) -> &'static [u8] {
     }
 }
 
-fn put_fact(fault: FactFault, out: &mut Txt) -> Result<(), AllocError> {
+fn put_fact(alloc: Global, fault: FactFault, out: &mut Txt) -> Result<(), AllocError> {
     match fault {
-        FactFault::TextLength { field } => put(b"text-length ", field, out),
-        FactFault::ListLength { field } => put(b"list-length ", field, out),
+        FactFault::TextLength { field } => put(alloc, b"text-length ", field, out),
+        FactFault::ListLength { field } => put(alloc, b"list-length ", field, out),
         FactFault::BidZero => out.extend(b"bid-zero"),
         FactFault::Size => out.extend(b"size"),
     }
@@ -180,7 +199,7 @@ fn cap_of(count: &Txt, seconds: &Txt) -> Option<Cap> {
 
 // ---- facts by their fields
 
-fn made(alloc: Global, said: &[Txt], out: &mut Txt) -> Result<(), AllocError> {
+fn make_facts(alloc: Global, said: &[Txt], out: &mut Txt) -> Result<(), AllocError> {
     let (Some(bid), Some(budget)) = (Micros::new(2_500_000), Nanos::new(5_000_000_000)) else {
         return out.extend(b"unreadable");
     };
@@ -190,16 +209,16 @@ fn made(alloc: Global, said: &[Txt], out: &mut Txt) -> Result<(), AllocError> {
             return out.extend(b"unreadable");
         }
     }
-    put_made(parts, out)
+    put_facts_of(alloc, parts, out)
 }
 
-fn put_made(parts: FactParts, out: &mut Txt) -> Result<(), AllocError> {
+fn put_facts_of(alloc: Global, parts: FactParts, out: &mut Txt) -> Result<(), AllocError> {
     if parts.budget.get() % 1000 != 0 {
         return out.extend(b"unreadable");
     }
     match Facts::make(parts) {
         Ok(_) => out.extend(b"made"),
-        Err(fault) => put_fact(fault, out),
+        Err(fault) => put_fact(alloc, fault, out),
     }
 }
 
@@ -317,14 +336,14 @@ fn micros_in(text: &[u8]) -> Option<Micros> {
 
 // ---- bytes
 
-fn encoded(alloc: Global, text: &Txt, out: &mut Txt) -> Result<(), AllocError> {
+fn encode(alloc: Global, text: &Txt, out: &mut Txt) -> Result<(), AllocError> {
     match campaign_of(alloc, text)? {
         Some((facts, _)) => facts.copy()?.encode(out),
         None => out.extend(b"unreadable"),
     }
 }
 
-fn decoded(alloc: Global, bytes: &Txt, place: &Txt, out: &mut Txt) -> Result<(), AllocError> {
+fn decode(alloc: Global, bytes: &Txt, place: &Txt, out: &mut Txt) -> Result<(), AllocError> {
     let Some(place) = number_in(place.as_bytes()) else {
         return out.extend(b"unreadable");
     };

@@ -67,6 +67,14 @@ struct Run {
 }
 
 impl Run {
+    // The input, and what it is written to.
+    fn ends(self, alloc: Global, input: &Txt) -> Result<(MemSource, MemSink), AllocError> {
+        Ok((
+            MemSource::new(input.copy()?, self.reads),
+            MemSink::new(alloc, self.writes),
+        ))
+    }
+
     fn of_try(
         self,
         alloc: Global,
@@ -75,8 +83,7 @@ impl Run {
         out: &mut Txt,
     ) -> Result<(), AllocError> {
         let words = words_in(alloc, line)?;
-        let mut source = MemSource::new(input.copy()?, self.reads);
-        let mut sink = MemSink::new(alloc, self.writes);
+        let (mut source, mut sink) = self.ends(alloc, input)?;
         let status = try_run(alloc, words.as_slice(), &mut source, &mut sink);
         tell(status, sink.written(), out)
     }
@@ -89,8 +96,7 @@ impl Run {
         out: &mut Txt,
     ) -> Result<(), AllocError> {
         let words = words_in(alloc, line)?;
-        let mut source = MemSource::new(input.copy()?, self.reads);
-        let mut sink = MemSink::new(alloc, self.writes);
+        let (mut source, mut sink) = self.ends(alloc, input)?;
         let status = bench_run(alloc, words.as_slice(), &mut source, &mut sink);
         tell(status.code(), sink.written(), out)
     }

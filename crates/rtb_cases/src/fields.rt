@@ -9,12 +9,6 @@ use json_fields::{Bounds, Flaw, ListFlaw};
 use rtb_num::{List, Micros, PriceFault, Txt};
 use std::alloc::{AllocError, Global};
 
-// The bounds of the integers here.
-const DIGIT: Bounds = Bounds {
-    least: -2,
-    greatest: 7,
-};
-
 /// Answers a call of this area, or tells that it is none.
 ///
 /// - `field | KIND | NAME | OBJECT`: the member of that name as a field of the kind, `none` where it is
@@ -32,6 +26,12 @@ pub fn answer(alloc: Global, call: &[u8], args: &[Txt], out: &mut Txt) -> Result
         _ => Ok(false),
     }
 }
+
+// The bounds of the integers here.
+const DIGIT: Bounds = Bounds {
+    least: -2,
+    greatest: 7,
+};
 
 fn put_field(
     alloc: Global,
@@ -57,17 +57,20 @@ fn put_field(
     }
 }
 
-// The kinds that are no numbers.
-fn put_plain(kind: &[u8], object: &Value, name: &[u8], out: &mut Txt) -> Result<(), AllocError> {
-    match kind {
-        b"text" => put_text(fields::text(object, name), out),
-        b"required text" => put_required(fields::required_text(object, name), out),
-        b"short text" => put_required(fields::required_text_within(object, name, 3), out),
-        b"object" => put_object(fields::object(object, name), out),
-        b"array" => put_array(fields::array(object, name), out),
-        b"required array" => put_values(fields::required_array(object, name), out),
-        _ => out.extend(b"unreadable"),
+fn put_integer(
+    alloc: Global,
+    found: Result<Option<i32>, Flaw>,
+    out: &mut Txt,
+) -> Result<(), AllocError> {
+    match found {
+        Ok(Some(n)) => put_i32(alloc, n, out),
+        Ok(None) => out.extend(b"none"),
+        Err(flaw) => put_flaw(flaw, out),
     }
+}
+
+fn put_i32(alloc: Global, n: i32, out: &mut Txt) -> Result<(), AllocError> {
+    out.extend(format!(in alloc; "{n}")?.as_bytes())
 }
 
 fn put_flaw(flaw: Flaw, out: &mut Txt) -> Result<(), AllocError> {
@@ -79,81 +82,6 @@ fn put_flaw(flaw: Flaw, out: &mut Txt) -> Result<(), AllocError> {
         Flaw::Price(PriceFault::TooLarge) => b"too-large".as_slice(),
         Flaw::Price(PriceFault::TooFine) => b"too-fine".as_slice(),
     })
-}
-
-fn put_list_flaw(alloc: Global, flaw: ListFlaw, out: &mut Txt) -> Result<(), AllocError> {
-    match flaw {
-        ListFlaw::Whole(flaw) => put_flaw(flaw, out),
-        ListFlaw::Item(place, flaw) => {
-            out.extend(b"item ")?;
-            put_number(alloc, place as u64, out)?;
-            out.push(b' ')?;
-            put_flaw(flaw, out)
-        }
-        ListFlaw::Memory => Err(AllocError),
-    }
-}
-
-fn put_text(found: Result<Option<&Txt>, Flaw>, out: &mut Txt) -> Result<(), AllocError> {
-    match found {
-        Ok(Some(text)) => out.extend(text.as_bytes()),
-        Ok(None) => out.extend(b"none"),
-        Err(flaw) => put_flaw(flaw, out),
-    }
-}
-
-fn put_required(found: Result<&Txt, Flaw>, out: &mut Txt) -> Result<(), AllocError> {
-    match found {
-        Ok(text) => out.extend(text.as_bytes()),
-        Err(flaw) => put_flaw(flaw, out),
-    }
-}
-
-fn put_object(found: Result<Option<&Value>, Flaw>, out: &mut Txt) -> Result<(), AllocError> {
-    match found {
-        Ok(Some(value)) => put_tree(value, 64, out),
-        Ok(None) => out.extend(b"none"),
-        Err(flaw) => put_flaw(flaw, out),
-    }
-}
-
-fn put_array(found: Result<Option<&[Value]>, Flaw>, out: &mut Txt) -> Result<(), AllocError> {
-    match found {
-        Ok(Some(values)) => put_all(values, out),
-        Ok(None) => out.extend(b"none"),
-        Err(flaw) => put_flaw(flaw, out),
-    }
-}
-
-fn put_values(found: Result<&[Value], Flaw>, out: &mut Txt) -> Result<(), AllocError> {
-    match found {
-        Ok(values) => put_all(values, out),
-        Err(flaw) => put_flaw(flaw, out),
-    }
-}
-
-fn put_all(values: &[Value], out: &mut Txt) -> Result<(), AllocError> {
-    for (i, value) in values.iter().enumerate() {
-        put_comma(i, out)?;
-        put_tree(value, 64, out)?;
-    }
-    Ok(())
-}
-
-fn put_i32(alloc: Global, n: i32, out: &mut Txt) -> Result<(), AllocError> {
-    out.extend(format!(in alloc; "{n}")?.as_bytes())
-}
-
-fn put_integer(
-    alloc: Global,
-    found: Result<Option<i32>, Flaw>,
-    out: &mut Txt,
-) -> Result<(), AllocError> {
-    match found {
-        Ok(Some(n)) => put_i32(alloc, n, out),
-        Ok(None) => out.extend(b"none"),
-        Err(flaw) => put_flaw(flaw, out),
-    }
 }
 
 fn put_flag(found: Result<bool, Flaw>, out: &mut Txt) -> Result<(), AllocError> {
@@ -188,6 +116,19 @@ fn put_integers(
     }
 }
 
+fn put_list_flaw(alloc: Global, flaw: ListFlaw, out: &mut Txt) -> Result<(), AllocError> {
+    match flaw {
+        ListFlaw::Whole(flaw) => put_flaw(flaw, out),
+        ListFlaw::Item(place, flaw) => {
+            out.extend(b"item ")?;
+            put_number(alloc, place as u64, out)?;
+            out.push(b' ')?;
+            put_flaw(flaw, out)
+        }
+        ListFlaw::Memory => Err(AllocError),
+    }
+}
+
 fn put_texts(
     alloc: Global,
     found: Result<List<Txt>, ListFlaw>,
@@ -202,5 +143,64 @@ fn put_texts(
             Ok(())
         }
         Err(flaw) => put_list_flaw(alloc, flaw, out),
+    }
+}
+
+// The kinds that are no numbers.
+fn put_plain(kind: &[u8], object: &Value, name: &[u8], out: &mut Txt) -> Result<(), AllocError> {
+    match kind {
+        b"text" => put_text(fields::text(object, name), out),
+        b"required text" => put_required(fields::required_text(object, name), out),
+        b"short text" => put_required(fields::required_text_within(object, name, 3), out),
+        b"object" => put_object(fields::object(object, name), out),
+        b"array" => put_array(fields::array(object, name), out),
+        b"required array" => put_values(fields::required_array(object, name), out),
+        _ => out.extend(b"unreadable"),
+    }
+}
+
+fn put_text(found: Result<Option<&Txt>, Flaw>, out: &mut Txt) -> Result<(), AllocError> {
+    match found {
+        Ok(Some(text)) => out.extend(text.as_bytes()),
+        Ok(None) => out.extend(b"none"),
+        Err(flaw) => put_flaw(flaw, out),
+    }
+}
+
+fn put_required(found: Result<&Txt, Flaw>, out: &mut Txt) -> Result<(), AllocError> {
+    match found {
+        Ok(text) => out.extend(text.as_bytes()),
+        Err(flaw) => put_flaw(flaw, out),
+    }
+}
+
+fn put_object(found: Result<Option<&Value>, Flaw>, out: &mut Txt) -> Result<(), AllocError> {
+    match found {
+        Ok(Some(value)) => put_tree(value, 64, out),
+        Ok(None) => out.extend(b"none"),
+        Err(flaw) => put_flaw(flaw, out),
+    }
+}
+
+fn put_array(found: Result<Option<&[Value]>, Flaw>, out: &mut Txt) -> Result<(), AllocError> {
+    match found {
+        Ok(Some(values)) => put_all(values, out),
+        Ok(None) => out.extend(b"none"),
+        Err(flaw) => put_flaw(flaw, out),
+    }
+}
+
+fn put_all(values: &[Value], out: &mut Txt) -> Result<(), AllocError> {
+    for (i, value) in values.iter().enumerate() {
+        put_comma(i, out)?;
+        put_tree(value, 64, out)?;
+    }
+    Ok(())
+}
+
+fn put_values(found: Result<&[Value], Flaw>, out: &mut Txt) -> Result<(), AllocError> {
+    match found {
+        Ok(values) => put_all(values, out),
+        Err(flaw) => put_flaw(flaw, out),
     }
 }

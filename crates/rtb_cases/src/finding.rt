@@ -1,24 +1,22 @@
-//! Calls of `conj_index`: an index of campaigns, and what is found in it.
+//! Calls that count their steps: of `conj_index`, an index of campaigns and what is found in it, and those
+//! of `matching`.
 //!
-//! A predicate is written `os=iOS,Android`, with `!` for `=` where it is negated. `&` stands between
-//! predicates and `|` between conjunctions. The campaigns are numbered from 1, and an assignment is
-//! written `os=iOS&yob=1990`.
-ghost use Rattle.std.specs.Prelude.{◌≡◌, ◌≤◌, ◌<◌, ◌+◌, IsTrue, All, IfOk};
-ghost use Rattle.std.specs.List.{list_any};
-ghost use Rattle.target_expr.specs.Truth.{are_single, same_attr};
+//! A campaign is written as its expression, as `expressions` says, and the campaigns are numbered from 1.
+ghost use Rattle.std.specs.Prelude.{◌≡◌, ◌≤◌, ◌<◌, ◌+◌, All, IfOk};
 ghost use Rattle.conj_index.specs.Campaigns.{conjunctions_in};
 
-use crate::matching::put_numbers;
+use crate::expressions::{assignment_in, make_expr};
+use crate::matching::{answer_with, put_numbers};
 use crate::trees::put_number;
 use conj_index::{Builder, Index, IndexFault, Part, scan};
 use rtb_base::Steps;
-use rtb_num::{List, Txt};
+use rtb_num::Txt;
 use std::alloc::{AllocError, Global};
 use std::marker::Brand;
 use std::sync::ledger::{Blank, Ledger};
-use target_expr::{Assignment, Attr, Expr, ExprFault, RawPred, attr_named};
+use target_expr::{Expr, ExprFault};
 
-/// Answers a call of this area, or tells that it is none.
+/// Answers a call of this area or of `matching`, or tells that it is none.
 ///
 /// - `find | ASSIGNMENT | CAMPAIGN | .. | CAMPAIGN`: the numbers of the campaigns that the index of these
 ///   finds, or `none`, and `, but ` and what asking each gives where that is something else.
@@ -45,7 +43,7 @@ fn answer_by<L: Ledger>(
             find(alloc, assigned.as_bytes(), campaigns, &mut steps, out)?;
         }
         (b"index_build", campaigns) => build(alloc, campaigns, &mut steps, out)?,
-        _ => return Ok(false),
+        _ => return answer_with(alloc, call, args, &mut steps, out),
     }
     Ok(true)
 }
@@ -60,8 +58,8 @@ fn find<L: Ledger>(
     let Some(campaigns) = campaigns_in(alloc, texts)? else {
         return out.extend(b"unreadable");
     };
-    let assignment = assignment(alloc, assigned)?;
-    let index = built(alloc, &campaigns, steps)?;
+    let assignment = assignment_in(alloc, assigned)?;
+    let index = index_of(alloc, &campaigns, steps)?;
     let found = index.find(alloc, &assignment, steps)?;
     let asked = scan(alloc, &campaigns, &assignment, steps)?;
     put_numbers(alloc, found.as_slice(), out)?;
@@ -72,31 +70,37 @@ fn find<L: Ledger>(
     Ok(())
 }
 
-// An index and a part have the fields that are named here, and no others.
-fn build<L: Ledger>(
-    alloc: Global,
-    texts: &[Txt],
-    steps: &mut Steps<L>,
-    out: &mut Txt,
-) -> Result<(), AllocError> {
-    let Some(campaigns) = campaigns_in(alloc, texts)? else {
-        return out.extend(b"unreadable");
-    };
-    let Index { owners, parts } = built(alloc, &campaigns, steps)?;
-    put_numbers(alloc, owners.as_slice(), out)?;
-    for part in parts.into_vec() {
-        put_part(alloc, part, out)?;
+// The campaigns of these expressions, or none where one is none.
+fn campaigns_in(alloc: Global, texts: &[Txt]) -> Result<Option<Vec<(u32, Expr)>>, AllocError> {
+    let mut all = Vec::new(alloc);
+    let mut number: u32 = 0;
+    for text in texts {
+        number = number.saturating_add(1);
+        match make_expr(alloc, text.as_bytes())? {
+            Ok(expr) => all.push((number, expr))?,
+            Err(ExprFault::Memory) => return Err(AllocError),
+            Err(_) => return Ok(None),
+        }
     }
-    Ok(())
+    Ok(Some(all))
 }
 
-fn put_part(alloc: Global, part: Part, out: &mut Txt) -> Result<(), AllocError> {
-    let Part { keys, lists } = part;
-    out.extend(b", ")?;
-    put_number(alloc, keys.len() as u64, out)?;
-    out.extend(b" keys ")?;
-    put_number(alloc, lists.len() as u64, out)?;
-    out.extend(b" lists")
+fn index_of<L: Ledger>(
+    alloc: Global,
+    campaigns: &[(u32, Expr)],
+    steps: &mut Steps<L>,
+) -> Result<Index, AllocError> {
+    let mut builder = Builder::new(alloc);
+    let mut last = 0;
+    let mut count = 0;
+    for (number, expr) in campaigns {
+        count = add_above(&mut builder, last, count, *number, expr, steps)?;
+        last = *number;
+    }
+    match Index::build(alloc, builder, steps) {
+        Ok(index) => Ok(index),
+        Err(IndexFault::Memory) => Err(AllocError),
+    }
 }
 
 // Adds a campaign, where its number is above the last and there is room, and gives how many conjunctions
@@ -122,110 +126,29 @@ fn add_above<L: Ledger>(
     Ok(total)
 }
 
-fn built<L: Ledger>(
+// An index and a part have the fields that are named here, and no others.
+fn build<L: Ledger>(
     alloc: Global,
-    campaigns: &[(u32, Expr)],
+    texts: &[Txt],
     steps: &mut Steps<L>,
-) -> Result<Index, AllocError> {
-    let mut builder = Builder::new(alloc);
-    let mut last = 0;
-    let mut count = 0;
-    for (number, expr) in campaigns {
-        count = add_above(&mut builder, last, count, *number, expr, steps)?;
-        last = *number;
-    }
-    match Index::build(alloc, builder, steps) {
-        Ok(index) => Ok(index),
-        Err(IndexFault::Memory) => Err(AllocError),
-    }
-}
-
-// The campaigns of these expressions, or none where one is none.
-fn campaigns_in(alloc: Global, texts: &[Txt]) -> Result<Option<Vec<(u32, Expr)>>, AllocError> {
-    let mut all = Vec::new(alloc);
-    let mut number: u32 = 0;
-    for text in texts {
-        number = number.saturating_add(1);
-        match Expr::make(alloc, &raw_expr(alloc, text.as_bytes())?) {
-            Ok(expr) => all.push((number, expr))?,
-            Err(ExprFault::Memory) => return Err(AllocError),
-            Err(_) => return Ok(None),
-        }
-    }
-    Ok(Some(all))
-}
-
-fn assignment(alloc: Global, written: &[u8]) -> Result<Assignment, AllocError> {
-    let mut pairs = List::new(alloc);
-    for pred in raw_conjunction(alloc, written)?.into_vec() {
-        add(alloc, &mut pairs, pred)?;
-    }
-    Ok(Assignment::make(pairs))
-}
-
-// Whether the attribute has a value already.
-fn is_there(pairs: &[(Attr, Txt)], attr: Attr) -> bool
-    ensures { result ≡ list_any (λ q. same_attr q.0 attr) pairs.now }
-{
-    pairs.iter().any(|pair| pair.0.number() == attr.number())
-}
-
-// Adds a pair, where its attribute has no value yet.
-fn add(alloc: Global, pairs: &mut List<(Attr, Txt)>, pred: RawPred) -> Result<(), AllocError>
-    requires { IsTrue (are_single pairs.old) }
-    ensures { IsTrue (are_single pairs.new) }
-{
-    let Some(attr) = attr_named(pred.attr.as_bytes()) else {
-        return Ok(());
+    out: &mut Txt,
+) -> Result<(), AllocError> {
+    let Some(campaigns) = campaigns_in(alloc, texts)? else {
+        return out.extend(b"unreadable");
     };
-    let Some(value) = pred.values.get(0) else {
-        return Ok(());
-    };
-    if is_there(pairs.as_slice(), attr) {
-        return Ok(());
+    let Index { owners, parts } = index_of(alloc, &campaigns, steps)?;
+    put_numbers(alloc, owners.as_slice(), out)?;
+    for part in parts.into_vec() {
+        put_part(alloc, part, out)?;
     }
-    let value = Txt::from_slice(alloc, value.as_bytes())?;
-    pairs.push((attr, value))?;
     Ok(())
 }
 
-fn values_of(alloc: Global, written: &[u8]) -> Result<List<Txt>, AllocError> {
-    let mut values = List::new(alloc);
-    for value in written.split(|byte| *byte == b',') {
-        values.push(Txt::from_slice(alloc, value)?)?;
-    }
-    Ok(values)
-}
-
-fn raw_pred(alloc: Global, written: &[u8]) -> Result<RawPred, AllocError> {
-    let mark = written
-        .iter()
-        .position(|byte| *byte == b'=' || *byte == b'!');
-    match mark {
-        Some(mark) => Ok(RawPred {
-            attr: Txt::from_slice(alloc, &written[..mark])?,
-            negated: written[mark] == b'!',
-            values: values_of(alloc, &written[mark + 1..])?,
-        }),
-        None => Err(AllocError),
-    }
-}
-
-fn raw_conjunction(alloc: Global, written: &[u8]) -> Result<List<RawPred>, AllocError> {
-    let mut preds = List::new(alloc);
-    if written.is_empty() {
-        return Ok(preds);
-    }
-    for pred in written.split(|byte| *byte == b'&') {
-        preds.push(raw_pred(alloc, pred)?)?;
-    }
-    Ok(preds)
-}
-
-fn raw_expr(alloc: Global, written: &[u8]) -> Result<List<List<RawPred>>, AllocError> {
-    let mut raw = List::new(alloc);
-    for conjunction in written.split(|byte| *byte == b'|') {
-        raw.push(raw_conjunction(alloc, conjunction)?)?;
-    }
-    Ok(raw)
+fn put_part(alloc: Global, part: Part, out: &mut Txt) -> Result<(), AllocError> {
+    let Part { keys, lists } = part;
+    out.extend(b", ")?;
+    put_number(alloc, keys.len() as u64, out)?;
+    out.extend(b" keys ")?;
+    put_number(alloc, lists.len() as u64, out)?;
+    out.extend(b" lists")
 }

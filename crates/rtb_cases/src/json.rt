@@ -1,4 +1,5 @@
 //! Calls of `exact_json`, `json_out` and `json_fields`: texts, their values, and their fields.
+use crate::texts::number_in;
 use crate::trees::{put_number, put_tree};
 use exact_json::{JsonFault, Value, get, read};
 use json_out::Writer;
@@ -143,9 +144,4 @@ fn write_amount(writer: &mut Writer, call: &[u8]) -> Result<Written, AllocError>
         _ => return Ok(Written::Unreadable),
     }
     Ok(Written::Done)
-}
-
-// A whole number of 64 bits.
-fn number_in(word: &[u8]) -> Option<u64> {
-    str::from_utf8(word).ok()?.parse::<u64>().ok()
 }

@@ -7,6 +7,7 @@
 mod bytes;
 mod campaigns;
 mod commands;
+mod expressions;
 mod fields;
 mod finding;
 mod json;
@@ -63,9 +64,6 @@ impl Areas for Exchange {
             return Ok(true);
         }
         if campaigns::answer(alloc, call, args, out)? {
-            return Ok(true);
-        }
-        if matching::answer(alloc, call, args, out)? {
             return Ok(true);
         }
         if finding::answer(alloc, call, args, out)? {

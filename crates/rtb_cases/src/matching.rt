@@ -9,8 +9,7 @@ use postings::{BuildFault, Entry, Postings};
 use rtb_base::Steps;
 use rtb_num::Txt;
 use std::alloc::{AllocError, Global};
-use std::marker::Brand;
-use std::sync::ledger::{Blank, Ledger};
+use std::sync::ledger::Ledger;
 
 /// Answers a call of this area, or tells that it is none.
 ///
@@ -20,36 +19,20 @@ use std::sync::ledger::{Blank, Ledger};
 ///   after each step, which is `next`, or a number to skip to.
 /// - `match_lists | K | PLACES | LIST | .. | LIST`: the numbers of the conjunctions that match over the
 ///   lists at these places, counted from 0, or `none`.
-pub fn answer(alloc: Global, call: &[u8], args: &[Txt], out: &mut Txt) -> Result<bool, AllocError> {
-    answer_by::<Brand>(alloc, call, args, out, Blank::new(1))
-}
-
-fn answer_by<L: Ledger>(
+pub fn answer_with<L: Ledger>(
     alloc: Global,
     call: &[u8],
     args: &[Txt],
+    steps: &mut Steps<L>,
     out: &mut Txt,
-    blank: Blank,
-) -> Result<bool, AllocError>
-    requires name { blank.name ≡ L.name }
-    requires parts { blank.parts ≡ L.parts }
-    requires some { 0 < blank.parts }
-{
-    let mut steps = Steps::<L>::new(blank);
+) -> Result<bool, AllocError> {
     match (call, args) {
-        (b"build_postings", [list]) => build(alloc, list.as_bytes(), &mut steps, out)?,
+        (b"build_postings", [list]) => build(alloc, list.as_bytes(), steps, out)?,
         (b"cursor", [list, moves]) => {
-            walk(alloc, list.as_bytes(), moves.as_bytes(), &mut steps, out)?;
+            walk(alloc, list.as_bytes(), moves.as_bytes(), steps, out)?;
         }
         (b"match_lists", [k, places, lists @ ..]) => {
-            find_matches(
-                alloc,
-                k.as_bytes(),
-                places.as_bytes(),
-                lists,
-                &mut steps,
-                out,
-            )?;
+            find_matches(alloc, k.as_bytes(), places.as_bytes(), lists, steps, out)?;
         }
         _ => return Ok(false),
     }

@@ -1,4 +1,5 @@
 //! Calls of `rtb_num`: numbers and amounts.
+use crate::texts::number_in;
 use rtb_num::{
     Micros, Nanos, PriceFault, Txt, exact_micros, floor_micros, is_decimal, is_number, is_whole,
     whole, write_micros, write_nanos,
@@ -26,51 +27,12 @@ pub fn answer(alloc: Global, call: &[u8], args: &[Txt], out: &mut Txt) -> Result
     Ok(true)
 }
 
-// The calls that take a number of JSON.
-fn of_number(alloc: Global, call: &[u8], text: &[u8], out: &mut Txt) -> Result<bool, AllocError> {
-    if !is_number(text) {
-        return Ok(false);
-    }
-    match call {
-        b"is_whole" => say(out, is_whole(text))?,
-        b"floor_micros" => amount(alloc, floor_micros(text), out)?,
-        b"exact_micros" => amount(alloc, exact_micros(text), out)?,
-        b"whole" => match whole(text) {
-            Some(n) => out.extend(format!(in alloc; "{n}")?.as_bytes())?,
-            None => out.extend(b"none")?,
-        },
-        _ => return Ok(false),
-    }
-    Ok(true)
-}
-
 fn say(out: &mut Txt, yes: bool) -> Result<(), AllocError> {
     out.extend(if yes {
         b"yes".as_slice()
     } else {
         b"no".as_slice()
     })
-}
-
-fn amount(
-    alloc: Global,
-    amount: Result<Micros, PriceFault>,
-    out: &mut Txt,
-) -> Result<(), AllocError> {
-    match amount {
-        Ok(m) => {
-            let n = m.get();
-            out.extend(format!(in alloc; "{n}")?.as_bytes())
-        }
-        Err(PriceFault::Negative) => out.extend(b"negative"),
-        Err(PriceFault::TooLarge) => out.extend(b"too-large"),
-        Err(PriceFault::TooFine) => out.extend(b"too-fine"),
-    }
-}
-
-// A whole number of 64 bits.
-fn number_in(text: &[u8]) -> Option<u64> {
-    str::from_utf8(text).ok()?.parse::<u64>().ok()
 }
 
 fn micros_text(text: &[u8], out: &mut Txt) -> Result<(), AllocError> {
@@ -90,5 +52,39 @@ fn nanos_text(text: &[u8], out: &mut Txt) -> Result<(), AllocError> {
             None => out.extend(b"too-large"),
         },
         None => out.extend(b"unreadable"),
+    }
+}
+
+// The calls that take a number of JSON.
+fn of_number(alloc: Global, call: &[u8], text: &[u8], out: &mut Txt) -> Result<bool, AllocError> {
+    if !is_number(text) {
+        return Ok(false);
+    }
+    match call {
+        b"is_whole" => say(out, is_whole(text))?,
+        b"floor_micros" => amount(alloc, floor_micros(text), out)?,
+        b"exact_micros" => amount(alloc, exact_micros(text), out)?,
+        b"whole" => match whole(text) {
+            Some(n) => out.extend(format!(in alloc; "{n}")?.as_bytes())?,
+            None => out.extend(b"none")?,
+        },
+        _ => return Ok(false),
+    }
+    Ok(true)
+}
+
+fn amount(
+    alloc: Global,
+    amount: Result<Micros, PriceFault>,
+    out: &mut Txt,
+) -> Result<(), AllocError> {
+    match amount {
+        Ok(m) => {
+            let n = m.get();
+            out.extend(format!(in alloc; "{n}")?.as_bytes())
+        }
+        Err(PriceFault::Negative) => out.extend(b"negative"),
+        Err(PriceFault::TooLarge) => out.extend(b"too-large"),
+        Err(PriceFault::TooFine) => out.extend(b"too-fine"),
     }
 }

@@ -13,6 +13,7 @@ use std::alloc::{AllocError, Global};
 ///   whose they are: `request`, `imp` (the only one), `banner` (of that one), `pmp`, or `deal` (the second).
 /// - `request | TEXT`: the fields of the request that are there, as `id=b1 at=2 imp{id=1 ..}`, with
 ///   amounts in micro-dollars.
+/// - `why_no_request | TEXT`: what is wrong with it, in words.
 pub fn answer(alloc: Global, call: &[u8], args: &[Txt], out: &mut Txt) -> Result<bool, AllocError> {
     match (call, args) {
         (b"read_request", [text]) => judge(alloc, text.as_bytes(), out)?,
@@ -20,6 +21,7 @@ pub fn answer(alloc: Global, call: &[u8], args: &[Txt], out: &mut Txt) -> Result
             judge_in(alloc, place.as_bytes(), members.as_bytes(), out)?
         }
         (b"request", [text]) => show(alloc, text.as_bytes(), out)?,
+        (b"why_no_request", [text]) => put_why(alloc, text.as_bytes(), out)?,
         _ => return Ok(false),
     }
     Ok(true)
@@ -35,18 +37,57 @@ fn judge(alloc: Global, text: &[u8], out: &mut Txt) -> Result<(), AllocError> {
     }
 }
 
-// What stands before the members, and behind them.
-fn frame(place: &[u8]) -> Option<(&'static [u8], &'static [u8])> {
-    match place {
-        b"request" => Some((br#"{"id":"1","imp":[{"id":"1"}],"#, b"}")),
-        b"imp" => Some((br#"{"id":"1","imp":[{"id":"1","#, b"}]}")),
-        b"banner" => Some((br#"{"id":"1","imp":[{"id":"1","banner":{"#, b"}}]}")),
-        b"pmp" => Some((br#"{"id":"1","imp":[{"id":"1","pmp":{"#, b"}}]}")),
-        b"deal" => Some((
-            br#"{"id":"1","imp":[{"id":"1","pmp":{"deals":[{"id":"d"},{"id":"e","#,
-            b"}]}}]}",
-        )),
-        _ => None,
+fn put_fault(alloc: Global, fault: ReqFault, out: &mut Txt) -> Result<(), AllocError> {
+    match fault {
+        ReqFault::NotObject => out.extend(b"not-object"),
+        ReqFault::Missing { field } => put_field(alloc, b"missing ", field, out),
+        ReqFault::WrongType { field } => put_field(alloc, b"type ", field, out),
+        ReqFault::Range { field } => put_field(alloc, b"range ", field, out),
+        ReqFault::Price { field, fault } => put_field(alloc, price_word(fault), field, out),
+        ReqFault::AuctionType { field } => put_field(alloc, b"auction-type ", field, out),
+        ReqFault::NoImps => out.extend(b"no-imps"),
+        ReqFault::TooManyImps { count } => put_count(alloc, b"too-many ", count, out),
+        ReqFault::DuplicateImp { first, second } => {
+            put_count(alloc, b"duplicate ", first, out)?;
+            put_count(alloc, b" ", second, out)
+        }
+        ReqFault::Memory => Err(AllocError),
+    }
+}
+
+// A word and the path of the field, and how the field is shown where that is something else.
+fn put_field(alloc: Global, word: &[u8], field: Field, out: &mut Txt) -> Result<(), AllocError> {
+    let mut path = Txt::new(alloc);
+    field.write(&mut path)?;
+    out.extend_all(&[word, path.as_bytes()])?;
+    let shown = format!(in alloc; "{field}")?;
+    if shown.as_bytes() != path.as_bytes() {
+        out.extend_all(&[b", but ", shown.as_bytes()])?;
+    }
+    Ok(())
+}
+
+fn price_word(fault: PriceFault) -> &'static [u8] {
+    match fault {
+        PriceFault::Negative => b"negative ",
+        PriceFault::TooLarge => b"too-large ",
+        PriceFault::TooFine => b"too-fine ",
+    }
+}
+
+fn put_count(alloc: Global, word: &[u8], count: usize, out: &mut Txt) -> Result<(), AllocError> {
+    out.extend(word)?;
+    put_number(alloc, count as u64, out)
+}
+
+// Why the text is no request, in words.
+fn put_why(alloc: Global, text: &[u8], out: &mut Txt) -> Result<(), AllocError> {
+    match read(alloc, text) {
+        Ok(doc) => match read_request(alloc, &doc) {
+            Ok(_) => out.extend(b"it is one"),
+            Err(fault) => out.extend(format!(in alloc; "{fault}")?.as_bytes()),
+        },
+        Err(fault) => out.extend(format!(in alloc; "{fault}")?.as_bytes()),
     }
 }
 
@@ -60,41 +101,19 @@ fn judge_in(alloc: Global, place: &[u8], members: &[u8], out: &mut Txt) -> Resul
     judge(alloc, text.as_bytes(), out)
 }
 
-fn put_fault(alloc: Global, fault: ReqFault, out: &mut Txt) -> Result<(), AllocError> {
-    match fault {
-        ReqFault::NotObject => out.extend(b"not-object"),
-        ReqFault::Missing { field } => put_field(b"missing ", field, out),
-        ReqFault::WrongType { field } => put_field(b"type ", field, out),
-        ReqFault::Range { field } => put_field(b"range ", field, out),
-        ReqFault::Price { field, fault } => put_field(price_word(fault), field, out),
-        ReqFault::AuctionType { field } => put_field(b"auction-type ", field, out),
-        ReqFault::NoImps => out.extend(b"no-imps"),
-        ReqFault::TooManyImps { count } => put_count(alloc, b"too-many ", count, out),
-        ReqFault::DuplicateImp { first, second } => {
-            put_count(alloc, b"duplicate ", first, out)?;
-            put_count(alloc, b" ", second, out)
-        }
-        ReqFault::Memory => Err(AllocError),
+// What stands before the members, and behind them.
+fn frame(place: &[u8]) -> Option<(&'static [u8], &'static [u8])> {
+    match place {
+        b"request" => Some((br#"{"id":"1","imp":[{"id":"1"}],"#, b"}")),
+        b"imp" => Some((br#"{"id":"1","imp":[{"id":"1","#, b"}]}")),
+        b"banner" => Some((br#"{"id":"1","imp":[{"id":"1","banner":{"#, b"}}]}")),
+        b"pmp" => Some((br#"{"id":"1","imp":[{"id":"1","pmp":{"#, b"}}]}")),
+        b"deal" => Some((
+            br#"{"id":"1","imp":[{"id":"1","pmp":{"deals":[{"id":"d"},{"id":"e","#,
+            b"}]}}]}",
+        )),
+        _ => None,
     }
-}
-
-fn price_word(fault: PriceFault) -> &'static [u8] {
-    match fault {
-        PriceFault::Negative => b"negative ",
-        PriceFault::TooLarge => b"too-large ",
-        PriceFault::TooFine => b"too-fine ",
-    }
-}
-
-// A word and the path of the field.
-fn put_field(word: &[u8], field: Field, out: &mut Txt) -> Result<(), AllocError> {
-    out.extend(word)?;
-    field.write(out)
-}
-
-fn put_count(alloc: Global, word: &[u8], count: usize, out: &mut Txt) -> Result<(), AllocError> {
-    out.extend(word)?;
-    put_number(alloc, count as u64, out)
 }
 
 // ---- the fields of a request
@@ -126,6 +145,30 @@ fn put_request(alloc: Global, request: &BidRequest, out: &mut Txt) -> Result<(),
     Ok(())
 }
 
+fn put_amount(alloc: Global, word: &[u8], n: u64, out: &mut Txt) -> Result<(), AllocError> {
+    out.extend(word)?;
+    put_number(alloc, n, out)
+}
+
+fn put_flag(word: &[u8], flag: bool, out: &mut Txt) -> Result<(), AllocError> {
+    if flag {
+        return out.extend(word);
+    }
+    Ok(())
+}
+
+// A list that has a text, each behind the first behind a comma.
+fn put_texts(word: &[u8], texts: &List<Txt>, out: &mut Txt) -> Result<(), AllocError> {
+    if !texts.is_empty() {
+        out.extend(word)?;
+    }
+    for (i, text) in texts.as_slice().iter().enumerate() {
+        put_comma(i, out)?;
+        out.extend(text.as_bytes())?;
+    }
+    Ok(())
+}
+
 fn put_context(alloc: Global, request: &BidRequest, out: &mut Txt) -> Result<(), AllocError> {
     if let Some(site) = &request.site {
         put_site(site, out)?;
@@ -148,6 +191,14 @@ fn put_site(site: &Site, out: &mut Txt) -> Result<(), AllocError> {
     put_text(b" domain=", &site.domain, out)?;
     put_text(b" publisher=", &site.publisher, out)?;
     out.extend(b" }")
+}
+
+fn put_text(word: &[u8], text: &Option<Txt>, out: &mut Txt) -> Result<(), AllocError> {
+    if let Some(text) = text {
+        out.extend(word)?;
+        out.extend(text.as_bytes())?;
+    }
+    Ok(())
 }
 
 fn put_app(app: &App, out: &mut Txt) -> Result<(), AllocError> {
@@ -182,6 +233,19 @@ fn put_geo(geo: &Geo, out: &mut Txt) -> Result<(), AllocError> {
     put_text(b" city=", &geo.city, out)?;
     put_text(b" zip=", &geo.zip, out)?;
     out.extend(b" }")
+}
+
+fn put_integer(
+    alloc: Global,
+    word: &[u8],
+    n: Option<i32>,
+    out: &mut Txt,
+) -> Result<(), AllocError> {
+    if let Some(n) = n {
+        out.extend(word)?;
+        out.extend(format!(in alloc; "{n}")?.as_bytes())?;
+    }
+    Ok(())
 }
 
 fn put_user(alloc: Global, user: &User, out: &mut Txt) -> Result<(), AllocError> {
@@ -238,49 +302,4 @@ fn put_deal(alloc: Global, deal: &Deal, out: &mut Txt) -> Result<(), AllocError>
     put_texts(b" wseat=", &deal.wseat, out)?;
     put_texts(b" wadomain=", &deal.wadomain, out)?;
     out.extend(b" }")
-}
-
-fn put_flag(word: &[u8], flag: bool, out: &mut Txt) -> Result<(), AllocError> {
-    if flag {
-        return out.extend(word);
-    }
-    Ok(())
-}
-
-fn put_amount(alloc: Global, word: &[u8], n: u64, out: &mut Txt) -> Result<(), AllocError> {
-    out.extend(word)?;
-    put_number(alloc, n, out)
-}
-
-fn put_integer(
-    alloc: Global,
-    word: &[u8],
-    n: Option<i32>,
-    out: &mut Txt,
-) -> Result<(), AllocError> {
-    if let Some(n) = n {
-        out.extend(word)?;
-        out.extend(format!(in alloc; "{n}")?.as_bytes())?;
-    }
-    Ok(())
-}
-
-fn put_text(word: &[u8], text: &Option<Txt>, out: &mut Txt) -> Result<(), AllocError> {
-    if let Some(text) = text {
-        out.extend(word)?;
-        out.extend(text.as_bytes())?;
-    }
-    Ok(())
-}
-
-// A list that has a text, each behind the first behind a comma.
-fn put_texts(word: &[u8], texts: &List<Txt>, out: &mut Txt) -> Result<(), AllocError> {
-    if !texts.is_empty() {
-        out.extend(word)?;
-    }
-    for (i, text) in texts.as_slice().iter().enumerate() {
-        put_comma(i, out)?;
-        out.extend(text.as_bytes())?;
-    }
-    Ok(())
 }

@@ -3,6 +3,7 @@ ghost use Rattle.std.specs.Prelude.{◌≡◌};
 ghost use Rattle.std.specs.List.{list_all};
 ghost use Rattle.clearing.specs.Clearing.{is_fit};
 
+use crate::texts::number_in;
 use crate::trees::put_number;
 use clearing::{Offer, PriceKind, Terms, clear};
 use rtb_num::{Micros, Txt};
@@ -106,9 +107,4 @@ fn terms_in(text: &[u8]) -> Option<Terms> {
     };
     let floor = Micros::new(number_in(words.next()?)?)?;
     Some(Terms { floor, kind })
-}
-
-// A whole number of 64 bits.
-fn number_in(word: &[u8]) -> Option<u64> {
-    str::from_utf8(word).ok()?.parse::<u64>().ok()
 }

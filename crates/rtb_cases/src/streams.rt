@@ -1,4 +1,5 @@
 //! Sources and sinks of `rtb_num`.
+use crate::texts::numbers_in;
 use rtb_num::{
     Failed, List, MemSink, MemSource, Sink, Source, StdSink, StdSource, Txt, write_decimal,
 };
@@ -73,19 +74,4 @@ fn write_pieces<K: Sink>(sink: &mut K, line: &[u8], out: &mut Txt) -> Result<(),
         out.push(b' ')?;
     }
     Ok(())
-}
-
-// The numbers of a line; what is no number is passed over.
-fn numbers_in(alloc: Global, line: &[u8]) -> Result<List<u64>, AllocError> {
-    let mut numbers = List::new(alloc);
-    for word in line.split(|c| *c == b' ') {
-        if let Some(number) = number_in(word) {
-            numbers.push(number)?;
-        }
-    }
-    Ok(numbers)
-}
-
-fn number_in(word: &[u8]) -> Option<u64> {
-    str::from_utf8(word).ok()?.parse::<u64>().ok()
 }

@@ -1,14 +1,11 @@
 //! Calls of `target_expr` and `assign`: expressions, their truth and their bytes, and what a request
 //! assigns.
 //!
-//! An expression is written `os=iOS,Android&gender!F|pos`: `&` stands between predicates and `|` between
-//! conjunctions, `!` for `=` where a predicate is negated, and a name alone lists no value. `-` has no
-//! conjunction. An assignment is written `os=iOS&yob=1990`.
-ghost use Rattle.std.specs.Prelude.{◌≡◌, ◌<◌, IsTrue};
-ghost use Rattle.std.specs.List.{list_any};
-ghost use Rattle.target_expr.specs.Truth.{are_single, same_attr};
+//! `expressions` says how expressions and assignments are written.
+ghost use Rattle.std.specs.Prelude.{◌≡◌, ◌<◌};
 
 use crate::campaigns::{campaign_of, number_in};
+use crate::expressions::{assignment_in, make_expr};
 use assign::assignment;
 use rtb_base::Steps;
 use rtb_num::{List, Txt};
@@ -17,7 +14,7 @@ use rtb_types::BidRequest;
 use std::alloc::{AllocError, Global};
 use std::marker::Brand;
 use std::sync::ledger::{Blank, Ledger};
-use target_expr::{Assignment, Attr, Expr, ExprBytes, ExprFault, Pair, RawPred, attr_named};
+use target_expr::{Assignment, Attr, Expr, ExprBytes, ExprFault, Pair, attr_named};
 
 /// Answers a call of this area, or tells that it is none.
 ///
@@ -34,52 +31,16 @@ use target_expr::{Assignment, Attr, Expr, ExprBytes, ExprFault, Pair, RawPred, a
 pub fn answer(alloc: Global, call: &[u8], args: &[Txt], out: &mut Txt) -> Result<bool, AllocError> {
     match (call, args) {
         (b"attr_named", [name]) => put_attr(alloc, attr_named(name.as_bytes()), out)?,
-        (b"attr_with_number", [n]) => put_attr(alloc, numbered(n), out)?,
-        (b"holds", [written, given]) => held(alloc, written, given, out)?,
-        (b"decode_expr", [bytes, place]) => decoded(alloc, bytes, place, out)?,
-        (b"assign", [request, imp]) => assigned(alloc, request, imp, out)?,
+        (b"attr_with_number", [n]) => put_attr(alloc, attr_numbered(n), out)?,
+        (b"holds", [written, given]) => put_holds(alloc, written, given, out)?,
+        (b"decode_expr", [bytes, place]) => decode(alloc, bytes, place, out)?,
+        (b"assign", [request, imp]) => put_assignment(alloc, request, imp, out)?,
         (b"request_holds", [campaign, request, imp]) => {
-            held_by(alloc, campaign, (request, imp), out)?
+            put_request_holds(alloc, campaign, (request, imp), out)?
         }
         _ => return of_one(alloc, call, args, out),
     }
     Ok(true)
-}
-
-// The calls that take an expression alone.
-fn of_one(alloc: Global, call: &[u8], args: &[Txt], out: &mut Txt) -> Result<bool, AllocError> {
-    match args {
-        [written] => of_expr(alloc, call, written, out),
-        _ => Ok(false),
-    }
-}
-
-// The calls that take an expression alone.
-fn of_expr(alloc: Global, call: &[u8], written: &Txt, out: &mut Txt) -> Result<bool, AllocError> {
-    match call {
-        b"make_expr" | b"expr_size" | b"expr_pairs" | b"encode_expr" => {}
-        _ => return Ok(false),
-    }
-    match made(alloc, written.as_bytes())? {
-        Ok(expr) => put_of_expr(alloc, call, &expr, out)?,
-        Err(fault) => put_expr_fault(alloc, fault, out)?,
-    }
-    Ok(true)
-}
-
-fn put_of_expr(alloc: Global, call: &[u8], expr: &Expr, out: &mut Txt) -> Result<(), AllocError> {
-    match call {
-        b"make_expr" => put_expr(expr, out),
-        b"expr_size" => put_size(alloc, expr, out),
-        b"expr_pairs" => put_pairs(alloc, expr, out),
-        _ => expr.copy()?.encode(out),
-    }
-}
-
-// ---- attributes
-
-fn numbered(n: &Txt) -> Option<Attr> {
-    Attr::with_number(u8::try_from(number_in(n.as_bytes())?).ok()?)
 }
 
 fn put_attr(alloc: Global, attr: Option<Attr>, out: &mut Txt) -> Result<(), AllocError> {
@@ -93,82 +54,60 @@ fn put_attr(alloc: Global, attr: Option<Attr>, out: &mut Txt) -> Result<(), Allo
     }
 }
 
-// ---- expressions as they are written
-
-fn values_of(alloc: Global, written: &[u8]) -> Result<List<Txt>, AllocError> {
-    let mut values = List::new(alloc);
-    for value in written.split(|byte| *byte == b',') {
-        values.push(Txt::from_slice(alloc, value)?)?;
-    }
-    Ok(values)
+fn attr_numbered(n: &Txt) -> Option<Attr> {
+    Attr::with_number(u8::try_from(number_in(n.as_bytes())?).ok()?)
 }
 
-fn raw_pred(alloc: Global, written: &[u8]) -> Result<RawPred, AllocError> {
-    let mark = written
-        .iter()
-        .position(|byte| *byte == b'=' || *byte == b'!');
-    match mark {
-        Some(mark) => Ok(RawPred {
-            attr: Txt::from_slice(alloc, &written[..mark])?,
-            negated: written[mark] == b'!',
-            values: values_of(alloc, &written[mark + 1..])?,
-        }),
-        None => Ok(RawPred {
-            attr: Txt::from_slice(alloc, written)?,
-            negated: false,
-            values: List::new(alloc),
-        }),
+fn put_holds(alloc: Global, written: &Txt, given: &Txt, out: &mut Txt) -> Result<(), AllocError> {
+    match make_expr(alloc, written.as_bytes())? {
+        Ok(expr) => put_truth(&expr, &assignment_in(alloc, given.as_bytes())?, out),
+        Err(fault) => put_expr_fault(alloc, fault, out),
     }
 }
 
-fn raw_conjunction(alloc: Global, written: &[u8]) -> Result<List<RawPred>, AllocError> {
-    let mut preds = List::new(alloc);
-    if written.is_empty() {
-        return Ok(preds);
+fn put_truth(expr: &Expr, assignment: &Assignment, out: &mut Txt) -> Result<(), AllocError> {
+    if holds_by::<Brand>(expr, assignment, Blank::new(1)) {
+        out.extend(b"yes")
+    } else {
+        out.extend(b"no")
     }
-    for pred in written.split(|byte| *byte == b'&') {
-        preds.push(raw_pred(alloc, pred)?)?;
-    }
-    Ok(preds)
 }
 
-fn made(alloc: Global, written: &[u8]) -> Result<Result<Expr, ExprFault>, AllocError> {
-    let mut raw = List::new(alloc);
-    if written != b"-".as_slice() {
-        for conjunction in written.split(|byte| *byte == b'|') {
-            raw.push(raw_conjunction(alloc, conjunction)?)?;
-        }
-    }
-    Ok(Expr::make(alloc, &raw))
+fn holds_by<L: Ledger>(expr: &Expr, assignment: &Assignment, blank: Blank) -> bool
+    requires name { blank.name ≡ L.name }
+    requires parts { blank.parts ≡ L.parts }
+    requires some { 0 < blank.parts }
+{
+    let mut steps = Steps::<L>::new(blank);
+    expr.holds(assignment, &mut steps)
 }
 
-/// The fault in words, with the places of its conjunction and its predicate.
-pub fn put_expr_fault(alloc: Global, fault: ExprFault, out: &mut Txt) -> Result<(), AllocError> {
-    let (words, conjunction, predicate) = match fault {
-        ExprFault::NoConjunction => return out.extend(b"no-conjunction"),
-        ExprFault::Memory => return Err(AllocError),
-        ExprFault::EmptyList {
-            conjunction,
-            predicate,
-        } => (b"empty-list".as_slice(), conjunction, predicate),
-        ExprFault::AttrTwice {
-            conjunction,
-            predicate,
-        } => (b"attr-twice".as_slice(), conjunction, predicate),
-        ExprFault::TooMany {
-            conjunction,
-            predicate,
-        } => (b"too-many".as_slice(), conjunction, predicate),
-        ExprFault::UnknownAttr {
-            conjunction,
-            predicate,
-        } => (b"unknown-attr".as_slice(), conjunction, predicate),
+fn pairs(expr: &Expr) -> Result<List<Pair>, AllocError> {
+    pairs_by::<Brand>(expr, Blank::new(1))
+}
+
+fn pairs_by<L: Ledger>(expr: &Expr, blank: Blank) -> Result<List<Pair>, AllocError>
+    requires name { blank.name ≡ L.name }
+    requires parts { blank.parts ≡ L.parts }
+    requires some { 0 < blank.parts }
+{
+    let mut steps = Steps::<L>::new(blank);
+    expr.pairs(&mut steps)
+}
+
+fn decode(alloc: Global, bytes: &Txt, place: &Txt, out: &mut Txt) -> Result<(), AllocError> {
+    let Some(place) = number_in(place.as_bytes()) else {
+        return out.extend(b"unreadable");
     };
-    out.extend(words)?;
-    out.extend(format!(in alloc; " {conjunction} {predicate}")?.as_bytes())
+    match Expr::decode(alloc, bytes.as_bytes(), place) {
+        Ok((expr, next)) => {
+            out.extend(format!(in alloc; "{next} ")?.as_bytes())?;
+            put_expr(&expr, out)
+        }
+        Err(ExprBytes::Torn { at }) => out.extend(format!(in alloc; "torn {at}")?.as_bytes()),
+        Err(ExprBytes::Memory) => Err(AllocError),
+    }
 }
-
-// ---- expressions as they are kept
 
 // The pairs, in the notation of expressions.
 fn put_expr(expr: &Expr, out: &mut Txt) -> Result<(), AllocError> {
@@ -207,6 +146,92 @@ fn put_pair(before: Option<&Pair>, pair: &Pair, out: &mut Txt) -> Result<(), All
     out.extend(pair.value.as_bytes())
 }
 
+fn put_assignment(alloc: Global, text: &Txt, imp: &Txt, out: &mut Txt) -> Result<(), AllocError> {
+    let Some(assignment) = assignment_of(alloc, text, imp)? else {
+        return out.extend(b"unreadable");
+    };
+    for pair in assignment.pairs() {
+        out.extend(pair.0.name())?;
+        out.push(b'=')?;
+        out.extend(pair.1.as_bytes())?;
+        out.push(b';')?;
+    }
+    Ok(())
+}
+
+// What the impression assigns, where there is such an impression.
+fn assignment_of(alloc: Global, text: &Txt, imp: &Txt) -> Result<Option<Assignment>, AllocError> {
+    match request_of(alloc, text, imp)? {
+        Some((request, imp)) if imp < request.imps.len() => {
+            Ok(Some(assignment(alloc, &request, imp)?))
+        }
+        _ => Ok(None),
+    }
+}
+
+// The request of a JSON text, and the place of one of its impressions.
+fn request_of(
+    alloc: Global,
+    text: &Txt,
+    imp: &Txt,
+) -> Result<Option<(BidRequest, usize)>, AllocError> {
+    let Some(imp) = number_in(imp.as_bytes()) else {
+        return Ok(None);
+    };
+    let Ok(doc) = exact_json::read(alloc, text.as_bytes()) else {
+        return Ok(None);
+    };
+    match read_request(alloc, &doc) {
+        Ok(request) => Ok(Some((request, imp))),
+        Err(_) => Ok(None),
+    }
+}
+
+fn put_request_holds(
+    alloc: Global,
+    campaign: &Txt,
+    asked: (&Txt, &Txt),
+    out: &mut Txt,
+) -> Result<(), AllocError> {
+    let Some((_, target)) = campaign_of(alloc, campaign)? else {
+        return out.extend(b"unreadable");
+    };
+    match assignment_of(alloc, asked.0, asked.1)? {
+        Some(assignment) => put_truth(&target, &assignment, out),
+        None => out.extend(b"unreadable"),
+    }
+}
+
+// The calls that take an expression alone.
+fn of_one(alloc: Global, call: &[u8], args: &[Txt], out: &mut Txt) -> Result<bool, AllocError> {
+    match args {
+        [written] => of_expr(alloc, call, written, out),
+        _ => Ok(false),
+    }
+}
+
+// The calls that take an expression alone.
+fn of_expr(alloc: Global, call: &[u8], written: &Txt, out: &mut Txt) -> Result<bool, AllocError> {
+    match call {
+        b"make_expr" | b"expr_size" | b"expr_pairs" | b"encode_expr" => {}
+        _ => return Ok(false),
+    }
+    match make_expr(alloc, written.as_bytes())? {
+        Ok(expr) => put_of_expr(alloc, call, &expr, out)?,
+        Err(fault) => put_expr_fault(alloc, fault, out)?,
+    }
+    Ok(true)
+}
+
+fn put_of_expr(alloc: Global, call: &[u8], expr: &Expr, out: &mut Txt) -> Result<(), AllocError> {
+    match call {
+        b"make_expr" => put_expr(expr, out),
+        b"expr_size" => put_size(alloc, expr, out),
+        b"expr_pairs" => put_pairs(alloc, expr, out),
+        _ => expr.copy()?.encode(out),
+    }
+}
+
 fn put_size(alloc: Global, expr: &Expr, out: &mut Txt) -> Result<(), AllocError> {
     let conjunctions = expr.conjunctions();
     let values = expr.values();
@@ -232,147 +257,28 @@ fn put_pairs(alloc: Global, expr: &Expr, out: &mut Txt) -> Result<(), AllocError
     Ok(())
 }
 
-fn decoded(alloc: Global, bytes: &Txt, place: &Txt, out: &mut Txt) -> Result<(), AllocError> {
-    let Some(place) = number_in(place.as_bytes()) else {
-        return out.extend(b"unreadable");
+/// The fault in words, with the places of its conjunction and its predicate.
+pub fn put_expr_fault(alloc: Global, fault: ExprFault, out: &mut Txt) -> Result<(), AllocError> {
+    let (words, conjunction, predicate) = match fault {
+        ExprFault::NoConjunction => return out.extend(b"no-conjunction"),
+        ExprFault::Memory => return Err(AllocError),
+        ExprFault::EmptyList {
+            conjunction,
+            predicate,
+        } => (b"empty-list".as_slice(), conjunction, predicate),
+        ExprFault::AttrTwice {
+            conjunction,
+            predicate,
+        } => (b"attr-twice".as_slice(), conjunction, predicate),
+        ExprFault::TooMany {
+            conjunction,
+            predicate,
+        } => (b"too-many".as_slice(), conjunction, predicate),
+        ExprFault::UnknownAttr {
+            conjunction,
+            predicate,
+        } => (b"unknown-attr".as_slice(), conjunction, predicate),
     };
-    match Expr::decode(alloc, bytes.as_bytes(), place) {
-        Ok((expr, next)) => {
-            out.extend(format!(in alloc; "{next} ")?.as_bytes())?;
-            put_expr(&expr, out)
-        }
-        Err(ExprBytes::Torn { at }) => out.extend(format!(in alloc; "torn {at}")?.as_bytes()),
-        Err(ExprBytes::Memory) => Err(AllocError),
-    }
-}
-
-// ---- truth
-
-// Whether the attribute has a value already.
-fn is_there(pairs: &[(Attr, Txt)], attr: Attr) -> bool
-    ensures { result ≡ list_any (λ q. same_attr q.0 attr) pairs.now }
-{
-    pairs.iter().any(|pair| pair.0.number() == attr.number())
-}
-
-// Adds a pair, where its attribute has no value yet.
-fn add(alloc: Global, pairs: &mut List<(Attr, Txt)>, pred: RawPred) -> Result<(), AllocError>
-    requires { IsTrue (are_single pairs.old) }
-    ensures { IsTrue (are_single pairs.new) }
-{
-    let Some(attr) = attr_named(pred.attr.as_bytes()) else {
-        return Ok(());
-    };
-    let Some(value) = pred.values.get(0) else {
-        return Ok(());
-    };
-    if is_there(pairs.as_slice(), attr) {
-        return Ok(());
-    }
-    let value = value.copy()?;
-    pairs.push((attr, value))?;
-    Ok(())
-}
-
-fn given_by(alloc: Global, written: &[u8]) -> Result<Assignment, AllocError> {
-    let mut pairs = List::new(alloc);
-    for pair in written.split(|byte| *byte == b'&') {
-        add(alloc, &mut pairs, raw_pred(alloc, pair)?)?;
-    }
-    Ok(Assignment::make(pairs))
-}
-
-fn holds_counted<L: Ledger>(expr: &Expr, assignment: &Assignment, blank: Blank) -> bool
-    requires name { blank.name ≡ L.name }
-    requires parts { blank.parts ≡ L.parts }
-    requires some { 0 < blank.parts }
-{
-    let mut steps = Steps::<L>::new(blank);
-    expr.holds(assignment, &mut steps)
-}
-
-fn put_truth(expr: &Expr, assignment: &Assignment, out: &mut Txt) -> Result<(), AllocError> {
-    if holds_counted::<Brand>(expr, assignment, Blank::new(1)) {
-        out.extend(b"yes")
-    } else {
-        out.extend(b"no")
-    }
-}
-
-fn held(alloc: Global, written: &Txt, given: &Txt, out: &mut Txt) -> Result<(), AllocError> {
-    match made(alloc, written.as_bytes())? {
-        Ok(expr) => put_truth(&expr, &given_by(alloc, given.as_bytes())?, out),
-        Err(fault) => put_expr_fault(alloc, fault, out),
-    }
-}
-
-fn pairs_counted<L: Ledger>(expr: &Expr, blank: Blank) -> Result<List<Pair>, AllocError>
-    requires name { blank.name ≡ L.name }
-    requires parts { blank.parts ≡ L.parts }
-    requires some { 0 < blank.parts }
-{
-    let mut steps = Steps::<L>::new(blank);
-    expr.pairs(&mut steps)
-}
-
-fn pairs(expr: &Expr) -> Result<List<Pair>, AllocError> {
-    pairs_counted::<Brand>(expr, Blank::new(1))
-}
-
-// ---- requests
-
-// The request of a JSON text, and the place of one of its impressions.
-fn request_of(
-    alloc: Global,
-    text: &Txt,
-    imp: &Txt,
-) -> Result<Option<(BidRequest, usize)>, AllocError> {
-    let Some(imp) = number_in(imp.as_bytes()) else {
-        return Ok(None);
-    };
-    let Ok(doc) = exact_json::read(alloc, text.as_bytes()) else {
-        return Ok(None);
-    };
-    match read_request(alloc, &doc) {
-        Ok(request) => Ok(Some((request, imp))),
-        Err(_) => Ok(None),
-    }
-}
-
-// What the impression assigns, where there is such an impression.
-fn assigned_by(alloc: Global, text: &Txt, imp: &Txt) -> Result<Option<Assignment>, AllocError> {
-    match request_of(alloc, text, imp)? {
-        Some((request, imp)) if imp < request.imps.len() => {
-            Ok(Some(assignment(alloc, &request, imp)?))
-        }
-        _ => Ok(None),
-    }
-}
-
-fn assigned(alloc: Global, text: &Txt, imp: &Txt, out: &mut Txt) -> Result<(), AllocError> {
-    let Some(assignment) = assigned_by(alloc, text, imp)? else {
-        return out.extend(b"unreadable");
-    };
-    for pair in assignment.pairs() {
-        out.extend(pair.0.name())?;
-        out.push(b'=')?;
-        out.extend(pair.1.as_bytes())?;
-        out.push(b';')?;
-    }
-    Ok(())
-}
-
-fn held_by(
-    alloc: Global,
-    campaign: &Txt,
-    asked: (&Txt, &Txt),
-    out: &mut Txt,
-) -> Result<(), AllocError> {
-    let Some((_, target)) = campaign_of(alloc, campaign)? else {
-        return out.extend(b"unreadable");
-    };
-    match assigned_by(alloc, asked.0, asked.1)? {
-        Some(assignment) => put_truth(&target, &assignment, out),
-        None => out.extend(b"unreadable"),
-    }
+    out.extend(words)?;
+    out.extend(format!(in alloc; " {conjunction} {predicate}")?.as_bytes())
 }

@@ -78,14 +78,14 @@ fn of_list(
     two: &[u8],
     out: &mut Txt,
 ) -> Result<bool, AllocError> {
-    let mut list = list_in(alloc, one)?;
+    let mut list = numbers_in(alloc, one)?;
     match call {
         b"list" => tell(list.get(place_in(two)).copied(), out)?,
         b"list_front" => {
             list.truncate(place_in(two));
             tell_list(&list, out)?;
         }
-        b"list_equal" => out.extend(if list == list_in(alloc, two)? {
+        b"list_equal" => out.extend(if list == numbers_in(alloc, two)? {
             b"yes".as_slice()
         } else {
             b"no".as_slice()
@@ -112,7 +112,7 @@ fn of_three(
             tell_text(&text, b"", out)?;
         }
         b"list_set" => {
-            let mut list = list_in(alloc, one.as_bytes())?;
+            let mut list = numbers_in(alloc, one.as_bytes())?;
             if set(&mut list, place_in(two), three) {
                 tell_list(&list, out)?;
             } else {
@@ -219,8 +219,8 @@ fn tell_spare_text(
     out.extend(b" more fits")
 }
 
-// The numbers of a list; what is no number is passed over.
-fn list_in(alloc: Global, line: &[u8]) -> Result<List<u64>, AllocError> {
+/// The numbers of a list; what is no number is passed over.
+pub fn numbers_in(alloc: Global, line: &[u8]) -> Result<List<u64>, AllocError> {
     let mut numbers = List::new(alloc);
     for word in line.split(|c| *c == b' ') {
         if let Some(number) = number_in(word) {
@@ -230,7 +230,8 @@ fn list_in(alloc: Global, line: &[u8]) -> Result<List<u64>, AllocError> {
     Ok(numbers)
 }
 
-fn number_in(word: &[u8]) -> Option<u64> {
+/// A whole number of 64 bits.
+pub fn number_in(word: &[u8]) -> Option<u64> {
     str::from_utf8(word).ok()?.parse::<u64>().ok()
 }
 

@@ -12,13 +12,14 @@ mod status;
 use rtb_num::{Failed, Sink, Source, Txt};
 pub use status::Status;
 use std::alloc::{AllocError, Global};
+use thiserror::Error;
 
 /// Why an input was not read.
-#[derive(Clone, Copy, Debug, PartialEq, Eq)]
+#[derive(Clone, Copy, Debug, PartialEq, Eq, Error)]
 pub enum ReadFault {
-    /// The source failed.
+    #[error("the source failed")]
     Failed,
-    /// Memory was refused.
+    #[error("memory ran out")]
     Memory,
 }
 

@@ -10,13 +10,13 @@ use Rattle.rtb_num.specs.Amounts.{is_decimal, is_digit, is_point, digits_of, pla
 use Rattle.rtb_num.specs.Numbers.{Number, number_in, is_number, is_minus, has_minus, without_minus, is_exponent_mark, decimal_part, exponent_part, up_by, down_by, is_exponent}
 use Rattle.rtb_num.proofs.Points.{whole_digits, fraction_digits, none_before, none_after}
 
-digit_no_mark : (c : ℕ) → is_digit c ≡ true → is_exponent_mark c ≡ false
+pub digit_no_mark : (c : ℕ) → is_digit c ≡ true → is_exponent_mark c ≡ false
 digit_no_mark c h = grind (arith, nat_tests)
 
-point_no_mark : (c : ℕ) → is_point c ≡ true → is_exponent_mark c ≡ false
+pub point_no_mark : (c : ℕ) → is_point c ≡ true → is_exponent_mark c ≡ false
 point_no_mark c h = grind (arith, nat_tests)
 
-digit_no_minus : (c : ℕ) → is_digit c ≡ true → is_minus c ≡ false
+pub digit_no_minus : (c : ℕ) → is_digit c ≡ true → is_minus c ≡ false
 digit_no_minus c h = grind (arith, nat_tests)
 
 point_no_minus : (c : ℕ) → is_point c ≡ true → is_minus c ≡ false

@@ -1,6 +1,7 @@
 pub mod Fractions
 pub mod Moved
 pub mod Pieces
+pub mod Plain
 pub mod Points
 pub mod Written
 pub mod Numbers

@@ -8,8 +8,8 @@ use Rattle.std.proofs.lemmas.Bool.Decides.{nat_tests}
 use Rattle.std.proofs.lemmas.Nat.{div-add-mod', mod_below, same_from_place}
 use Rattle.std.proofs.Math.Nat.{mul-le-mul_right, mul-lt-mul_of_pos_right, mul-pos, zero-mul}
 use Rattle.rtb_num.specs.Amounts.{number_of}
-use Rattle.rtb_num.specs.Numbers.{Number, IsWithinMillionths, IsMillionths, IsWhole, IsInteger, is_below_zero}
-use Rattle.rtb_num.specs.Parts.{units_of, is_finer, with_sign}
+use Rattle.rtb_num.specs.Numbers.{Number, IsWithinMillionths, IsMillionths, IsWhole, IsInteger, is_below_zero, with_sign}
+use Rattle.rtb_num.specs.Parts.{units_of, is_finer}
 use Rattle.rtb_num.proofs.Numbers.{pow_ten_pos}
 
 -- one more where something finer is left
@@ -135,7 +135,7 @@ below_pos n b w =
     positive : (k : ℕ) → not (k == 0) ≡ true → 0 < k
     positive k e = grind (arith, nat_tests)
 
-with_sign_is : (n : Number) (u : ℕ) (b : Bool) → IsWhole n u → b ≡ is_below_zero n → IsInteger n (with_sign b u)
+pub with_sign_is : (n : Number) (u : ℕ) (b : Bool) → IsWhole n u → b ≡ is_below_zero n → IsInteger n (with_sign b u)
 with_sign_is n u false w e = (sym e, w)
 with_sign_is n zero true w e = absurd (below_pos n (sym e) w)
 with_sign_is n (suc m) true w e = let next : m + 1 ≡ suc m = omega arith in (sym e, ap (λ k. k * 10 ^ n.down) next ∙ w)

@@ -19,7 +19,7 @@ use Rattle.rtb_num.specs.Amounts.{is_decimal, is_digit, is_point, is_whole_part,
 is_code : (d : ℕ) → d < 10 → is_digit (48 + d) ≡ true
 is_code d h = grind (arith, nat_tests)
 
-digit_no_point : (c : ℕ) → is_digit c ≡ true → is_point c ≡ false
+pub digit_no_point : (c : ℕ) → is_digit c ≡ true → is_point c ≡ false
 digit_no_point c h = grind (arith, nat_tests)
 
 codes_digits : (ds : List ℕ) → AllBelowBase 10 ds → list_all is_digit (map (λ d. 48 + d) ds) ≡ true

@@ -1,5 +1,5 @@
 -- What a decimal text is worth, and how an amount is written.
-use Rattle.std.specs.Prelude.{ℕ, zero, suc, ◌+◌, ◌-◌, ◌*◌, ◌/◌, ◌%◌, ◌^◌, ◌==◌, ◌&&◌, ◌||◌, nat_le, not, List, [], ◌∷◌, ◌++◌, length, Bool, false, cond, decimal}
+use Rattle.std.specs.Prelude.{ℕ, zero, suc, ◌+◌, ◌-◌, ◌*◌, ◌/◌, ◌%◌, ◌^◌, ◌==◌, ◌&&◌, ◌||◌, nat_le, not, List, [], ◌∷◌, ◌++◌, length, Bool, false, if◌then◌else◌, decimal}
 use Rattle.std.specs.List.{list_all, list_any, before_first, after_first}
 
 abbrev pub is_digit : ℕ → Bool
@@ -34,11 +34,11 @@ places_of text = length (after_first is_point text)
 -- the digits of r / 10 ^ k behind the point, up to the last that is not 0
 unfoldable pub fraction_digits : ℕ → ℕ → List ℕ
 fraction_digits zero r = []
-fraction_digits (suc k) r = cond (r == 0) [] ((48 + r / 10 ^ k) ∷ fraction_digits k (r % 10 ^ k))
+fraction_digits (suc k) r = if r == 0 then [] else (48 + r / 10 ^ k) ∷ fraction_digits k (r % 10 ^ k)
 
 -- n / 10 ^ k as a number of RFC 8259: the whole part, and behind a point what is left, if anything is
 abbrev pub amount_text : ℕ → ℕ → List ℕ
-amount_text k n = decimal (n / 10 ^ k) ++ cond (n % 10 ^ k == 0) [] (46 ∷ fraction_digits k (n % 10 ^ k))
+amount_text k n = decimal (n / 10 ^ k) ++ (if n % 10 ^ k == 0 then [] else 46 ∷ fraction_digits k (n % 10 ^ k))
 
 -- the price in US dollars, and the amount of money in US dollars
 abbrev pub micros_text : ℕ → List ℕ

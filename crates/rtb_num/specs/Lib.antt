@@ -6,4 +6,5 @@ pub mod Lends
 pub mod Memory
 pub mod Numbers
 pub mod Parts
+pub mod Paths
 pub mod Spare

@@ -1,5 +1,5 @@
 -- The numbers of RFC 8259, section 6, and what they are worth.
-use Rattle.std.specs.Prelude.{ℕ, ◌+◌, ◌*◌, ◌^◌, ◌≤◌, ◌==◌, ◌&&◌, ◌||◌, ◌≡◌, not, List, [], ◌∷◌, length, Bool, true, false, cond, ℤ, pos, negsuc}
+use Rattle.std.specs.Prelude.{ℕ, ◌+◌, ◌*◌, ◌^◌, ◌≤◌, ◌==◌, ◌&&◌, ◌||◌, ◌≡◌, not, List, [], ◌∷◌, length, Bool, true, false, if◌then◌else◌, ℤ, pos, negsuc, neg_ℤ}
 use Rattle.std.specs.List.{list_all, list_any, before_first, after_first}
 use Rattle.rtb_num.specs.Amounts.{is_digit, is_decimal, number_of, digits_of, places_of}
 
@@ -18,11 +18,11 @@ has_minus (c ∷ s) = is_minus c
 
 abbrev pub without_minus : List ℕ → List ℕ
 without_minus [] = []
-without_minus (c ∷ s) = cond (is_minus c) s (c ∷ s)
+without_minus (c ∷ s) = if is_minus c then s else c ∷ s
 
 abbrev pub without_sign : List ℕ → List ℕ
 without_sign [] = []
-without_sign (c ∷ s) = cond (c == 43 || is_minus c) s (c ∷ s)
+without_sign (c ∷ s) = if c == 43 || is_minus c then s else c ∷ s
 
 -- int [ frac ]
 abbrev pub decimal_part : List ℕ → List ℕ
@@ -52,10 +52,10 @@ pub record Number : Type 0 where
 
 -- The exponent counts up, or down where it has a minus.
 abbrev pub up_by : List ℕ → ℕ
-up_by part = cond (has_minus part) 0 (number_of (without_sign part))
+up_by part = if has_minus part then 0 else number_of (without_sign part)
 
 abbrev pub down_by : List ℕ → ℕ
-down_by part = cond (has_minus part) (number_of (without_sign part)) 0
+down_by part = if has_minus part then number_of (without_sign part) else 0
 
 -- the parts of a number's text: each digit behind the point counts down once
 unfoldable pub number_in : List ℕ → Number
@@ -69,6 +69,10 @@ number_in text = record {
 -- below 0, so that -0 is not
 abbrev pub is_below_zero : Number → Bool
 is_below_zero n = n.minus && not (number_of n.digits == 0)
+
+-- the whole number m, or -m
+abbrev pub with_sign : Bool → ℕ → ℤ
+with_sign minus m = if minus then neg_ℤ (pos m) else pos m
 
 -- Without its sign, the number is at most m millionths.
 abbrev pub IsWithinMillionths : Number → ℕ → Type 0

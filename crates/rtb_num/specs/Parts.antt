@@ -1,5 +1,5 @@
 -- A number's parts as they are read, and what is made of them: which the crate's private clauses cite.
-use Rattle.std.specs.Prelude.{◌≡◌, ℕ, ◌+◌, ◌-◌, ◌*◌, ◌/◌, ◌%◌, ◌^◌, ◌<◌, ◌⊎◌, ◌==◌, List, ◌++◌, length, min, Bool, true, not, cond, ℤ, pos, neg_ℤ}
+use Rattle.std.specs.Prelude.{◌≡◌, ℕ, ◌+◌, ◌-◌, ◌*◌, ◌/◌, ◌%◌, ◌^◌, ◌<◌, ◌⊎◌, ◌==◌, List, ◌++◌, length, min, Bool, true, not}
 use Rattle.std.specs.List.{list_all}
 use Rattle.rtb_num.specs.Amounts.{is_digit, number_of}
 use Rattle.rtb_num.specs.Numbers.{Number}
@@ -22,7 +22,3 @@ units_of n places = min (number_of n.digits * 10 ^ (n.up + places) / 10 ^ n.down
 -- and whether something finer is left
 unfoldable pub is_finer : Number → ℕ → Bool
 is_finer n places = not (number_of n.digits * 10 ^ (n.up + places) % 10 ^ n.down == 0)
-
--- the whole number m, or -m
-abbrev pub with_sign : Bool → ℕ → ℤ
-with_sign minus m = cond minus (neg_ℤ (pos m)) (pos m)

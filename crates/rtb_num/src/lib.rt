@@ -3,7 +3,8 @@
 //!
 //! Contracts see a `Txt` and a `List` as the list of what is in it, and `Micros` and `Nanos` as
 //! numbers. `specs/Numbers.antt` says what a number of RFC 8259 is and what it is worth,
-//! `specs/Amounts.antt` how an amount is written, and `specs/Fields.antt` what a field of bytes holds.
+//! `specs/Amounts.antt` how an amount is written, `specs/Fields.antt` what a field of bytes holds, and
+//! `specs/Paths.antt` how a place in an array stands in a path.
 #![tactic(auto)]
 
 mod calls;
@@ -13,6 +14,7 @@ mod memory;
 mod money;
 mod number_form;
 mod number_parts;
+mod paths;
 mod read_amounts;
 mod real;
 mod short;
@@ -28,6 +30,7 @@ pub use lists::List;
 pub use memory::{MemSink, MemSource};
 pub use money::{Micros, Nanos};
 pub use number_form::{is_decimal, is_number};
+pub use paths::{PathName, put_item, put_member, put_name, put_place};
 pub use read_amounts::{PriceFault, exact_micros, floor_micros, is_whole, whole};
 pub use real::{StdSink, StdSource};
 pub use spare::{SpareList, SpareTxt};

@@ -51,16 +51,6 @@ impl MemSource {
     }
 }
 
-// Moves as much as fits.
-fn fill(out: &mut [u8], rest: &[u8]) -> usize
-    ensures count { result ≡ min (length rest.now) (length out.old) }
-    ensures front { take result out.new ≡ take result rest.now }
-{
-    let n = rest.len().min(out.len());
-    out[..n].copy_from_slice(&rest[..n]);
-    n
-}
-
 #[tactic(auto, using(crate::proofs::Moved::moved, crate::proofs::Moved::ended))]
 impl Source for MemSource {
     ghost left = { λ s. Some s.left };
@@ -85,6 +75,16 @@ impl Source for MemSource {
         self.place += n;
         Ok(n)
     }
+}
+
+// Moves as much as fits.
+fn fill(out: &mut [u8], rest: &[u8]) -> usize
+    ensures count { result ≡ min (length rest.now) (length out.old) }
+    ensures front { take result out.new ≡ take result rest.now }
+{
+    let n = rest.len().min(out.len());
+    out[..n].copy_from_slice(&rest[..n]);
+    n
 }
 
 /// A sink that keeps in memory what it gets, where the calls whose numbers are listed fail.

@@ -1,17 +1,43 @@
 ghost use Rattle.std.specs.Prelude.{◌≡◌, ◌+◌, ◌==◌, ◌&&◌, not, length, position};
 ghost use Rattle.std.specs.List.{before_first, after_first, list_all};
 ghost use Rattle.rtb_num.specs.Amounts.{is_decimal as is_decimal_text, is_whole_part as is_whole_text, is_digit as is_digit_code, is_point};
-ghost use Rattle.rtb_num.specs.Numbers.{is_number as is_number_text, is_exponent as is_exponent_text, is_exponent_mark, without_minus, without_sign as without_sign_text, has_minus as has_minus_text};
+ghost use Rattle.rtb_num.specs.Numbers.{is_number as is_number_text, is_exponent as is_exponent_text, is_exponent_mark, without_minus as without_minus_text, without_sign as without_sign_text, has_minus as has_minus_text};
 
 /// Whether the text is a number of RFC 8259, section 6: `-0.5e+10`.
 pub fn is_number(text: &[u8]) -> bool
     ensures { result ≡ is_number_text text.now }
 {
-    let unsigned = unsigned(text);
+    let unsigned = without_minus(text);
     match exponent_mark_of(unsigned) {
         None => is_decimal(unsigned),
         Some(at) => is_decimal(&unsigned[..at]) && is_exponent(&unsigned[at + 1..]),
     }
+}
+
+// Where the mark of the exponent stands.
+fn exponent_mark_of(text: &[u8]) -> Option<usize>
+    ensures { result ≡ position is_exponent_mark text.now }
+{
+    text.iter().position(|c| *c == b'e' || *c == b'E')
+}
+
+// Of what stands behind the exponent's mark.
+fn is_exponent(part: &[u8]) -> bool
+    ensures { result ≡ is_exponent_text part.now }
+{
+    is_fraction(without_sign(part))
+}
+
+fn is_fraction(text: &[u8]) -> bool
+    ensures { result ≡ (list_all is_digit_code text.now && not (length text.now == 0)) }
+{
+    are_digits(text) && !text.is_empty()
+}
+
+fn are_digits(text: &[u8]) -> bool
+    ensures { result ≡ list_all is_digit_code text.now }
+{
+    text.iter().all(|c| c.is_ascii_digit())
 }
 
 /// Whether the text is a number of RFC 8259, section 6, without sign and without exponent.
@@ -31,19 +57,6 @@ fn point_of(text: &[u8]) -> Option<usize>
     text.iter().position(|c| *c == b'.')
 }
 
-// Where the mark of the exponent stands.
-fn exponent_mark_of(text: &[u8]) -> Option<usize>
-    ensures { result ≡ position is_exponent_mark text.now }
-{
-    text.iter().position(|c| *c == b'e' || *c == b'E')
-}
-
-fn are_digits(text: &[u8]) -> bool
-    ensures { result ≡ list_all is_digit_code text.now }
-{
-    text.iter().all(|c| c.is_ascii_digit())
-}
-
 fn is_whole_part(text: &[u8]) -> bool
     ensures { result ≡ is_whole_text text.now }
 {
@@ -53,27 +66,14 @@ fn is_whole_part(text: &[u8]) -> bool
     }
 }
 
-fn is_fraction(text: &[u8]) -> bool
-    ensures { result ≡ (list_all is_digit_code text.now && not (length text.now == 0)) }
-{
-    are_digits(text) && !text.is_empty()
-}
-
-// Of what stands behind the exponent's mark.
-fn is_exponent(part: &[u8]) -> bool
-    ensures { result ≡ is_exponent_text part.now }
-{
-    is_fraction(without_sign(part))
-}
-
 pub(crate) fn has_minus(text: &[u8]) -> bool
     ensures { result ≡ has_minus_text text.now }
 {
     matches!(text, [b'-', ..])
 }
 
-pub(crate) fn unsigned(text: &[u8]) -> &[u8]
-    ensures { result.now ≡ without_minus text.now }
+pub(crate) fn without_minus(text: &[u8]) -> &[u8]
+    ensures { result.now ≡ without_minus_text text.now }
 {
     match text {
         [b'-', rest @ ..] => rest,

@@ -4,13 +4,9 @@ ghost use Rattle.rtb_num.specs.Amounts.{is_digit as is_digit_code, number_of};
 ghost use Rattle.rtb_num.specs.Numbers.{is_number, number_in, is_below_zero, up_by, down_by, without_sign as without_sign_text};
 ghost use Rattle.rtb_num.specs.Parts.{IsParted, units_of, is_finer};
 
-use crate::number_form::{has_minus, split_at_exponent, split_at_point, unsigned, without_sign};
-
-// Above every amount: a greater number is taken for this one.
-const TOO_MANY: u64 = 1_000_000_000_001;
-
-// As many zeros behind a digit that is not 0 make a number above `TOO_MANY`.
-const MANY_ZEROS: usize = 13;
+use crate::number_form::{
+    has_minus, split_at_exponent, split_at_point, without_minus, without_sign,
+};
 
 // A number's text in its parts. Powers of ten that `usize` cannot hold are its greatest value.
 #[derive(Clone, Copy)]
@@ -72,7 +68,7 @@ fn parts(text: &[u8]) -> NumberParts<'_>
     requires { IsTrue (is_number text.now) }
     ensures { IsParted (number_in text.now) result.minus result.whole.now result.fraction.now result.up result.down }
 {
-    let (decimal, exponent) = split_at_exponent(unsigned(text));
+    let (decimal, exponent) = split_at_exponent(without_minus(text));
     let (whole, fraction) = split_at_point(decimal);
     let (up, down) = powers(exponent);
     NumberParts {
@@ -90,7 +86,7 @@ fn powers(exponent: &[u8]) -> (usize, usize)
     ensures up { result.0 ≡ min (up_by exponent.now) (2 ^ 64 - 1) }
     ensures down { result.1 ≡ min (down_by exponent.now) (2 ^ 64 - 1) }
 {
-    let power = saturated(without_sign(exponent));
+    let power = read_usize(without_sign(exponent));
     if has_minus(exponent) {
         (0, power)
     } else {
@@ -99,7 +95,7 @@ fn powers(exponent: &[u8]) -> (usize, usize)
 }
 
 // What the digits spell, or the greatest `usize` where that is less.
-fn saturated(digits: &[u8]) -> usize
+fn read_usize(digits: &[u8]) -> usize
     requires { IsTrue (list_all is_digit_code digits.now) }
     ensures { result ≡ min (number_of digits.now) (2 ^ 64 - 1) }
 {
@@ -110,6 +106,22 @@ fn saturated(digits: &[u8]) -> usize
             .saturating_add(usize::from(*c - b'0'));
     }
     number
+}
+
+// Above every amount: a greater number is taken for this one.
+const TOO_MANY: u64 = 1_000_000_000_001;
+
+// As many zeros behind a digit that is not 0 make a number above `TOO_MANY`.
+const MANY_ZEROS: usize = 13;
+
+// The number with so many zeros behind it, or `TOO_MANY` where that is less.
+fn with_zeros(number: u64, zeros: usize) -> u64
+    requires { number ≤ 1000000000001 }
+    ensures value { result ≡ min (number * 10 ^ zeros) 1000000000001 }
+    ensures bound { result ≤ 1000000000001 }
+{
+    let power = 10u64.pow(zeros.min(MANY_ZEROS) as u32);
+    number.saturating_mul(power).min(TOO_MANY)
 }
 
 // What the digits spell behind the digits of the number, or `TOO_MANY` where that is less.
@@ -125,24 +137,14 @@ fn read_on(start: u64, digits: &[u8]) -> u64
     number
 }
 
-// The number with so many zeros behind it, or `TOO_MANY` where that is less.
-fn with_zeros(number: u64, zeros: usize) -> u64
-    requires { number ≤ 1000000000001 }
-    ensures value { result ≡ min (number * 10 ^ zeros) 1000000000001 }
-    ensures bound { result ≤ 1000000000001 }
+fn are_both_zeros(digits: &[u8], more: &[u8]) -> bool
+    ensures { result ≡ (list_all (λ c. c == 48) digits.now && list_all (λ c. c == 48) more.now) }
 {
-    let power = 10u64.pow(zeros.min(MANY_ZEROS) as u32);
-    number.saturating_mul(power).min(TOO_MANY)
+    are_zeros(digits) && are_zeros(more)
 }
 
 fn are_zeros(digits: &[u8]) -> bool
     ensures { result ≡ list_all (λ c. c == 48) digits.now }
 {
     digits.iter().all(|c| *c == b'0')
-}
-
-fn are_both_zeros(digits: &[u8], more: &[u8]) -> bool
-    ensures { result ≡ (list_all (λ c. c == 48) digits.now && list_all (λ c. c == 48) more.now) }
-{
-    are_zeros(digits) && are_zeros(more)
 }

@@ -1,7 +1,6 @@
 ghost use Rattle.std.specs.Prelude.{◌≡◌, ◌≢◌, ℕ, ℤ, pos, negsuc, ◌+◌, ◌-◌, ◌*◌, ◌^◌, ◌<◌, ◌≤◌, ◌≤ℤ◌, ◌↔◌, ◌⊎◌, IfOk, IfSome, IsErrOf, IsTrue, true, false, None};
 ghost use Rattle.std.specs.Int.{from_bool};
-ghost use Rattle.rtb_num.specs.Numbers.{is_number, number_in, is_below_zero, IsWithinMillionths, IsMillionths, IsWhole, IsInteger};
-ghost use Rattle.rtb_num.specs.Parts.{with_sign};
+ghost use Rattle.rtb_num.specs.Numbers.{is_number, number_in, is_below_zero, IsWithinMillionths, IsMillionths, IsWhole, IsInteger, with_sign};
 
 use crate::money::Micros;
 use crate::number_parts::scale;
@@ -38,7 +37,7 @@ pub fn floor_micros(text: &[u8]) -> Result<Micros, PriceFault>
     if number.below_zero {
         return Err(PriceFault::Negative);
     }
-    rounded_up(number.units, number.finer)
+    round_up(number.units, number.finer)
 }
 
 /// The value of the number in millionths, exactly: US dollars become micro-dollars.
@@ -66,7 +65,7 @@ pub fn whole(text: &[u8]) -> Option<i32>
     if number.finer {
         return None;
     }
-    signed(number.units, number.below_zero)
+    to_i32(number.units, number.below_zero)
 }
 
 /// Whether the value of the number is whole, whatever its size.
@@ -78,7 +77,7 @@ pub fn is_whole(text: &[u8]) -> bool
 }
 
 // The amount of so many units, and one more where there is finer.
-fn rounded_up(units: u64, finer: bool) -> Result<Micros, PriceFault>
+fn round_up(units: u64, finer: bool) -> Result<Micros, PriceFault>
     requires { units ≤ 1000000000001 }
     ensures value { IfOk result (λ m. (m ≡ units + from_bool finer) × (m ≤ 10 ^ 12)) }
     ensures large { IsErrOf result PriceFault.TooLarge ↔ (10 ^ 12 < units + from_bool finer) }
@@ -106,7 +105,7 @@ fn amount(units: u64, finer: bool) -> Result<Micros, PriceFault>
 }
 
 // The number with its sign.
-fn signed(size: u64, below_zero: bool) -> Option<i32>
+fn to_i32(size: u64, below_zero: bool) -> Option<i32>
     ensures value { IfSome result (λ z. (z ≡ with_sign below_zero size) × (size ≤ 2147483648)) }
     ensures none { result ≡ None → below_zero ≡ false → 2147483647 < size }
     ensures none_below { result ≡ None → below_zero ≡ true → 2147483648 < size }

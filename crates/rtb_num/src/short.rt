@@ -126,7 +126,7 @@ impl Short {
     // The bytes and these behind them, in memory of their own, with room to grow.
     #[cold]
     #[inline(never)]
-    pub(crate) fn spilled(&self, bytes: &[u8]) -> Result<Vec<u8>, AllocError>
+    pub(crate) fn spill(&self, bytes: &[u8]) -> Result<Vec<u8>, AllocError>
         ensures { IfOk result (λ v. v.items ≡ self.now ++ bytes.now) }
     {
         let mut longer = Vec::new(self.alloc);

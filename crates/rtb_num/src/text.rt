@@ -42,15 +42,6 @@ impl Model for Txt {
     ghost view = { λ t. bytes_of t.kept };
 }
 
-// Says of a slice of bytes what its type says.
-#[inline]
-fn as_known(bytes: &[u8]) -> &[u8]
-    ensures same { result.now ≡ bytes.now }
-    ensures bytes { IsBytes result.now }
-{
-    bytes
-}
-
 impl Txt {
     /// The empty text. It takes no memory.
     #[inline]
@@ -143,7 +134,7 @@ impl Txt {
         match &mut self.kept {
             Kept::Short(short) if short.has_room(1) => short.push(byte),
             Kept::Short(short) => {
-                let longer = short.spilled(&[byte])?;
+                let longer = short.spill(&[byte])?;
                 self.kept = Kept::Long(longer);
             }
             Kept::Long(bytes) => bytes.push(byte)?,
@@ -160,7 +151,7 @@ impl Txt {
         match &mut self.kept {
             Kept::Short(short) if short.has_room(bytes.len()) => short.append(bytes),
             Kept::Short(short) => {
-                let longer = short.spilled(bytes)?;
+                let longer = short.spill(bytes)?;
                 self.kept = Kept::Long(longer);
             }
             Kept::Long(kept) => kept.extend_from_slice(bytes)?,
@@ -209,7 +200,7 @@ impl Txt {
         match &mut self.kept {
             Kept::Short(short) if short.has_room(more) => {}
             Kept::Short(short) => {
-                let mut longer = short.spilled(&[])?;
+                let mut longer = short.spill(&[])?;
                 longer.reserve(more)?;
                 self.kept = Kept::Long(longer);
             }
@@ -229,6 +220,15 @@ impl Txt {
             Kept::Long(bytes) => Txt::from_slice(*bytes.allocator(), bytes.as_slice()),
         }
     }
+}
+
+// Says of a slice of bytes what its type says.
+#[inline]
+fn as_known(bytes: &[u8]) -> &[u8]
+    ensures same { result.now ≡ bytes.now }
+    ensures bytes { IsBytes result.now }
+{
+    bytes
 }
 
 // Appends these pieces one after the other; where memory is refused, the first of them may stay.

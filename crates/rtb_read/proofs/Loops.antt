@@ -5,16 +5,11 @@ use Rattle.std.specs.Option.{option_to_list}
 use Rattle.std.proofs.lemmas.List.{map_push}
 use Rattle.std.proofs.lemmas.Grind.{flat_map-append}
 use Rattle.exact_json.specs.Tree.{Tree}
-use Rattle.json_fields.proofs.Each.{front_more}
+use Rattle.json_fields.proofs.Each.{front_more, map_more}
 use Rattle.rtb_types.specs.declared.request.Size.{Size}
 use Rattle.rtb_types.specs.declared.request.Deal.{Deal}
 use Rattle.rtb_types.specs.declared.request.Imp.{Imp}
 use Rattle.rtb_read.specs.Imps.{size_in, sizes_of, deal_from, deals_from, imp_from, imps_from}
-
-pub map_more : {V A B : Type 0} (f : A → B) (v : V → A) (vs : List V) (k : ℕ) (x : V) (ys : List B) (y : B) → k < length vs → x ≡ get_or vs k x
-    → ys ≡ map f (map v (take k vs)) → y ≡ f (v x) → ys ++ y ∷ [] ≡ map f (map v (take (k + 1) vs))
-map_more f v vs k x ys y h is before same =
-    ap (λ zs. zs ++ y ∷ []) before ∙ ap (λ z. map f (map v (take k vs)) ++ z ∷ []) same ∙ sym (map_push f (map v (take k vs)) (v x)) ∙ sym (ap (map f) (front_more v vs k x h is))
 
 pub sizes_more : {V : Type 0} (own : Option Size) (v : V → Tree) (vs : List V) (k : ℕ) (x : V) (ys : List Size) (y : Option Size) → k < length vs → x ≡ get_or vs k x
     → ys ≡ sizes_of own (map v (take k vs)) → y ≡ size_in (v x) → ys ++ option_to_list y ≡ sizes_of own (map v (take (k + 1) vs))

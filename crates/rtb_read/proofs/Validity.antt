@@ -5,6 +5,7 @@ use Rattle.std.specs.List.{list_all}
 use Rattle.std.proofs.lemmas.List.{length-map}
 use Rattle.std.proofs.lemmas.List.Folds.{list_all-map}
 use Rattle.std.proofs.lemmas.Bool.Decides.{nat_tests}
+use Rattle.std.proofs.lemmas.Bool.{and_from}
 use Rattle.exact_json.specs.Tree.{Tree, null, boolean, number, string, array, object}
 use Rattle.json_fields.specs.Amounts.{is_between, whole_of}
 use Rattle.json_fields.specs.Answers.{Answers, and_then, map_err, flaws_of, value_or}
@@ -118,16 +119,13 @@ count_valid n e = by (n == 0) (nat_le n 64) refl refl e
     by false true f g e = grind (arith, nat_tests)
     by false false f g e = cc
 
-both : (a b : Bool) → a ≡ true → b ≡ true → (a && b) ≡ true
-both a b e f = ap (λ c. c && b) e ∙ f
-
 abbrev counted : List Imp → Bool
 counted imps = is_from 1 64 (length imps) && list_all has_valid_deals imps
 
 all_valid : (at : ℕ) (ts : List Tree) → is_from 1 3 at ≡ true → imps_faults ts ≡ [] → counted (imps_from at ts) ≡ true
 unfolding imps_faults imps_from
 all_valid at ts h e =
-    both _ _ (many ∙ count_valid (length ts) (left_none _ _ (left_none _ _ e))) (imps_valid at ts h (right_none _ _ (left_none _ _ e)))
+    and_from _ _ (many ∙ count_valid (length ts) (left_none _ _ (left_none _ _ e))) (imps_valid at ts h (right_none _ _ (left_none _ _ e)))
   where
     many : is_from 1 64 (length (imps_from at ts)) ≡ is_from 1 64 (length ts)
     many = ap (is_from 1 64) (length-map ts (imp_from at))
@@ -147,7 +145,7 @@ unfolding fields_faults request_from
 fields_valid t e =
     let at = type_valid _ 2 2 (present (request_name RequestField.At) t) refl (right_none _ _ (left_none _ _ (left_none _ _ (left_none _ _ (left_none _ _
     (left_none _ _ (left_none _ _ (left_none _ _ (left_none _ _ (left_none _ _ (left_none _ _ (left_none _ _ e)))))))))))) in
-    both _ _ at (list_valid (at_from t) (imp_array t) (wider (at_from t) at) (right_none _ _ e))
+    and_from _ _ at (list_valid (at_from t) (imp_array t) (wider (at_from t) at) (right_none _ _ e))
 
 pub valid_request : (t : Tree) → request_faults t ≡ [] → is_valid (request_from t) ≡ true
 unfolding request_faults as_object

@@ -1,5 +1,5 @@
 -- What is for sale: impressions, banners and deals (OpenRTB 2.5, section 3.2).
-use Rattle.std.specs.Prelude.{ℕ, ℤ, List, [], ◌∷◌, ◌++◌, map, take, length, ◌==◌, nat_le, Bool, cond, false, Option, Some, None, option_map, position, Result, codes}
+use Rattle.std.specs.Prelude.{ℕ, ℤ, List, [], ◌∷◌, ◌++◌, map, take, length, ◌==◌, nat_le, Bool, if◌then◌else◌, false, Option, Some, None, option_map, position, Result, codes}
 use Rattle.std.specs.List.{flat_map}
 use Rattle.std.specs.Option.{option_to_list}
 use Rattle.std.specs.Str.{bytes_eq}
@@ -174,7 +174,10 @@ imp_from at t = record {
 
 -- none, or more than 64
 unfoldable pub count_faults : ℕ → List ReqFault
-count_faults n = cond (n == 0) (ReqFault.NoImps ∷ []) (cond (nat_le n 64) [] (ReqFault.TooManyImps n ∷ []))
+count_faults n =
+    if n == 0 then ReqFault.NoImps ∷ []
+    else if nat_le n 64 then []
+    else ReqFault.TooManyImps n ∷ []
 
 -- each second place of an id, in order, with its least first place
 abbrev pub duplicate_at : List (List ℕ) → ℕ → List ℕ → List ReqFault

@@ -1,5 +1,5 @@
 -- The faults of the fields of an object, and what the fields hold.
-use Rattle.std.specs.Prelude.{ℕ, ℤ, pos, negsuc, nat_abs, List, [], ◌∷◌, ◌++◌, map, Bool, true, false, cond, Option, Some, None, option_map, option_and_then, Result, Ok, Err, codes}
+use Rattle.std.specs.Prelude.{ℕ, ℤ, pos, negsuc, nat_abs, List, [], ◌∷◌, ◌++◌, map, Bool, true, false, if◌then◌else◌, Option, Some, None, option_map, option_and_then, Result, Ok, Err, codes}
 use Rattle.exact_json.specs.Tree.{Tree}
 use Rattle.json_fields.specs.Amounts.{whole_of, is_between}
 use Rattle.json_fields.specs.Answers.{flaws_of, value_or, and_then, map_err}
@@ -69,12 +69,12 @@ element_faults field inside (Ok t) = inside t
 -- Its kinds are numbered from 1 to n. Any other whole number, of any size, names none.
 abbrev pub type_named : ℕ → Option ℤ → Result ℕ TypeFlaw
 type_named n None = Err (TypeFlaw.Field Flaw.Range)
-type_named n (Some z) = cond (is_between (pos 1) (pos n) z) (Ok (nat_abs z)) (Err TypeFlaw.Unlisted)
+type_named n (Some z) = if is_between (pos 1) (pos n) z then Ok (nat_abs z) else Err TypeFlaw.Unlisted
 
 -- the same of a number of 32 bits, and why there is none, which private clauses cite
-abbrev pub type_numbered : ℕ → Option ℤ → Option ℕ
-type_numbered n None = None
-type_numbered n (Some z) = cond (is_between (pos 1) (pos n) z) (Some (nat_abs z)) None
+abbrev pub type_number : ℕ → Option ℤ → Option ℕ
+type_number n None = None
+type_number n (Some z) = if is_between (pos 1) (pos n) z then Some (nat_abs z) else None
 
 abbrev pub why_unnamed : Bool → TypeFlaw
 why_unnamed false = TypeFlaw.Field Flaw.Range

@@ -21,43 +21,47 @@ use rtb_num::List;
 use rtb_types::{Banner, BannerField, Field, ImpField, Size, SizeField};
 use std::alloc::{AllocError, Global};
 
-// The size, where both are given.
-fn size(w: Option<i32>, h: Option<i32>) -> Option<Size>
-    ensures { result ≡ size_of w h }
+pub(crate) fn banner_field(
+    alloc: Global,
+    imp: usize,
+    parent: &Value,
+) -> Result<Option<Banner>, ReqFault>
+    requires forms { HasForms (tree_of parent.now) }
+    ensures { Answers ReqFault.Memory (inside_faults (Field.Imp imp ImpField.Banner) (banner_faults imp) (object_in (imp_name ImpField.Banner) (tree_of parent.now))) (inside_from banner_from (object_in (imp_name ImpField.Banner) (tree_of parent.now))) result }
 {
-    match (w, h) {
-        (Some(w), Some(h)) => Some(Size { w, h }),
-        _ => None,
+    match object_field(parent, Field::Imp(imp, ImpField::Banner)) {
+        Ok(Some(banner)) => Ok(Some(banner_in(alloc, imp, banner)?)),
+        Ok(None) => Ok(None),
+        Err(flaw) => Err(fault(Field::Imp(imp, ImpField::Banner), flaw)),
     }
 }
 
-// The size in an entry of `format`.
-fn format_in(imp: usize, place: usize, format: &Value) -> Result<Option<Size>, ReqFault>
-    requires forms { HasForms (tree_of format.now) }
-    ensures { Answers ReqFault.Memory (format_faults imp place (tree_of format.now)) (size_in (tree_of format.now)) result }
+fn banner_in(alloc: Global, imp: usize, banner: &Value) -> Result<Banner, ReqFault>
+    requires forms { HasForms (tree_of banner.now) }
+    ensures { Answers ReqFault.Memory (banner_faults imp (tree_of banner.now)) (banner_from (tree_of banner.now)) result }
 {
-    let w = integer_field(format, Field::Format(imp, place, SizeField::W))?;
-    let h = integer_field(format, Field::Format(imp, place, SizeField::H))?;
-    Ok(size(w, h))
+    let w = integer_field(banner, Field::Banner(imp, BannerField::W))?;
+    let h = integer_field(banner, Field::Banner(imp, BannerField::H))?;
+    let sizes = sizes_field(alloc, size(w, h), imp, banner)?;
+    let battr = battr_field(alloc, imp, banner)?;
+    let pos = integer_field(banner, Field::Banner(imp, BannerField::Pos))?;
+    Ok(Banner { sizes, battr, pos })
 }
 
-fn format_entry(imp: usize, place: usize, value: &Value) -> Result<Option<Size>, ReqFault>
-    requires forms { HasForms (tree_of value.now) }
-    ensures { Answers ReqFault.Memory (format_at imp place (tree_of value.now)) (size_in (tree_of value.now)) result }
+fn sizes_field(
+    alloc: Global,
+    own: Option<Size>,
+    imp: usize,
+    banner: &Value,
+) -> Result<List<Size>, ReqFault>
+    requires forms { HasForms (tree_of banner.now) }
+    ensures { Answers ReqFault.Memory (formats_faults imp (tree_of banner.now)) (sizes_of own (elements (formats_in (tree_of banner.now)))) result }
 {
-    match fields::object_in(value) {
-        Ok(format) => format_in(imp, place, format),
-        Err(flaw) => Err(fault(Field::BannerItem(imp, BannerField::Format, place), flaw)),
+    match array_field(banner, Field::Banner(imp, BannerField::Format)) {
+        Ok(Some(values)) => Ok(List::from_vec(all_sizes(alloc, own, imp, values)?)),
+        Ok(None) => Ok(List::from_vec(all_sizes(alloc, own, imp, &[])?)),
+        Err(flaw) => Err(fault(Field::Banner(imp, BannerField::Format), flaw)),
     }
-}
-
-fn push_size(sizes: &mut Vec<Size>, size: Option<Size>) -> Result<(), AllocError>
-    ensures { OnOk result (sizes.new.items ≡ sizes.old.items ++ option_to_list size) }
-{
-    if let Some(size) = size {
-        sizes.push(size)?;
-    }
-    Ok(())
 }
 
 // The banner's own size, and then those of the entries of `format`.
@@ -79,32 +83,43 @@ fn all_sizes(
     Ok(sizes)
 }
 
-fn sizes_field(
-    alloc: Global,
-    own: Option<Size>,
-    imp: usize,
-    banner: &Value,
-) -> Result<List<Size>, ReqFault>
-    requires forms { HasForms (tree_of banner.now) }
-    ensures { Answers ReqFault.Memory (formats_faults imp (tree_of banner.now)) (sizes_of own (elements (formats_in (tree_of banner.now)))) result }
+fn push_size(sizes: &mut Vec<Size>, size: Option<Size>) -> Result<(), AllocError>
+    ensures { OnOk result (sizes.new.items ≡ sizes.old.items ++ option_to_list size) }
 {
-    match array_field(banner, Field::Banner(imp, BannerField::Format)) {
-        Ok(Some(values)) => Ok(List::from_vec(all_sizes(alloc, own, imp, values)?)),
-        Ok(None) => Ok(List::from_vec(all_sizes(alloc, own, imp, &[])?)),
-        Err(flaw) => Err(fault(Field::Banner(imp, BannerField::Format), flaw)),
+    if let Some(size) = size {
+        sizes.push(size)?;
+    }
+    Ok(())
+}
+
+// The size, where both are given.
+fn size(w: Option<i32>, h: Option<i32>) -> Option<Size>
+    ensures { result ≡ size_of w h }
+{
+    match (w, h) {
+        (Some(w), Some(h)) => Some(Size { w, h }),
+        _ => None,
     }
 }
 
-fn battr_fault(imp: usize, flaw: ListFlaw) -> ReqFault
-    ensures { result ≡ list_fault (Field.Banner imp BannerField.Battr) (Field.BannerItem imp BannerField.Battr) flaw }
+fn format_entry(imp: usize, place: usize, value: &Value) -> Result<Option<Size>, ReqFault>
+    requires forms { HasForms (tree_of value.now) }
+    ensures { Answers ReqFault.Memory (format_at imp place (tree_of value.now)) (size_in (tree_of value.now)) result }
 {
-    match flaw {
-        ListFlaw::Whole(flaw) => fault(Field::Banner(imp, BannerField::Battr), flaw),
-        ListFlaw::Item(place, flaw) => {
-            fault(Field::BannerItem(imp, BannerField::Battr, place), flaw)
-        }
-        ListFlaw::Memory => ReqFault::Memory,
+    match fields::object_in(value) {
+        Ok(format) => format_in(imp, place, format),
+        Err(flaw) => Err(fault(Field::BannerItem(imp, BannerField::Format, place), flaw)),
     }
+}
+
+// The size in an entry of `format`.
+fn format_in(imp: usize, place: usize, format: &Value) -> Result<Option<Size>, ReqFault>
+    requires forms { HasForms (tree_of format.now) }
+    ensures { Answers ReqFault.Memory (format_faults imp place (tree_of format.now)) (size_in (tree_of format.now)) result }
+{
+    let w = integer_field(format, Field::Format(imp, place, SizeField::W))?;
+    let h = integer_field(format, Field::Format(imp, place, SizeField::H))?;
+    Ok(size(w, h))
 }
 
 fn battr_field(alloc: Global, imp: usize, banner: &Value) -> Result<List<i32>, ReqFault>
@@ -117,29 +132,14 @@ fn battr_field(alloc: Global, imp: usize, banner: &Value) -> Result<List<i32>, R
     }
 }
 
-fn banner_in(alloc: Global, imp: usize, banner: &Value) -> Result<Banner, ReqFault>
-    requires forms { HasForms (tree_of banner.now) }
-    ensures { Answers ReqFault.Memory (banner_faults imp (tree_of banner.now)) (banner_from (tree_of banner.now)) result }
+fn battr_fault(imp: usize, flaw: ListFlaw) -> ReqFault
+    ensures { result ≡ list_fault (Field.Banner imp BannerField.Battr) (Field.BannerItem imp BannerField.Battr) flaw }
 {
-    let w = integer_field(banner, Field::Banner(imp, BannerField::W))?;
-    let h = integer_field(banner, Field::Banner(imp, BannerField::H))?;
-    let sizes = sizes_field(alloc, size(w, h), imp, banner)?;
-    let battr = battr_field(alloc, imp, banner)?;
-    let pos = integer_field(banner, Field::Banner(imp, BannerField::Pos))?;
-    Ok(Banner { sizes, battr, pos })
-}
-
-pub(crate) fn banner_field(
-    alloc: Global,
-    imp: usize,
-    parent: &Value,
-) -> Result<Option<Banner>, ReqFault>
-    requires forms { HasForms (tree_of parent.now) }
-    ensures { Answers ReqFault.Memory (inside_faults (Field.Imp imp ImpField.Banner) (banner_faults imp) (object_in (imp_name ImpField.Banner) (tree_of parent.now))) (inside_from banner_from (object_in (imp_name ImpField.Banner) (tree_of parent.now))) result }
-{
-    match object_field(parent, Field::Imp(imp, ImpField::Banner)) {
-        Ok(Some(banner)) => Ok(Some(banner_in(alloc, imp, banner)?)),
-        Ok(None) => Ok(None),
-        Err(flaw) => Err(fault(Field::Imp(imp, ImpField::Banner), flaw)),
+    match flaw {
+        ListFlaw::Whole(flaw) => fault(Field::Banner(imp, BannerField::Battr), flaw),
+        ListFlaw::Item(place, flaw) => {
+            fault(Field::BannerItem(imp, BannerField::Battr, place), flaw)
+        }
+        ListFlaw::Memory => ReqFault::Memory,
     }
 }

@@ -16,14 +16,13 @@ use rtb_types::{
     UserField,
 };
 
-// The id of the publisher, by the fields of the publisher and of its id.
-fn publisher_field(parent: &Value, whole: Field, id: Field) -> Result<Option<Txt>, ReqFault>
-    ensures { Answers ReqFault.Memory (publisher_faults whole id (tree_of parent.now)) (publisher_from whole id (tree_of parent.now)) result }
+pub(crate) fn site_field(request: &Value) -> Result<Option<Site>, ReqFault>
+    ensures { Answers ReqFault.Memory (inside_faults (Field.Request RequestField.Site) site_faults (object_in (request_name RequestField.Site) (tree_of request.now))) (inside_from site_from (object_in (request_name RequestField.Site) (tree_of request.now))) result }
 {
-    match object_field(parent, whole) {
-        Ok(Some(publisher)) => text_field(publisher, id),
+    match object_field(request, Field::Request(RequestField::Site)) {
+        Ok(Some(site)) => Ok(Some(site_in(site)?)),
         Ok(None) => Ok(None),
-        Err(flaw) => Err(fault(whole, flaw)),
+        Err(flaw) => Err(fault(Field::Request(RequestField::Site), flaw)),
     }
 }
 
@@ -44,6 +43,27 @@ fn site_in(site: &Value) -> Result<Site, ReqFault>
     })
 }
 
+// The id of the publisher, by the fields of the publisher and of its id.
+fn publisher_field(parent: &Value, whole: Field, id: Field) -> Result<Option<Txt>, ReqFault>
+    ensures { Answers ReqFault.Memory (publisher_faults whole id (tree_of parent.now)) (publisher_from whole id (tree_of parent.now)) result }
+{
+    match object_field(parent, whole) {
+        Ok(Some(publisher)) => text_field(publisher, id),
+        Ok(None) => Ok(None),
+        Err(flaw) => Err(fault(whole, flaw)),
+    }
+}
+
+pub(crate) fn app_field(request: &Value) -> Result<Option<App>, ReqFault>
+    ensures { Answers ReqFault.Memory (inside_faults (Field.Request RequestField.App) app_faults (object_in (request_name RequestField.App) (tree_of request.now))) (inside_from app_from (object_in (request_name RequestField.App) (tree_of request.now))) result }
+{
+    match object_field(request, Field::Request(RequestField::App)) {
+        Ok(Some(app)) => Ok(Some(app_in(app)?)),
+        Ok(None) => Ok(None),
+        Err(flaw) => Err(fault(Field::Request(RequestField::App), flaw)),
+    }
+}
+
 fn app_in(app: &Value) -> Result<App, ReqFault>
     ensures { Answers ReqFault.Memory (app_faults (tree_of app.now)) (app_from (tree_of app.now)) result }
 {
@@ -61,30 +81,14 @@ fn app_in(app: &Value) -> Result<App, ReqFault>
     })
 }
 
-fn geo_in(geo: &Value) -> Result<Geo, ReqFault>
-    ensures { Answers ReqFault.Memory (geo_faults (tree_of geo.now)) (geo_from (tree_of geo.now)) result }
+pub(crate) fn device_field(request: &Value) -> Result<Option<Device>, ReqFault>
+    requires forms { HasForms (tree_of request.now) }
+    ensures { Answers ReqFault.Memory (inside_faults (Field.Request RequestField.Device) device_faults (object_in (request_name RequestField.Device) (tree_of request.now))) (inside_from device_from (object_in (request_name RequestField.Device) (tree_of request.now))) result }
 {
-    let country = text_field(geo, Field::Geo(GeoField::Country))?;
-    let region = text_field(geo, Field::Geo(GeoField::Region))?;
-    let metro = text_field(geo, Field::Geo(GeoField::Metro))?;
-    let city = text_field(geo, Field::Geo(GeoField::City))?;
-    let zip = text_field(geo, Field::Geo(GeoField::Zip))?;
-    Ok(Geo {
-        country,
-        region,
-        metro,
-        city,
-        zip,
-    })
-}
-
-fn geo_field(device: &Value) -> Result<Option<Geo>, ReqFault>
-    ensures { Answers ReqFault.Memory (inside_faults (Field.Device DeviceField.Geo) geo_faults (object_in (device_name DeviceField.Geo) (tree_of device.now))) (inside_from geo_from (object_in (device_name DeviceField.Geo) (tree_of device.now))) result }
-{
-    match object_field(device, Field::Device(DeviceField::Geo)) {
-        Ok(Some(geo)) => Ok(Some(geo_in(geo)?)),
+    match object_field(request, Field::Request(RequestField::Device)) {
+        Ok(Some(device)) => Ok(Some(device_in(device)?)),
         Ok(None) => Ok(None),
-        Err(flaw) => Err(fault(Field::Device(DeviceField::Geo), flaw)),
+        Err(flaw) => Err(fault(Field::Request(RequestField::Device), flaw)),
     }
 }
 
@@ -114,45 +118,31 @@ fn device_in(device: &Value) -> Result<Device, ReqFault>
     })
 }
 
-fn user_in(user: &Value) -> Result<User, ReqFault>
-    requires forms { HasForms (tree_of user.now) }
-    ensures { Answers ReqFault.Memory (user_faults (tree_of user.now)) (user_from (tree_of user.now)) result }
+fn geo_field(device: &Value) -> Result<Option<Geo>, ReqFault>
+    ensures { Answers ReqFault.Memory (inside_faults (Field.Device DeviceField.Geo) geo_faults (object_in (device_name DeviceField.Geo) (tree_of device.now))) (inside_from geo_from (object_in (device_name DeviceField.Geo) (tree_of device.now))) result }
 {
-    let id = text_field(user, Field::User(UserField::Id))?;
-    let yob = integer_field(user, Field::User(UserField::Yob))?;
-    let gender = text_field(user, Field::User(UserField::Gender))?;
-    Ok(User { id, yob, gender })
-}
-
-pub(crate) fn site_field(request: &Value) -> Result<Option<Site>, ReqFault>
-    ensures { Answers ReqFault.Memory (inside_faults (Field.Request RequestField.Site) site_faults (object_in (request_name RequestField.Site) (tree_of request.now))) (inside_from site_from (object_in (request_name RequestField.Site) (tree_of request.now))) result }
-{
-    match object_field(request, Field::Request(RequestField::Site)) {
-        Ok(Some(site)) => Ok(Some(site_in(site)?)),
+    match object_field(device, Field::Device(DeviceField::Geo)) {
+        Ok(Some(geo)) => Ok(Some(geo_in(geo)?)),
         Ok(None) => Ok(None),
-        Err(flaw) => Err(fault(Field::Request(RequestField::Site), flaw)),
+        Err(flaw) => Err(fault(Field::Device(DeviceField::Geo), flaw)),
     }
 }
 
-pub(crate) fn app_field(request: &Value) -> Result<Option<App>, ReqFault>
-    ensures { Answers ReqFault.Memory (inside_faults (Field.Request RequestField.App) app_faults (object_in (request_name RequestField.App) (tree_of request.now))) (inside_from app_from (object_in (request_name RequestField.App) (tree_of request.now))) result }
+fn geo_in(geo: &Value) -> Result<Geo, ReqFault>
+    ensures { Answers ReqFault.Memory (geo_faults (tree_of geo.now)) (geo_from (tree_of geo.now)) result }
 {
-    match object_field(request, Field::Request(RequestField::App)) {
-        Ok(Some(app)) => Ok(Some(app_in(app)?)),
-        Ok(None) => Ok(None),
-        Err(flaw) => Err(fault(Field::Request(RequestField::App), flaw)),
-    }
-}
-
-pub(crate) fn device_field(request: &Value) -> Result<Option<Device>, ReqFault>
-    requires forms { HasForms (tree_of request.now) }
-    ensures { Answers ReqFault.Memory (inside_faults (Field.Request RequestField.Device) device_faults (object_in (request_name RequestField.Device) (tree_of request.now))) (inside_from device_from (object_in (request_name RequestField.Device) (tree_of request.now))) result }
-{
-    match object_field(request, Field::Request(RequestField::Device)) {
-        Ok(Some(device)) => Ok(Some(device_in(device)?)),
-        Ok(None) => Ok(None),
-        Err(flaw) => Err(fault(Field::Request(RequestField::Device), flaw)),
-    }
+    let country = text_field(geo, Field::Geo(GeoField::Country))?;
+    let region = text_field(geo, Field::Geo(GeoField::Region))?;
+    let metro = text_field(geo, Field::Geo(GeoField::Metro))?;
+    let city = text_field(geo, Field::Geo(GeoField::City))?;
+    let zip = text_field(geo, Field::Geo(GeoField::Zip))?;
+    Ok(Geo {
+        country,
+        region,
+        metro,
+        city,
+        zip,
+    })
 }
 
 pub(crate) fn user_field(request: &Value) -> Result<Option<User>, ReqFault>
@@ -164,4 +154,14 @@ pub(crate) fn user_field(request: &Value) -> Result<Option<User>, ReqFault>
         Ok(None) => Ok(None),
         Err(flaw) => Err(fault(Field::Request(RequestField::User), flaw)),
     }
+}
+
+fn user_in(user: &Value) -> Result<User, ReqFault>
+    requires forms { HasForms (tree_of user.now) }
+    ensures { Answers ReqFault.Memory (user_faults (tree_of user.now)) (user_from (tree_of user.now)) result }
+{
+    let id = text_field(user, Field::User(UserField::Id))?;
+    let yob = integer_field(user, Field::User(UserField::Yob))?;
+    let gender = text_field(user, Field::User(UserField::Gender))?;
+    Ok(User { id, yob, gender })
 }

@@ -21,44 +21,69 @@ use rtb_num::{List, Txt};
 use rtb_types::{Deal, DealField, Field, ImpField, Pmp, PmpField};
 use std::alloc::Global;
 
-// First price, second price, and at the agreed price.
-const DEAL_TYPES: u8 = 3;
-
-fn texts_fault(imp: usize, place: usize, part: DealField, flaw: ListFlaw) -> ReqFault
-    ensures { result ≡ list_fault (Field.OfDeal imp place part) (Field.DealItem imp place part) flaw }
+pub(crate) fn pmp_field(alloc: Global, at: u8, imp: usize, parent: &Value) -> Result<Pmp, ReqFault>
+    requires forms { HasForms (tree_of parent.now) }
+    ensures { Answers ReqFault.Memory (inside_faults (Field.Imp imp ImpField.Pmp) (pmp_faults imp) (object_in (imp_name ImpField.Pmp) (tree_of parent.now))) (pmp_or_none (inside_from (pmp_from at) (object_in (imp_name ImpField.Pmp) (tree_of parent.now)))) result }
 {
-    match flaw {
-        ListFlaw::Whole(flaw) => fault(Field::OfDeal(imp, place, part), flaw),
-        ListFlaw::Item(item, flaw) => fault(Field::DealItem(imp, place, part, item), flaw),
-        ListFlaw::Memory => ReqFault::Memory,
+    match object_field(parent, Field::Imp(imp, ImpField::Pmp)) {
+        Ok(Some(pmp)) => pmp_in(alloc, at, imp, pmp),
+        Ok(None) => Ok(open_to_all(alloc)),
+        Err(flaw) => Err(fault(Field::Imp(imp, ImpField::Pmp), flaw)),
     }
 }
 
-// A list of texts.
-fn texts_field(
+fn pmp_in(alloc: Global, at: u8, imp: usize, pmp: &Value) -> Result<Pmp, ReqFault>
+    requires forms { HasForms (tree_of pmp.now) }
+    ensures { Answers ReqFault.Memory (pmp_faults imp (tree_of pmp.now)) (pmp_from at (tree_of pmp.now)) result }
+{
+    let private_auction = flag_field(pmp, Field::Pmp(imp, PmpField::PrivateAuction))?;
+    let deals = deals_field(alloc, at, imp, pmp)?;
+    Ok(Pmp {
+        private_auction,
+        deals,
+    })
+}
+
+fn deals_field(alloc: Global, at: u8, imp: usize, pmp: &Value) -> Result<List<Deal>, ReqFault>
+    requires forms { HasForms (tree_of pmp.now) }
+    ensures { Answers ReqFault.Memory (deals_faults imp (tree_of pmp.now)) (deals_from at (elements (deals_in (tree_of pmp.now)))) result }
+{
+    match array_field(pmp, Field::Pmp(imp, PmpField::Deals)) {
+        Ok(Some(values)) => Ok(List::from_vec(all_deals(alloc, at, imp, values)?)),
+        Ok(None) => Ok(List::new(alloc)),
+        Err(flaw) => Err(fault(Field::Pmp(imp, PmpField::Deals), flaw)),
+    }
+}
+
+fn all_deals(alloc: Global, at: u8, imp: usize, values: &[Value]) -> Result<Vec<Deal>, ReqFault>
+    requires forms { All (λ v. HasForms (tree_of v)) values.now }
+    ensures { Answers ReqFault.Memory (each_at (deal_at imp) (map tree_of values.now)) (deals_from at (map tree_of values.now)) (map_ok (λ v. v.items) result) }
+{
+    let mut deals = Vec::with_capacity(alloc, values.len())?;
+    for (place, value) in values.iter().enumerate() {
+        deals.push(deal_entry(alloc, at, imp, place, value)?)?;
+    }
+    Ok(deals)
+}
+
+fn deal_entry(
     alloc: Global,
+    at: u8,
     imp: usize,
     place: usize,
-    deal: &Value,
-    part: DealField,
-) -> Result<List<Txt>, ReqFault>
-    ensures { Answers ReqFault.Memory (deal_texts_faults imp place part (tree_of deal.now)) (deal_texts_from part (tree_of deal.now)) result }
+    value: &Value,
+) -> Result<Deal, ReqFault>
+    requires forms { HasForms (tree_of value.now) }
+    ensures { Answers ReqFault.Memory (deal_at imp place (tree_of value.now)) (deal_from at (tree_of value.now)) result }
 {
-    match fields::texts(alloc, deal, part.name()) {
-        Ok(texts) => Ok(texts),
-        Err(flaw) => Err(texts_fault(imp, place, part, flaw)),
+    match fields::object_in(value) {
+        Ok(deal) => deal_in(alloc, at, imp, place, deal),
+        Err(flaw) => Err(fault(Field::Deal(imp, place), flaw)),
     }
 }
 
-#[tactic(auto, unfolding(crate::specs::Parts::faults_at))]
-fn id_field(imp: usize, place: usize, deal: &Value) -> Result<Txt, ReqFault>
-    ensures { Answers ReqFault.Memory (faults_at (Field.OfDeal imp place DealField.Id) (required as_text (present (deal_name DealField.Id) (tree_of deal.now)))) (value_or [] (required as_text (present (deal_name DealField.Id) (tree_of deal.now)))) result }
-{
-    match fields::required_text(deal, DealField::Id.name()) {
-        Ok(id) => Ok(id.copy()?),
-        Err(flaw) => Err(fault(Field::OfDeal(imp, place, DealField::Id), flaw)),
-    }
-}
+// First price, second price, and at the agreed price.
+const DEAL_TYPES: u8 = 3;
 
 // A deal, by the request's auction type and by the places of its impression and of its own.
 fn deal_in(alloc: Global, at: u8, imp: usize, place: usize, deal: &Value) -> Result<Deal, ReqFault>
@@ -90,54 +115,40 @@ fn deal_in(alloc: Global, at: u8, imp: usize, place: usize, deal: &Value) -> Res
     })
 }
 
-fn deal_entry(
+#[tactic(auto, unfolding(crate::specs::Parts::faults_at))]
+fn id_field(imp: usize, place: usize, deal: &Value) -> Result<Txt, ReqFault>
+    ensures { Answers ReqFault.Memory (faults_at (Field.OfDeal imp place DealField.Id) (required as_text (present (deal_name DealField.Id) (tree_of deal.now)))) (value_or [] (required as_text (present (deal_name DealField.Id) (tree_of deal.now)))) result }
+{
+    match fields::required_text(deal, DealField::Id.name()) {
+        Ok(id) => Ok(id.copy()?),
+        Err(flaw) => Err(fault(Field::OfDeal(imp, place, DealField::Id), flaw)),
+    }
+}
+
+// A list of texts.
+fn texts_field(
     alloc: Global,
-    at: u8,
     imp: usize,
     place: usize,
-    value: &Value,
-) -> Result<Deal, ReqFault>
-    requires forms { HasForms (tree_of value.now) }
-    ensures { Answers ReqFault.Memory (deal_at imp place (tree_of value.now)) (deal_from at (tree_of value.now)) result }
+    deal: &Value,
+    part: DealField,
+) -> Result<List<Txt>, ReqFault>
+    ensures { Answers ReqFault.Memory (deal_texts_faults imp place part (tree_of deal.now)) (deal_texts_from part (tree_of deal.now)) result }
 {
-    match fields::object_in(value) {
-        Ok(deal) => deal_in(alloc, at, imp, place, deal),
-        Err(flaw) => Err(fault(Field::Deal(imp, place), flaw)),
+    match fields::texts(alloc, deal, part.name()) {
+        Ok(texts) => Ok(texts),
+        Err(flaw) => Err(texts_fault(imp, place, part, flaw)),
     }
 }
 
-fn all_deals(alloc: Global, at: u8, imp: usize, values: &[Value]) -> Result<Vec<Deal>, ReqFault>
-    requires forms { All (λ v. HasForms (tree_of v)) values.now }
-    ensures { Answers ReqFault.Memory (each_at (deal_at imp) (map tree_of values.now)) (deals_from at (map tree_of values.now)) (map_ok (λ v. v.items) result) }
+fn texts_fault(imp: usize, place: usize, part: DealField, flaw: ListFlaw) -> ReqFault
+    ensures { result ≡ list_fault (Field.OfDeal imp place part) (Field.DealItem imp place part) flaw }
 {
-    let mut deals = Vec::with_capacity(alloc, values.len())?;
-    for (place, value) in values.iter().enumerate() {
-        deals.push(deal_entry(alloc, at, imp, place, value)?)?;
+    match flaw {
+        ListFlaw::Whole(flaw) => fault(Field::OfDeal(imp, place, part), flaw),
+        ListFlaw::Item(item, flaw) => fault(Field::DealItem(imp, place, part, item), flaw),
+        ListFlaw::Memory => ReqFault::Memory,
     }
-    Ok(deals)
-}
-
-fn deals_field(alloc: Global, at: u8, imp: usize, pmp: &Value) -> Result<List<Deal>, ReqFault>
-    requires forms { HasForms (tree_of pmp.now) }
-    ensures { Answers ReqFault.Memory (deals_faults imp (tree_of pmp.now)) (deals_from at (elements (deals_in (tree_of pmp.now)))) result }
-{
-    match array_field(pmp, Field::Pmp(imp, PmpField::Deals)) {
-        Ok(Some(values)) => Ok(List::from_vec(all_deals(alloc, at, imp, values)?)),
-        Ok(None) => Ok(List::new(alloc)),
-        Err(flaw) => Err(fault(Field::Pmp(imp, PmpField::Deals), flaw)),
-    }
-}
-
-fn pmp_in(alloc: Global, at: u8, imp: usize, pmp: &Value) -> Result<Pmp, ReqFault>
-    requires forms { HasForms (tree_of pmp.now) }
-    ensures { Answers ReqFault.Memory (pmp_faults imp (tree_of pmp.now)) (pmp_from at (tree_of pmp.now)) result }
-{
-    let private_auction = flag_field(pmp, Field::Pmp(imp, PmpField::PrivateAuction))?;
-    let deals = deals_field(alloc, at, imp, pmp)?;
-    Ok(Pmp {
-        private_auction,
-        deals,
-    })
 }
 
 // No deals, and open to all.
@@ -147,16 +158,5 @@ fn open_to_all(alloc: Global) -> Pmp
     Pmp {
         private_auction: false,
         deals: List::new(alloc),
-    }
-}
-
-pub(crate) fn pmp_field(alloc: Global, at: u8, imp: usize, parent: &Value) -> Result<Pmp, ReqFault>
-    requires forms { HasForms (tree_of parent.now) }
-    ensures { Answers ReqFault.Memory (inside_faults (Field.Imp imp ImpField.Pmp) (pmp_faults imp) (object_in (imp_name ImpField.Pmp) (tree_of parent.now))) (pmp_or_none (inside_from (pmp_from at) (object_in (imp_name ImpField.Pmp) (tree_of parent.now)))) result }
-{
-    match object_field(parent, Field::Imp(imp, ImpField::Pmp)) {
-        Ok(Some(pmp)) => pmp_in(alloc, at, imp, pmp),
-        Ok(None) => Ok(open_to_all(alloc)),
-        Err(flaw) => Err(fault(Field::Imp(imp, ImpField::Pmp), flaw)),
     }
 }

@@ -13,24 +13,24 @@ pub enum ReqFault {
     #[error("the request is no object")]
     NotObject,
     /// The field is required and is absent or null.
-    #[error("a required field is missing")]
+    #[error("{field} is missing")]
     Missing { field: Field },
     /// The field has a value of another type.
-    #[error("a field has a value of another type")]
+    #[error("{field} is of another type")]
     WrongType { field: Field },
     /// The field's number is not whole or out of its range, or its text is not of 1 to 255 bytes.
-    #[error("a field is out of its range")]
+    #[error("{field} is out of its range")]
     Range { field: Field },
-    #[error("a field's number is no price: {fault}")]
+    #[error("{field} is no price: {fault}")]
     Price { field: Field, fault: PriceFault },
     /// The field's number is whole and names no auction type.
-    #[error("a field names no auction type")]
+    #[error("{field} names no auction type")]
     AuctionType { field: Field },
     /// `imp` is empty.
     #[error("there is no impression")]
     NoImps,
     /// `imp` has more than 64 entries: so many.
-    #[error("{count} impressions are too many")]
+    #[error("there are {count} impressions, and 64 is the most")]
     TooManyImps { count: usize },
     /// Two impressions have one id. Places are counted from 0: `second` is the least place of an
     /// impression whose id stands before it, and `first` the least place where it does.

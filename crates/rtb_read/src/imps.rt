@@ -19,6 +19,52 @@ use rtb_num::List;
 use rtb_types::{Field, Imp, ImpField, MAX_IMPS, RequestField};
 use std::alloc::Global;
 
+// The impressions in the values of an array.
+pub(crate) fn imps_in(alloc: Global, at: u8, values: &[Value]) -> Result<List<Imp>, ReqFault>
+    requires forms { All (λ v. HasForms (tree_of v)) values.now }
+    ensures { Answers ReqFault.Memory (imps_faults (map tree_of values.now)) (imps_from at (map tree_of values.now)) result }
+{
+    check_count(values.len())?;
+    let imps = all_imps(alloc, at, values)?;
+    check_ids(&imps)?;
+    Ok(List::from_vec(imps))
+}
+
+// Whether there are 1 to 64.
+fn check_count(count: usize) -> Result<(), ReqFault>
+    ensures ok { OnOk result (count_faults count ≡ []) }
+    ensures err { IfErr result (λ e. count_faults count ≡ e ∷ []) }
+{
+    if count == 0 {
+        return Err(ReqFault::NoImps);
+    }
+    if count > MAX_IMPS {
+        return Err(ReqFault::TooManyImps { count });
+    }
+    Ok(())
+}
+
+fn all_imps(alloc: Global, at: u8, values: &[Value]) -> Result<Vec<Imp>, ReqFault>
+    requires forms { All (λ v. HasForms (tree_of v)) values.now }
+    ensures { Answers ReqFault.Memory (each_at imp_at (map tree_of values.now)) (imps_from at (map tree_of values.now)) (map_ok (λ v. v.items) result) }
+{
+    let mut imps = Vec::with_capacity(alloc, values.len())?;
+    for (place, value) in values.iter().enumerate() {
+        imps.push(imp_entry(alloc, at, place, value)?)?;
+    }
+    Ok(imps)
+}
+
+fn imp_entry(alloc: Global, at: u8, place: usize, value: &Value) -> Result<Imp, ReqFault>
+    requires forms { HasForms (tree_of value.now) }
+    ensures { Answers ReqFault.Memory (imp_at place (tree_of value.now)) (imp_from at (tree_of value.now)) result }
+{
+    match fields::object_in(value) {
+        Ok(imp) => imp_in(alloc, at, place, imp),
+        Err(flaw) => Err(fault(Field::RequestItem(RequestField::Imp, place), flaw)),
+    }
+}
+
 // An impression, by the request's auction type and by its place.
 fn imp_in(alloc: Global, at: u8, place: usize, imp: &Value) -> Result<Imp, ReqFault>
     requires forms { HasForms (tree_of imp.now) }
@@ -42,48 +88,6 @@ fn imp_in(alloc: Global, at: u8, place: usize, imp: &Value) -> Result<Imp, ReqFa
     })
 }
 
-fn imp_entry(alloc: Global, at: u8, place: usize, value: &Value) -> Result<Imp, ReqFault>
-    requires forms { HasForms (tree_of value.now) }
-    ensures { Answers ReqFault.Memory (imp_at place (tree_of value.now)) (imp_from at (tree_of value.now)) result }
-{
-    match fields::object_in(value) {
-        Ok(imp) => imp_in(alloc, at, place, imp),
-        Err(flaw) => Err(fault(Field::RequestItem(RequestField::Imp, place), flaw)),
-    }
-}
-
-fn all_imps(alloc: Global, at: u8, values: &[Value]) -> Result<Vec<Imp>, ReqFault>
-    requires forms { All (λ v. HasForms (tree_of v)) values.now }
-    ensures { Answers ReqFault.Memory (each_at imp_at (map tree_of values.now)) (imps_from at (map tree_of values.now)) (map_ok (λ v. v.items) result) }
-{
-    let mut imps = Vec::with_capacity(alloc, values.len())?;
-    for (place, value) in values.iter().enumerate() {
-        imps.push(imp_entry(alloc, at, place, value)?)?;
-    }
-    Ok(imps)
-}
-
-// Whether there are 1 to 64.
-fn check_count(count: usize) -> Result<(), ReqFault>
-    ensures ok { OnOk result (count_faults count ≡ []) }
-    ensures err { IfErr result (λ e. count_faults count ≡ e ∷ []) }
-{
-    if count == 0 {
-        return Err(ReqFault::NoImps);
-    }
-    if count > MAX_IMPS {
-        return Err(ReqFault::TooManyImps { count });
-    }
-    Ok(())
-}
-
-// The least place of an impression with this id.
-fn place_of(imps: &[Imp], id: &[u8]) -> Option<usize>
-    ensures { result ≡ position (λ i. bytes_eq i.id id.now) imps.now }
-{
-    imps.iter().position(|imp| imp.id.as_bytes() == id)
-}
-
 // Whether no two have one id. There are at most 64, so each is compared with each.
 fn check_ids(imps: &[Imp]) -> Result<(), ReqFault>
     ensures ok { OnOk result (duplicates (ids_of imps.now) ≡ []) }
@@ -97,13 +101,9 @@ fn check_ids(imps: &[Imp]) -> Result<(), ReqFault>
     Ok(())
 }
 
-// The impressions in the values of an array.
-pub(crate) fn imps_in(alloc: Global, at: u8, values: &[Value]) -> Result<List<Imp>, ReqFault>
-    requires forms { All (λ v. HasForms (tree_of v)) values.now }
-    ensures { Answers ReqFault.Memory (imps_faults (map tree_of values.now)) (imps_from at (map tree_of values.now)) result }
+// The least place of an impression with this id.
+fn place_of(imps: &[Imp], id: &[u8]) -> Option<usize>
+    ensures { result ≡ position (λ i. bytes_eq i.id id.now) imps.now }
 {
-    check_count(values.len())?;
-    let imps = all_imps(alloc, at, values)?;
-    check_ids(&imps)?;
-    Ok(List::from_vec(imps))
+    imps.iter().position(|imp| imp.id.as_bytes() == id)
 }

@@ -18,9 +18,6 @@ use rtb_num::{Micros, Txt};
 use rtb_types::Field;
 use std::alloc::{AllocError, Global};
 
-// The most bytes that the id of a request or of an impression has.
-const MAX_ID: usize = 255;
-
 // An integer without a range of its own has 32 bits.
 pub(crate) const ANY_I32: Bounds = Bounds {
     least: i32::MIN,
@@ -36,15 +33,6 @@ pub(crate) fn fault(field: Field, flaw: Flaw) -> ReqFault
         Flaw::WrongType => ReqFault::WrongType { field },
         Flaw::Range => ReqFault::Range { field },
         Flaw::Price(fault) => ReqFault::Price { field, fault },
-    }
-}
-
-fn copy_of(text: Option<&Txt>) -> Result<Option<Txt>, AllocError>
-    ensures { IfOk result (λ t. t ≡ option_map (λ s. s.now) text.entry) }
-{
-    match text {
-        Some(text) => Ok(Some(text.copy()?)),
-        None => Ok(None),
     }
 }
 
@@ -74,6 +62,15 @@ pub(crate) fn text_field(object: &Value, field: Field) -> Result<Option<Txt>, Re
     }
 }
 
+fn copy_of(text: Option<&Txt>) -> Result<Option<Txt>, AllocError>
+    ensures { IfOk result (λ t. t ≡ option_map (λ s. s.now) text.entry) }
+{
+    match text {
+        Some(text) => Ok(Some(text.copy()?)),
+        None => Ok(None),
+    }
+}
+
 // An integer, which may be absent.
 pub(crate) fn integer_field(object: &Value, field: Field) -> Result<Option<i32>, ReqFault>
     requires forms { HasForms (tree_of object.now) }
@@ -96,6 +93,9 @@ pub(crate) fn flag_field(object: &Value, field: Field) -> Result<bool, ReqFault>
     }
 }
 
+// The most bytes that the id of a request or of an impression has.
+const MAX_ID: usize = 255;
+
 // The id of a request or of an impression: a text of 1 to 255 bytes.
 pub(crate) fn id_field(object: &Value, field: Field) -> Result<Txt, ReqFault>
     ensures { Answers ReqFault.Memory (faults_at field (id_in (member_name field) (tree_of object.now))) (value_or [] (id_in (member_name field) (tree_of object.now))) result }
@@ -117,15 +117,6 @@ pub(crate) fn floor_field(object: &Value, field: Field) -> Result<Micros, ReqFau
     }
 }
 
-// The text of the currency US dollars (ISO 4217).
-fn us_dollars(alloc: Global) -> Result<Txt, AllocError>
-    ensures { IfOk result (λ t. t ≡ codes "USD") }
-{
-    let mut text = Txt::new(alloc);
-    text.extend(b"USD")?;
-    Ok(text)
-}
-
 // The currency of a floor, and US dollars where it is absent.
 #[tactic(auto, unfolding(crate::specs::Parts::faults_at, json_fields::specs::Fields::or_absent))]
 pub(crate) fn currency_field(alloc: Global, object: &Value, field: Field) -> Result<Txt, ReqFault>
@@ -138,4 +129,13 @@ pub(crate) fn currency_field(alloc: Global, object: &Value, field: Field) -> Res
         },
         None => Ok(us_dollars(alloc)?),
     }
+}
+
+// The text of the currency US dollars (ISO 4217).
+fn us_dollars(alloc: Global) -> Result<Txt, AllocError>
+    ensures { IfOk result (λ t. t ≡ codes "USD") }
+{
+    let mut text = Txt::new(alloc);
+    text.extend(b"USD")?;
+    Ok(text)
 }

@@ -22,41 +22,32 @@ use rtb_num::{List, Txt};
 use rtb_types::{BidRequest, Field, Imp, RequestField};
 use std::alloc::Global;
 
+/// The bid request (OpenRTB 2.5, section 3.2.1) in a JSON text, or the first of its faults in the
+/// order in which the fields are read.
+///
+/// A null is as an absent field, and members that are not listed never matter. What it gives is
+/// valid: 1 to 64 impressions, and no auction type that is not listed.
+pub fn read_request(alloc: Global, doc: &Doc) -> Result<BidRequest, ReqFault>
+    ensures first_fault { Answers ReqFault.Memory (request_faults (doc_tree doc.now)) (request_from (doc_tree doc.now)) result }
+    ensures valid { IfOk result (λ r. IsTrue (is_valid r)) }
+{
+    answer(alloc, doc)
+}
+
+fn answer(alloc: Global, doc: &Doc) -> Result<BidRequest, ReqFault>
+    ensures { Answers ReqFault.Memory (request_faults (doc_tree doc.now)) (request_from (doc_tree doc.now)) result }
+{
+    match fields::object_in(doc.root()) {
+        Ok(request) => request_in(alloc, request),
+        Err(_) => Err(ReqFault::NotObject),
+    }
+}
+
 // First price and second price.
 const AUCTION_TYPES: u8 = 2;
 
 // The type of an auction whose request names none: second price.
 const SECOND_PRICE: u8 = 2;
-
-fn texts_fault(field: RequestField, flaw: ListFlaw) -> ReqFault
-    ensures { result ≡ list_fault (Field.Request field) (Field.RequestItem field) flaw }
-{
-    match flaw {
-        ListFlaw::Whole(flaw) => fault(Field::Request(field), flaw),
-        ListFlaw::Item(place, flaw) => fault(Field::RequestItem(field, place), flaw),
-        ListFlaw::Memory => ReqFault::Memory,
-    }
-}
-
-// A list of texts.
-fn texts_field(alloc: Global, request: &Value, field: RequestField) -> Result<List<Txt>, ReqFault>
-    ensures { Answers ReqFault.Memory (texts_faults field (tree_of request.now)) (texts_from field (tree_of request.now)) result }
-{
-    match fields::texts(alloc, request, field.name()) {
-        Ok(texts) => Ok(texts),
-        Err(flaw) => Err(texts_fault(field, flaw)),
-    }
-}
-
-fn imps_field(alloc: Global, at: u8, request: &Value) -> Result<List<Imp>, ReqFault>
-    requires forms { HasForms (tree_of request.now) }
-    ensures { Answers ReqFault.Memory (all_imps_faults (imp_array (tree_of request.now))) (imps_from at (value_or [] (imp_array (tree_of request.now)))) result }
-{
-    match fields::required_array(request, RequestField::Imp.name()) {
-        Ok(values) => imps_in(alloc, at, values),
-        Err(flaw) => Err(fault(Field::Request(RequestField::Imp), flaw)),
-    }
-}
 
 // The fields of a request, in the order in which they are read.
 #[tactic(auto, using(json_fields::proofs::First::in_front, json_fields::proofs::First::behind, json_fields::proofs::First::neither), unfolding(crate::specs::Request::fields_faults, crate::specs::Request::request_from))]
@@ -99,23 +90,32 @@ fn request_in(alloc: Global, request: &Value) -> Result<BidRequest, ReqFault>
     })
 }
 
-fn answer(alloc: Global, doc: &Doc) -> Result<BidRequest, ReqFault>
-    ensures { Answers ReqFault.Memory (request_faults (doc_tree doc.now)) (request_from (doc_tree doc.now)) result }
+// A list of texts.
+fn texts_field(alloc: Global, request: &Value, field: RequestField) -> Result<List<Txt>, ReqFault>
+    ensures { Answers ReqFault.Memory (texts_faults field (tree_of request.now)) (texts_from field (tree_of request.now)) result }
 {
-    match fields::object_in(doc.root()) {
-        Ok(request) => request_in(alloc, request),
-        Err(_) => Err(ReqFault::NotObject),
+    match fields::texts(alloc, request, field.name()) {
+        Ok(texts) => Ok(texts),
+        Err(flaw) => Err(texts_fault(field, flaw)),
     }
 }
 
-/// The bid request (OpenRTB 2.5, section 3.2.1) in a JSON text, or the first of its faults in the
-/// order in which the fields are read.
-///
-/// A null is as an absent field, and members that are not listed never matter. What it gives is
-/// valid: 1 to 64 impressions, and no auction type that is not listed.
-pub fn read_request(alloc: Global, doc: &Doc) -> Result<BidRequest, ReqFault>
-    ensures first_fault { Answers ReqFault.Memory (request_faults (doc_tree doc.now)) (request_from (doc_tree doc.now)) result }
-    ensures valid { IfOk result (λ r. IsTrue (is_valid r)) }
+fn texts_fault(field: RequestField, flaw: ListFlaw) -> ReqFault
+    ensures { result ≡ list_fault (Field.Request field) (Field.RequestItem field) flaw }
 {
-    answer(alloc, doc)
+    match flaw {
+        ListFlaw::Whole(flaw) => fault(Field::Request(field), flaw),
+        ListFlaw::Item(place, flaw) => fault(Field::RequestItem(field, place), flaw),
+        ListFlaw::Memory => ReqFault::Memory,
+    }
+}
+
+fn imps_field(alloc: Global, at: u8, request: &Value) -> Result<List<Imp>, ReqFault>
+    requires forms { HasForms (tree_of request.now) }
+    ensures { Answers ReqFault.Memory (all_imps_faults (imp_array (tree_of request.now))) (imps_from at (value_or [] (imp_array (tree_of request.now)))) result }
+{
+    match fields::required_array(request, RequestField::Imp.name()) {
+        Ok(values) => imps_in(alloc, at, values),
+        Err(flaw) => Err(fault(Field::Request(RequestField::Imp), flaw)),
+    }
 }

@@ -1,6 +1,7 @@
 -- How the path of a field of a bid request is written (OpenRTB 2.5, section 3.2): names with points
 -- between them, and places of arrays, counted from 0, in square brackets.
-use Rattle.std.specs.Prelude.{ℕ, List, ◌++◌, codes, decimal}
+use Rattle.std.specs.Prelude.{ℕ, List, ◌++◌, codes}
+use Rattle.rtb_num.specs.Paths.{place}
 use Rattle.rtb_types.specs.declared.field.RequestField.{RequestField}
 use Rattle.rtb_types.specs.declared.field.SiteField.{SiteField}
 use Rattle.rtb_types.specs.declared.field.AppField.{AppField}
@@ -126,10 +127,6 @@ member_name (Field.Pmp i f) = pmp_name f
 member_name (Field.Deal i j) = pmp_name PmpField.Deals
 member_name (Field.OfDeal i j f) = deal_name f
 member_name (Field.DealItem i j f k) = deal_name f
-
--- a place in an array
-abbrev pub place : ℕ → List ℕ
-place k = codes "[" ++ decimal k ++ codes "]"
 
 -- an impression, a banner, an entry of a banner's `format`, a private marketplace and a deal
 abbrev pub imp_path : ℕ → List ℕ

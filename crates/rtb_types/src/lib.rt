@@ -7,6 +7,7 @@
 mod field;
 mod path;
 mod request;
+mod show;
 
 pub use field::{
     AppField, BannerField, DealField, DeviceField, Field, GeoField, ImpField, PmpField,

@@ -150,13 +150,6 @@ pub struct Deal {
     pub wadomain: List<Txt>,
 }
 
-// Whether n is from a to b.
-fn is_from(a: usize, b: usize, n: usize) -> bool
-    ensures { result ≡ is_within a b n }
-{
-    a <= n && n <= b
-}
-
 impl Deal {
     fn is_valid(&self) -> bool
         ensures { result ≡ is_valid_deal self.now }
@@ -165,18 +158,19 @@ impl Deal {
     }
 }
 
+// Whether n is from a to b.
+fn is_from(a: usize, b: usize, n: usize) -> bool
+    ensures { result ≡ is_within a b n }
+{
+    a <= n && n <= b
+}
+
 impl Imp {
     fn is_valid(&self) -> bool
         ensures { result ≡ has_valid_deals self.now }
     {
         self.pmp.deals.as_slice().iter().all(|deal| deal.is_valid())
     }
-}
-
-fn are_valid(imps: &[Imp]) -> bool
-    ensures { result ≡ list_all has_valid_deals imps.now }
-{
-    imps.iter().all(|imp| imp.is_valid())
 }
 
 impl BidRequest {
@@ -189,4 +183,10 @@ impl BidRequest {
             && is_from(1, MAX_IMPS, self.imps.len())
             && are_valid(self.imps.as_slice())
     }
+}
+
+fn are_valid(imps: &[Imp]) -> bool
+    ensures { result ≡ list_all has_valid_deals imps.now }
+{
+    imps.iter().all(|imp| imp.is_valid())
 }

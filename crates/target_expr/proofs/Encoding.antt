@@ -2,79 +2,19 @@
 use Rattle.std.proofs.Common.{◌≡◌, ℕ, ◌<◌, ◌≤◌, List, ◌∷◌, length, get_or, Bool, true, false, cond, Some, None, All, leb, refl, sym, ◌∙◌, ap, arith, lit<}
 use Rattle.std.specs.List.{list_all}
 use Rattle.std.proofs.lemmas.Bool.{and_parts, leb-true}
+use Rattle.target_expr.proofs.Attributes.{in_table, same_number}
+use Rattle.rtb_num.proofs.Plain.{heads, tails}
 use Rattle.byte_fields.specs.Codes.{IsReadAt, IsCode, BothValid, both_bytes}
 use Rattle.byte_fields.specs.Encodings.{IsByte, byte_bytes, IsFlag, flag_bytes, IsShort, text_bytes, IsListWithin, list_bytes}
 use Rattle.byte_fields.proofs.Codes.{both_code, code_as, narrow_code, read_both, read_no_first, read_no_second, read_none_as}
 use Rattle.byte_fields.proofs.Rows.{text_code, within_code}
 use Rattle.target_expr.specs.declared.attr.Attr.{Attr}
-use Rattle.target_expr.specs.declared.attr.Attr.TheVariants.{Domain, Site, Bundle, App, Publisher, Country, Region, Metro, City, Zip, DeviceType, Make, Model, Os, Osv, Language, Carrier, ConnectionType, Yob, Gender, TagId, Pos}
 use Rattle.target_expr.specs.declared.pred.Pred.{Pred}
-use Rattle.target_expr.specs.Attributes.{number_of, numbered}
+use Rattle.target_expr.specs.Attributes.{number_of}
 use Rattle.target_expr.specs.Bytes.{IsEncodable, attr_bytes, pred_bytes, conjunction_bytes, expr_bytes}
 use Rattle.target_expr.specs.Kept.{is_kept_conjunction, is_kept_pred}
 use Rattle.target_expr.specs.Loose.{IsAttr, IsLoosePred, IsLooseConjunction, IsLoose}
 use Rattle.target_expr.proofs.Limits.{passes_at, pred_values, conjunction_length, conjunction_preds, expr_length, expr_conjunctions}
-
--- ---- numbers of attributes
-
-pub numbered_again : (a : Attr) → numbered (number_of a) ≡ Some a
-numbered_again Domain = refl
-numbered_again Site = refl
-numbered_again Bundle = refl
-numbered_again App = refl
-numbered_again Publisher = refl
-numbered_again Country = refl
-numbered_again Region = refl
-numbered_again Metro = refl
-numbered_again City = refl
-numbered_again Zip = refl
-numbered_again DeviceType = refl
-numbered_again Make = refl
-numbered_again Model = refl
-numbered_again Os = refl
-numbered_again Osv = refl
-numbered_again Language = refl
-numbered_again Carrier = refl
-numbered_again ConnectionType = refl
-numbered_again Yob = refl
-numbered_again Gender = refl
-numbered_again TagId = refl
-numbered_again Pos = refl
-
-pub number_fits : (a : Attr) → number_of a < 256
-number_fits Domain = lit< tt
-number_fits Site = lit< tt
-number_fits Bundle = lit< tt
-number_fits App = lit< tt
-number_fits Publisher = lit< tt
-number_fits Country = lit< tt
-number_fits Region = lit< tt
-number_fits Metro = lit< tt
-number_fits City = lit< tt
-number_fits Zip = lit< tt
-number_fits DeviceType = lit< tt
-number_fits Make = lit< tt
-number_fits Model = lit< tt
-number_fits Os = lit< tt
-number_fits Osv = lit< tt
-number_fits Language = lit< tt
-number_fits Carrier = lit< tt
-number_fits ConnectionType = lit< tt
-number_fits Yob = lit< tt
-number_fits Gender = lit< tt
-number_fits TagId = lit< tt
-number_fits Pos = lit< tt
-
-same_number : (a b : Attr) → number_of a ≡ number_of b → a ≡ b
-same_number a b e =
-    let one : Some a ≡ Some b = sym (numbered_again a) ∙ ap numbered e ∙ numbered_again b in
-    cc
-
-heads : (c d : ℕ) (s t : List ℕ) → c ∷ s ≡ d ∷ t → c ≡ d
-heads c d s t e = cc
-
-tails : (c d : ℕ) (s t : List ℕ) → c ∷ s ≡ d ∷ t → s ≡ t
-tails c d s t e = cc
 
 pub attr_code : IsCode IsAttr attr_bytes
 attr_code = record { unique = λ a b s t v w h. (same_number a b (heads (number_of a) (number_of b) s t h), tails (number_of a) (number_of b) s t h) }
@@ -93,7 +33,7 @@ byte_code = record { unique = λ x y s t v w h. (heads x y s t h, tails x y s t 
 
 -- no byte, no attribute
 pub attr_no_byte : (bytes : List ℕ) (place : ℕ) → IsReadAt IsByte byte_bytes bytes place None → IsReadAt IsAttr attr_bytes bytes place None
-attr_no_byte bytes place none = λ a m v b. none (number_of a) m (number_fits a) b
+attr_no_byte bytes place none = λ a m v b. none (number_of a) m (in_table a).fits b
 
 -- ---- predicates
 

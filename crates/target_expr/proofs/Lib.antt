@@ -1,3 +1,4 @@
+pub mod Attributes
 pub mod ByteOrder
 pub mod Encoding
 pub mod Enumerated

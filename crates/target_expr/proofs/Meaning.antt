@@ -5,19 +5,22 @@ use Rattle.std.specs.Option.{option_map_or}
 use Rattle.std.specs.Str.{bytes_eq}
 use Rattle.std.specs.Cmp.Lexicographic.{bytes_decides}
 use Rattle.std.proofs.lemmas.Bool.{and_parts, and_from, false_from_ne_true, not-true, not_from_false, or_left, or_right, or_cases, both_ways}
+use Rattle.std.proofs.Math.Bool.{and-true}
 use Rattle.std.proofs.lemmas.List.Folds.{list_any_at}
 use Rattle.std.proofs.lemmas.List.{get_or-take, get_or_at}
+use Rattle.std.specs.Cmp.Derive.{one_truth}
+use Rattle.target_expr.proofs.Attributes.{in_table, own}
+use Rattle.rtb_num.proofs.Plain.{both_nil}
 use Rattle.target_expr.specs.declared.attr.Attr.{Attr}
-use Rattle.target_expr.specs.declared.attr.Attr.TheVariants.{Domain, Site, Bundle, App, Publisher, Country, Region, Metro, City, Zip, DeviceType, Make, Model, Os, Osv, Language, Carrier, ConnectionType, Yob, Gender, TagId, Pos}
 use Rattle.target_expr.specs.declared.pred.Pred.{Pred}
 use Rattle.target_expr.specs.declared.pred.RawPred.{RawPred}
 use Rattle.target_expr.specs.declared.fault.ExprFault.TheVariants.{NoConjunction, EmptyList, AttrTwice, TooMany, UnknownAttr}
-use Rattle.target_expr.specs.Attributes.{attributes, name_of, named}
+use Rattle.target_expr.specs.Attributes.{attributes, name_of, attr_named}
 use Rattle.target_expr.specs.Truth.{conjunction_holds, holds, pred_holds, value_at}
 use Rattle.target_expr.specs.Written.{written_holds, written_pred_holds}
-use Rattle.target_expr.specs.Kept.{conjunction_faults, fault_where, faults, in_order, is_too_much, kept, kept_at, kept_conjunction, kept_in, kept_pred, pred_faults}
+use Rattle.target_expr.specs.Kept.{conjunction_faults, fault_where, faults, in_order, is_too_much, keep, keep_at, keep_conjunction, keep_in, keep_pred, pred_faults}
 use Rattle.target_expr.proofs.ByteOrder.{Has, has_in_order, in_order_has}
-use Rattle.target_expr.proofs.Keeping.{is_of, nil_parts, where_false}
+use Rattle.target_expr.proofs.Keeping.{is_of, where_false}
 
 -- ---- the values
 
@@ -33,14 +36,9 @@ has_from_any p (x ∷ xs) e = elim (or_cases (p x) (list_any p xs) e) [
   | inr f ↦ let (z, (h, g)) = has_from_any p xs f in (z, (inr h, g))
 ]
 
-same_bool : (a b : Bool) → (a ≡ true → b ≡ true) → (b ≡ true → a ≡ true) → a ≡ b
-same_bool true b f g = sym (f refl)
-same_bool false true f g = g refl
-same_bool false false f g = refl
-
 -- a text is one of the values where it is one of those that are kept
 same_any : (p : List ℕ → Bool) (vs : List (List ℕ)) → list_any p (in_order vs) ≡ list_any p vs
-same_any p vs = same_bool _ _
+same_any p vs = one_truth _ _
     (λ e. let (z, (h, g)) = has_from_any p (in_order vs) e in any_from_has p vs z (has_in_order vs z h) g)
     (λ e. let (z, (h, g)) = has_from_any p vs e in any_from_has p (in_order vs) z (in_order_has vs z h) g)
 
@@ -52,42 +50,10 @@ same_in : (o : Option (List ℕ)) (vs : List (List ℕ)) → option_map_or (λ x
 same_in None vs = refl
 same_in (Some x) vs = same_any (λ v. bytes_eq v x) vs
 
-same_pred : (pairs : List (Attr × List ℕ)) (a : Attr) (q : RawPred) → pred_holds pairs (kept_pred a q) ≡ pred_holds pairs (as_written a q)
+same_pred : (pairs : List (Attr × List ℕ)) (a : Attr) (q : RawPred) → pred_holds pairs (keep_pred a q) ≡ pred_holds pairs (as_written a q)
 same_pred pairs a q = ap (λ b. cond q.negated (not b) b) (same_in (value_at pairs a) q.values)
 
 -- ---- one predicate among the attributes
-
-and_true : (b : Bool) → (b && true) ≡ b
-and_true true = refl
-and_true false = refl
-
--- where it has its attribute's name, its own test
-abbrev own : (Attr → Bool) → List ℕ → List Attr → Bool
-own test t attrs = list_all (λ a. not (bytes_eq t (name_of a)) || test a) attrs
-
-own_named : (test : Attr → Bool) (b : Attr) → own test (name_of b) attributes ≡ test b
-own_named test Domain = and_true (test Domain)
-own_named test Site = and_true (test Site)
-own_named test Bundle = and_true (test Bundle)
-own_named test App = and_true (test App)
-own_named test Publisher = and_true (test Publisher)
-own_named test Country = and_true (test Country)
-own_named test Region = and_true (test Region)
-own_named test Metro = and_true (test Metro)
-own_named test City = and_true (test City)
-own_named test Zip = and_true (test Zip)
-own_named test DeviceType = and_true (test DeviceType)
-own_named test Make = and_true (test Make)
-own_named test Model = and_true (test Model)
-own_named test Os = and_true (test Os)
-own_named test Osv = and_true (test Osv)
-own_named test Language = and_true (test Language)
-own_named test Carrier = and_true (test Carrier)
-own_named test ConnectionType = and_true (test ConnectionType)
-own_named test Yob = and_true (test Yob)
-own_named test Gender = and_true (test Gender)
-own_named test TagId = and_true (test TagId)
-own_named test Pos = and_true (test Pos)
 
 found_name : (t : List ℕ) (attrs : List Attr) (b : Attr) → find (λ a. bytes_eq (name_of a) t) attrs ≡ Some b → name_of b ≡ t
 found_name t [] b e = cc
@@ -97,9 +63,9 @@ found_name t (a ∷ attrs) b e =
       | false ↦ λ same f. found_name t attrs b f
     ] refl e
 
-own_is : (test : Attr → Bool) (t : List ℕ) (o : Option Attr) → named t ≡ o → is_none o ≡ false → own test t attributes ≡ option_map_or test o false
+own_is : (test : Attr → Bool) (t : List ℕ) (o : Option Attr) → attr_named t ≡ o → is_none o ≡ false → own test t attributes ≡ option_map_or test o false
 own_is test t None e known = cc
-own_is test t (Some b) e known = ap (λ s. own test s attributes) (sym (found_name t attributes b e)) ∙ own_named test b
+own_is test t (Some b) e known = ap (λ s. own test s attributes) (sym (found_name t attributes b e)) ∙ (in_table b).named test
 
 -- ---- one predicate more
 
@@ -124,43 +90,43 @@ four false b c d = refl
 
 -- what a predicate of a fresh name adds at one attribute
 add_at : (P : Pred → Bool) (a : Attr) (q : RawPred) (o : Option RawPred) (b : Bool) → (b ≡ true → o ≡ None)
-    → list_all P (cons_option (option_map (kept_pred a) (cond b (Some q) o)) []) ≡ ((not b || P (kept_pred a q)) && list_all P (cons_option (option_map (kept_pred a) o) []))
-add_at P a q o true none = ap (λ p. P (kept_pred a q) && list_all P (cons_option (option_map (kept_pred a) p) [])) (sym (none refl))
+    → list_all P (cons_option (option_map (keep_pred a) (cond b (Some q) o)) []) ≡ ((not b || P (keep_pred a q)) && list_all P (cons_option (option_map (keep_pred a) o) []))
+add_at P a q o true none = ap (λ p. P (keep_pred a q) && list_all P (cons_option (option_map (keep_pred a) p) [])) (sym (none refl))
 add_at P a q o false none = refl
 
 split_cons : (P : Pred → Bool) (o : Option Pred) (ps : List Pred) → list_all P (cons_option o ps) ≡ (list_all P (cons_option o []) && list_all P ps)
 split_cons P None ps = refl
-split_cons P (Some p) ps = ap (λ b. b && list_all P ps) (sym (and_true (P p)))
+split_cons P (Some p) ps = ap (λ b. b && list_all P ps) (sym (and-true (P p)))
 
 add_all : (P : Pred → Bool) (q : RawPred) (c : List RawPred) (attrs : List Attr) → is_fresh q.attr c ≡ true
-    → list_all P (kept_in (q ∷ c) attrs) ≡ (own (λ a. P (kept_pred a q)) q.attr attrs && list_all P (kept_in c attrs))
+    → list_all P (keep_in (q ∷ c) attrs) ≡ (own (λ a. P (keep_pred a q)) q.attr attrs && list_all P (keep_in c attrs))
 add_all P q c [] fresh = refl
 add_all P q c (a ∷ attrs) fresh =
-    split_cons P (kept_at (q ∷ c) a) (kept_in (q ∷ c) attrs)
-    ∙ ap (λ b. b && list_all P (kept_in (q ∷ c) attrs)) (add_at P a q (find (is_of a) c) (is_of a q) (λ e. no_other a q.attr c ((bytes_decides q.attr (name_of a)).0 e) fresh))
-    ∙ ap (λ b. ((not (is_of a q) || P (kept_pred a q)) && list_all P (cons_option (kept_at c a) [])) && b) (add_all P q c attrs fresh)
-    ∙ four (not (is_of a q) || P (kept_pred a q)) (list_all P (cons_option (kept_at c a) [])) (own (λ a. P (kept_pred a q)) q.attr attrs) (list_all P (kept_in c attrs))
-    ∙ ap (λ b. ((not (is_of a q) || P (kept_pred a q)) && own (λ a. P (kept_pred a q)) q.attr attrs) && b) (sym (split_cons P (kept_at c a) (kept_in c attrs)))
+    split_cons P (keep_at (q ∷ c) a) (keep_in (q ∷ c) attrs)
+    ∙ ap (λ b. b && list_all P (keep_in (q ∷ c) attrs)) (add_at P a q (find (is_of a) c) (is_of a q) (λ e. no_other a q.attr c ((bytes_decides q.attr (name_of a)).0 e) fresh))
+    ∙ ap (λ b. ((not (is_of a q) || P (keep_pred a q)) && list_all P (cons_option (keep_at c a) [])) && b) (add_all P q c attrs fresh)
+    ∙ four (not (is_of a q) || P (keep_pred a q)) (list_all P (cons_option (keep_at c a) [])) (own (λ a. P (keep_pred a q)) q.attr attrs) (list_all P (keep_in c attrs))
+    ∙ ap (λ b. ((not (is_of a q) || P (keep_pred a q)) && own (λ a. P (keep_pred a q)) q.attr attrs) && b) (sym (split_cons P (keep_at c a) (keep_in c attrs)))
 
 -- ---- conjunctions
 
 -- every name is an attribute's, and none stands twice
 abbrev are_apart : List RawPred → Bool
 are_apart [] = true
-are_apart (q ∷ c) = not (is_none (named q.attr)) && is_fresh q.attr c && are_apart c
+are_apart (q ∷ c) = not (is_none (attr_named q.attr)) && is_fresh q.attr c && are_apart c
 
-same_option : (pairs : List (Attr × List ℕ)) (q : RawPred) (o : Option Attr) → option_map_or (λ a. pred_holds pairs (kept_pred a q)) o false ≡ option_map_or (λ a. pred_holds pairs (as_written a q)) o false
+same_option : (pairs : List (Attr × List ℕ)) (q : RawPred) (o : Option Attr) → option_map_or (λ a. pred_holds pairs (keep_pred a q)) o false ≡ option_map_or (λ a. pred_holds pairs (as_written a q)) o false
 same_option pairs q None = refl
 same_option pairs q (Some a) = same_pred pairs a q
 
-same_conjunction : (pairs : List (Attr × List ℕ)) (c : List RawPred) → are_apart c ≡ true → conjunction_holds pairs (kept_conjunction c) ≡ list_all (written_pred_holds pairs) c
+same_conjunction : (pairs : List (Attr × List ℕ)) (c : List RawPred) → are_apart c ≡ true → conjunction_holds pairs (keep_conjunction c) ≡ list_all (written_pred_holds pairs) c
 same_conjunction pairs [] apart = refl
 same_conjunction pairs (q ∷ c) apart =
-    let parts = and_parts (not (is_none (named q.attr)) && is_fresh q.attr c) (are_apart c) apart in
-    let first = and_parts (not (is_none (named q.attr))) (is_fresh q.attr c) parts.0 in
+    let parts = and_parts (not (is_none (attr_named q.attr)) && is_fresh q.attr c) (are_apart c) apart in
+    let first = and_parts (not (is_none (attr_named q.attr))) (is_fresh q.attr c) parts.0 in
     add_all (pred_holds pairs) q c attributes first.1
-    ∙ ap (λ b. b && list_all (pred_holds pairs) (kept_in c attributes))
-    (own_is (λ a. pred_holds pairs (kept_pred a q)) q.attr (named q.attr) refl (not-true _ first.0) ∙ same_option pairs q (named q.attr))
+    ∙ ap (λ b. b && list_all (pred_holds pairs) (keep_in c attributes))
+    (own_is (λ a. pred_holds pairs (keep_pred a q)) q.attr (attr_named q.attr) refl (not-true _ first.0) ∙ same_option pairs q (attr_named q.attr))
     ∙ ap (λ b. written_pred_holds pairs q && b) (same_conjunction pairs c parts.1)
 
 -- ---- what has no fault
@@ -169,10 +135,10 @@ fresh_from : (i : ℕ) (whole : List RawPred) (q : RawPred) (m : ℕ) → m < le
     → flat_map (pred_faults i whole) (enumerate_from n c) ≡ [] → is_fresh q.attr c ≡ true
 fresh_from i whole q m within is n [] before e = refl
 fresh_from i whole q m within is n (p ∷ c) before e =
-    let parts = nil_parts (pred_faults i whole (n, p)) (flat_map (pred_faults i whole) (enumerate_from (n + 1) c)) e in
-    let last = nil_parts _ (fault_where (is_too_much p) (TooMany i n)) parts.0 in
-    let third = nil_parts _ (fault_where (nat_eq (length p.values) 0) (EmptyList i n)) last.0 in
-    let second = nil_parts (fault_where (is_none (named p.attr)) (UnknownAttr i n)) (fault_where (list_any (λ (r : RawPred). bytes_eq r.attr p.attr) (take n whole)) (AttrTwice i n)) third.0 in
+    let parts = both_nil (pred_faults i whole (n, p)) (flat_map (pred_faults i whole) (enumerate_from (n + 1) c)) e in
+    let last = both_nil _ (fault_where (is_too_much p) (TooMany i n)) parts.0 in
+    let third = both_nil _ (fault_where (nat_eq (length p.values) 0) (EmptyList i n)) last.0 in
+    let second = both_nil (fault_where (is_none (attr_named p.attr)) (UnknownAttr i n)) (fault_where (list_any (λ (r : RawPred). bytes_eq r.attr p.attr) (take n whole)) (AttrTwice i n)) third.0 in
     let none : list_any (λ (r : RawPred). bytes_eq r.attr p.attr) (take n whole) ≡ false = where_false _ (AttrTwice i n) second.1 in
     let there : m < length (take n whole) = omega (arith, length-take n whole) in
     let differ : bytes_eq q.attr p.attr ≡ false = false_from_ne_true _ (λ f.
@@ -183,28 +149,28 @@ fresh_from i whole q m within is n (p ∷ c) before e =
 apart_from : (i : ℕ) (whole pre c : List RawPred) (n : ℕ) → whole ≡ pre ++ c → length pre ≡ n → flat_map (pred_faults i whole) (enumerate_from n c) ≡ [] → are_apart c ≡ true
 apart_from i whole pre [] n is size e = refl
 apart_from i whole pre (q ∷ c) n is size e =
-    let parts = nil_parts (pred_faults i whole (n, q)) (flat_map (pred_faults i whole) (enumerate_from (n + 1) c)) e in
-    let last = nil_parts _ (fault_where (is_too_much q) (TooMany i n)) parts.0 in
-    let third = nil_parts _ (fault_where (nat_eq (length q.values) 0) (EmptyList i n)) last.0 in
-    let second = nil_parts (fault_where (is_none (named q.attr)) (UnknownAttr i n)) (fault_where (list_any (λ (r : RawPred). bytes_eq r.attr q.attr) (take n whole)) (AttrTwice i n)) third.0 in
-    let known : is_none (named q.attr) ≡ false = where_false _ (UnknownAttr i n) second.0 in
+    let parts = both_nil (pred_faults i whole (n, q)) (flat_map (pred_faults i whole) (enumerate_from (n + 1) c)) e in
+    let last = both_nil _ (fault_where (is_too_much q) (TooMany i n)) parts.0 in
+    let third = both_nil _ (fault_where (nat_eq (length q.values) 0) (EmptyList i n)) last.0 in
+    let second = both_nil (fault_where (is_none (attr_named q.attr)) (UnknownAttr i n)) (fault_where (list_any (λ (r : RawPred). bytes_eq r.attr q.attr) (take n whole)) (AttrTwice i n)) third.0 in
+    let known : is_none (attr_named q.attr) ≡ false = where_false _ (UnknownAttr i n) second.0 in
     let here : get_or whole n q ≡ q = ap (λ l. get_or l n q) is ∙ get_or_at pre q c q n size in
     let within : n < length whole = omega (arith, ap length is, length-append pre (q ∷ c), size) in
     let longer : length (pre ++ q ∷ []) ≡ n + 1 = omega (arith, length-append pre (q ∷ []), size) in
     and_from _ _ (and_from _ _ (not_from_false _ known) (fresh_from i whole q n within here (n + 1) c (omega arith) parts.1))
     (apart_from i whole (pre ++ q ∷ []) c (n + 1) (is ∙ sym (append_assoc pre (q ∷ []) c)) longer parts.1)
 
-conjunction_means : (pairs : List (Attr × List ℕ)) (i : ℕ) (c : List RawPred) → conjunction_faults (i, c) ≡ [] → conjunction_holds pairs (kept_conjunction c) ≡ list_all (written_pred_holds pairs) c
+conjunction_means : (pairs : List (Attr × List ℕ)) (i : ℕ) (c : List RawPred) → conjunction_faults (i, c) ≡ [] → conjunction_holds pairs (keep_conjunction c) ≡ list_all (written_pred_holds pairs) c
 conjunction_means pairs i c e =
-    let parts = nil_parts (fault_where (ltb 16 (length c)) (TooMany i 0)) (flat_map (pred_faults i c) (enumerate_from 0 c)) e in
+    let parts = both_nil (fault_where (ltb 16 (length c)) (TooMany i 0)) (flat_map (pred_faults i c) (enumerate_from 0 c)) e in
     same_conjunction pairs c (apart_from i c [] c 0 refl refl parts.1)
 
-conjunctions_mean : (pairs : List (Attr × List ℕ)) (n : ℕ) (raw : List (List RawPred)) → flat_map conjunction_faults (enumerate_from n raw) ≡ [] → holds pairs (kept raw) ≡ written_holds pairs raw
+conjunctions_mean : (pairs : List (Attr × List ℕ)) (n : ℕ) (raw : List (List RawPred)) → flat_map conjunction_faults (enumerate_from n raw) ≡ [] → holds pairs (keep raw) ≡ written_holds pairs raw
 conjunctions_mean pairs n [] e = refl
 conjunctions_mean pairs n (c ∷ raw) e =
-    let parts = nil_parts (conjunction_faults (n, c)) (flat_map conjunction_faults (enumerate_from (n + 1) raw)) e in
-    ap (λ b. b || holds pairs (kept raw)) (conjunction_means pairs n c parts.0) ∙ ap (λ b. list_all (written_pred_holds pairs) c || b) (conjunctions_mean pairs (n + 1) raw parts.1)
+    let parts = both_nil (conjunction_faults (n, c)) (flat_map conjunction_faults (enumerate_from (n + 1) raw)) e in
+    ap (λ b. b || holds pairs (keep raw)) (conjunction_means pairs n c parts.0) ∙ ap (λ b. list_all (written_pred_holds pairs) c || b) (conjunctions_mean pairs (n + 1) raw parts.1)
 
-pub kept_means : (raw : List (List RawPred)) (pairs : List (Attr × List ℕ)) → faults raw ≡ [] → holds pairs (kept raw) ≡ written_holds pairs raw
+pub kept_means : (raw : List (List RawPred)) (pairs : List (Attr × List ℕ)) → faults raw ≡ [] → holds pairs (keep raw) ≡ written_holds pairs raw
 kept_means raw pairs e =
-    conjunctions_mean pairs 0 raw (nil_parts (fault_where (nat_eq (length raw) 0) NoConjunction ++ fault_where (ltb 64 (length raw)) (TooMany 0 0)) (flat_map conjunction_faults (enumerate_from 0 raw)) e).1
+    conjunctions_mean pairs 0 raw (both_nil (fault_where (nat_eq (length raw) 0) NoConjunction ++ fault_where (ltb 64 (length raw)) (TooMany 0 0)) (flat_map conjunction_faults (enumerate_from 0 raw)) e).1

@@ -61,9 +61,9 @@ name_of TagId = codes "tagid"
 name_of Pos = codes "pos"
 
 -- the attribute of this name
-abbrev pub named : List ℕ → Option Attr
-named text = find (λ a. bytes_eq (name_of a) text) attributes
+abbrev pub attr_named : List ℕ → Option Attr
+attr_named text = find (λ a. bytes_eq (name_of a) text) attributes
 
 -- the attribute of this number
-abbrev pub numbered : ℕ → Option Attr
-numbered n = find (λ a. number_of a == n) attributes
+abbrev pub attr_numbered : ℕ → Option Attr
+attr_numbered n = find (λ a. number_of a == n) attributes

@@ -1,5 +1,5 @@
 -- Expressions as they are written, their faults, and how they are kept.
-use Rattle.std.specs.Prelude.{ℕ, ◌==◌, ◌&&◌, ◌||◌, nat_lt, nat_le, List, [], ◌∷◌, ◌++◌, length, take, map, ◌≡◌, Bool, true, cond, Option, Some, is_none, option_map, find}
+use Rattle.std.specs.Prelude.{ℕ, ◌==◌, ◌&&◌, ◌||◌, nat_lt, nat_le, List, [], ◌∷◌, ◌++◌, length, take, map, ◌≡◌, Bool, true, if◌then◌else◌, Option, Some, is_none, option_map, find}
 use Rattle.std.specs.List.{list_all, list_any, flat_map, filter_map, enumerate_from}
 use Rattle.std.specs.Str.{bytes_eq}
 use Rattle.std.specs.Ordering.{nat_cmp, is_lt}
@@ -11,12 +11,12 @@ use Rattle.target_expr.specs.declared.fault.ExprFault.{ExprFault}
 use Rattle.target_expr.specs.declared.fault.ExprFault.TheVariants.{NoConjunction, EmptyList, AttrTwice, TooMany, UnknownAttr, Memory}
 use Rattle.target_expr.specs.declared.pred.RawPred.{RawPred}
 use Rattle.target_expr.specs.declared.pred.Pred.{Pred}
-use Rattle.target_expr.specs.Attributes.{attributes, name_of, named, number_of}
+use Rattle.target_expr.specs.Attributes.{attributes, name_of, attr_named, number_of}
 
 -- ---- faults, in the order of reading
 
 abbrev pub fault_where : Bool → ExprFault → List ExprFault
-fault_where b f = cond b (f ∷ []) []
+fault_where b f = if b then f ∷ [] else []
 
 -- more values than the limit as they are written, or one that is too long
 abbrev pub is_too_much : RawPred → Bool
@@ -24,7 +24,7 @@ is_too_much p = nat_lt 256 (length p.values) || list_any (λ v. nat_lt 255 (leng
 
 -- of the predicate p at place j of the conjunction c, which stands at place i
 abbrev pub pred_faults : ℕ → List RawPred → ℕ × RawPred → List ExprFault
-pred_faults i c (j, p) = fault_where (is_none (named p.attr)) (UnknownAttr i j)
+pred_faults i c (j, p) = fault_where (is_none (attr_named p.attr)) (UnknownAttr i j)
     ++ fault_where (list_any (λ (q : RawPred). bytes_eq q.attr p.attr) (take j c)) (AttrTwice i j)
     ++ fault_where (length p.values == 0) (EmptyList i j)
     ++ fault_where (is_too_much p) (TooMany i j)
@@ -60,23 +60,23 @@ abbrev pub in_order : List (List ℕ) → List (List ℕ)
 in_order [] = []
 in_order (t ∷ ts) = put_in t (in_order ts)
 
-abbrev pub kept_pred : Attr → RawPred → Pred
-kept_pred a p = record { attr = a; negated = p.negated; values = in_order p.values }
+abbrev pub keep_pred : Attr → RawPred → Pred
+keep_pred a p = record { attr = a; negated = p.negated; values = in_order p.values }
 
 -- the predicate of the attribute, where the conjunction has one
-abbrev pub kept_at : List RawPred → Attr → Option Pred
-kept_at c a = option_map (kept_pred a) (find (λ (p : RawPred). bytes_eq p.attr (name_of a)) c)
+abbrev pub keep_at : List RawPred → Attr → Option Pred
+keep_at c a = option_map (keep_pred a) (find (λ (p : RawPred). bytes_eq p.attr (name_of a)) c)
 
 -- the predicates of these attributes
-abbrev pub kept_in : List RawPred → List Attr → List Pred
-kept_in c attrs = filter_map (kept_at c) attrs
+abbrev pub keep_in : List RawPred → List Attr → List Pred
+keep_in c attrs = filter_map (keep_at c) attrs
 
 -- the predicates in the order of the table of attributes
-abbrev pub kept_conjunction : List RawPred → List Pred
-kept_conjunction c = kept_in c attributes
+abbrev pub keep_conjunction : List RawPred → List Pred
+keep_conjunction c = keep_in c attributes
 
-abbrev pub kept : List (List RawPred) → List (List Pred)
-kept raw = map kept_conjunction raw
+abbrev pub keep : List (List RawPred) → List (List Pred)
+keep raw = map keep_conjunction raw
 
 -- ---- what every kept expression is
 

@@ -1,7 +1,7 @@
 -- When an expression is true (Whang et al., "Indexing Boolean Expressions", VLDB 2009, section 2):
 -- disjunctions of conjunctions of "in" and "not in". That "not in" is true of an attribute that is
 -- absent is this exchange's own choice.
-use Rattle.std.specs.Prelude.{ℕ, ◌+◌, ◌==◌, ◌&&◌, not, min, List, [], ◌∷◌, length, Bool, true, false, cond, Option, option_map, find}
+use Rattle.std.specs.Prelude.{ℕ, ◌+◌, ◌==◌, ◌&&◌, not, min, List, [], ◌∷◌, length, Bool, true, false, if◌then◌else◌, Option, option_map, find}
 use Rattle.std.specs.List.{list_all, list_any, position_or_len}
 use Rattle.std.specs.Option.{option_map_or}
 use Rattle.std.specs.Str.{bytes_eq}
@@ -27,7 +27,7 @@ is_in pairs p = option_map_or (λ x. list_any (λ v. bytes_eq v x) p.values) (va
 
 -- "not in" is true where "in" is false
 abbrev pub pred_holds : List (Attr × List ℕ) → Pred → Bool
-pred_holds pairs p = cond p.negated (not (is_in pairs p)) (is_in pairs p)
+pred_holds pairs p = if p.negated then not (is_in pairs p) else is_in pairs p
 
 abbrev pub conjunction_holds : List (Attr × List ℕ) → List Pred → Bool
 conjunction_holds pairs c = list_all (pred_holds pairs) c
@@ -36,5 +36,5 @@ abbrev pub holds : List (Attr × List ℕ) → List (List Pred) → Bool
 holds pairs e = list_any (conjunction_holds pairs) e
 
 -- the place, from 1 on, of the first conjunction that is true, or how many there are
-abbrev pub tested : List (Attr × List ℕ) → List (List Pred) → ℕ
-tested pairs e = min (position_or_len (conjunction_holds pairs) e + 1) (length e)
+abbrev pub tests_in : List (Attr × List ℕ) → List (List Pred) → ℕ
+tests_in pairs e = min (position_or_len (conjunction_holds pairs) e + 1) (length e)

@@ -1,5 +1,5 @@
 ghost use Rattle.std.specs.Prelude.{◌≡◌, ◌≤◌, codes};
-ghost use Rattle.target_expr.specs.Attributes.{attributes, name_of, named, number_of, numbered};
+ghost use Rattle.target_expr.specs.Attributes.{attributes, name_of, attr_named, number_of, attr_numbered};
 
 /// An attribute of an impression that an expression may speak of. Each is a field of a bid request
 /// (OpenRTB 2.5, sections 3.2.4 to 3.2.20).
@@ -79,7 +79,7 @@ pub(crate) const ATTRIBUTES: [Attr; 22] = [
 
 /// The attribute of this name, or none where no attribute has it.
 pub fn attr_named(name: &[u8]) -> Option<Attr>
-    ensures { result ≡ named name.now }
+    ensures { result ≡ attr_named name.now }
 {
     ATTRIBUTES.iter().copied().find(|attr| attr.name() == name)
 }
@@ -94,7 +94,7 @@ impl Attr {
 
     /// The attribute of this number, or none below 1 and above 22.
     pub fn with_number(n: u8) -> Option<Attr>
-        ensures { result ≡ numbered n }
+        ensures { result ≡ attr_numbered n }
     {
         ATTRIBUTES.iter().copied().find(|attr| attr.number() == n)
     }

@@ -1,7 +1,7 @@
 ghost use Rattle.std.specs.Prelude.{◌≡◌, ◌≤◌, ◌==◌, is_none, length, nat_lt};
 ghost use Rattle.std.specs.List.{list_any};
 ghost use Rattle.std.specs.Str.{bytes_eq};
-ghost use Rattle.target_expr.specs.Attributes.{named};
+ghost use Rattle.target_expr.specs.Attributes.{attr_named};
 ghost use Rattle.target_expr.specs.Kept.{conjunction_faults, faults, first_of, is_too_much, pred_faults};
 
 use crate::attr::attr_named;
@@ -86,7 +86,7 @@ fn pred_fault(i: usize, j: usize, conjunction: &[RawPred], pred: &RawPred) -> Op
 
 // Whether no attribute has its name.
 fn is_unknown(pred: &RawPred) -> bool
-    ensures { result ≡ is_none (named pred.now.attr) }
+    ensures { result ≡ is_none (attr_named pred.now.attr) }
 {
     attr_named(pred.attr.as_bytes()).is_none()
 }

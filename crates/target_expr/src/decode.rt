@@ -14,13 +14,15 @@ use crate::{MOST_CONJUNCTIONS, MOST_PREDICATES, MOST_VALUES};
 use byte_fields::{Element, Found, get_byte, get_flag, get_list, get_texts, put_list};
 use rtb_num::{List, Txt};
 use std::alloc::{AllocError, Global};
+use thiserror::Error;
 
 /// Why no expression is decoded.
-#[derive(Clone, Copy, Debug, PartialEq, Eq)]
+#[derive(Clone, Copy, Debug, PartialEq, Eq, Error)]
 pub enum ExprBytes {
     /// The bytes of no expression begin at this place.
+    #[error("the bytes of no expression begin at byte {at}")]
     Torn { at: usize },
-    /// Memory was refused.
+    #[error("memory ran out")]
     Memory,
 }
 

@@ -4,7 +4,7 @@ ghost use Rattle.target_expr.specs.declared.attr.Attr.{Attr};
 ghost use Rattle.target_expr.specs.declared.pred.Pred.{Pred};
 ghost use Rattle.target_expr.specs.declared.pred.RawPred.{RawPred};
 ghost use Rattle.target_expr.specs.Bytes.{IsEncodable, expr_bytes};
-ghost use Rattle.target_expr.specs.Kept.{faults, kept};
+ghost use Rattle.target_expr.specs.Kept.{faults, keep};
 ghost use Rattle.target_expr.specs.Truth.{holds};
 ghost use Rattle.target_expr.specs.Written.{written_holds};
 
@@ -24,5 +24,5 @@ pub fn encoded_expressions_are_read_again()
 /// The law of meaning, with nothing to run: under every assignment what is kept is true exactly where
 /// what is written is.
 pub fn keeping_changes_no_truth()
-    ensures { (raw : List (List RawPred)) (pairs : List (Attr × List ℕ)) → faults raw ≡ [] → holds pairs (kept raw) ≡ written_holds pairs raw }
+    ensures { (raw : List (List RawPred)) (pairs : List (Attr × List ℕ)) → faults raw ≡ [] → holds pairs (keep raw) ≡ written_holds pairs raw }
 {}

@@ -2,7 +2,7 @@ ghost use Rattle.std.specs.Prelude.{◌≡◌, [], ◌∷◌, ◌++◌, IfOk, If
 ghost use Rattle.std.specs.Option.{option_copied};
 ghost use Rattle.std.specs.Str.{bytes_eq};
 ghost use Rattle.target_expr.specs.Attributes.{name_of};
-ghost use Rattle.target_expr.specs.Kept.{IsFirstUnlessMemory, faults, in_order, kept, kept_conjunction, kept_in, kept_pred};
+ghost use Rattle.target_expr.specs.Kept.{IsFirstUnlessMemory, faults, in_order, keep, keep_conjunction, keep_in, keep_pred};
 
 use crate::attr::{ATTRIBUTES, Attr};
 use crate::check::first_fault;
@@ -21,13 +21,13 @@ impl Expr {
     /// `EmptyList`, `TooMany`.
     pub fn make(alloc: Global, raw: &List<List<RawPred>>) -> Result<Expr, ExprFault>
         ensures right { IfOk result (λ _. faults raw.now ≡ []) }
-        ensures value { IfOk result (λ e. e ≡ kept raw.now) }
+        ensures value { IfOk result (λ e. e ≡ keep raw.now) }
         ensures fault { IfErr result (IsFirstUnlessMemory (faults raw.now)) }
     {
         match first_fault(raw.as_slice()) {
             Some(fault) => Err(fault),
             None => {
-                let conjunctions = kept_all(alloc, raw.as_slice())?;
+                let conjunctions = keep_all(alloc, raw.as_slice())?;
                 Ok(Expr::of(conjunctions))
             }
         }
@@ -35,27 +35,27 @@ impl Expr {
 }
 
 // The conjunctions as they are kept.
-fn kept_all(alloc: Global, raw: &[List<RawPred>]) -> Result<Vec<List<Pred>>, AllocError>
-    ensures { IfOk result (λ all. all.items ≡ kept raw.now) }
+fn keep_all(alloc: Global, raw: &[List<RawPred>]) -> Result<Vec<List<Pred>>, AllocError>
+    ensures { IfOk result (λ all. all.items ≡ keep raw.now) }
 {
     let mut all = Vec::with_capacity(alloc, raw.len())?;
     for conjunction in raw {
-        all.push(kept_conjunction(alloc, conjunction.as_slice())?)?;
+        all.push(keep_conjunction(alloc, conjunction.as_slice())?)?;
     }
     Ok(all)
 }
 
 // The predicates of a conjunction in the order of their attributes.
-fn kept_conjunction(alloc: Global, conjunction: &[RawPred]) -> Result<List<Pred>, AllocError>
-    ensures { IfOk result (λ preds. preds ≡ kept_conjunction conjunction.now) }
+fn keep_conjunction(alloc: Global, conjunction: &[RawPred]) -> Result<List<Pred>, AllocError>
+    ensures { IfOk result (λ preds. preds ≡ keep_conjunction conjunction.now) }
 {
-    kept_in(alloc, conjunction, &ATTRIBUTES)
+    keep_in(alloc, conjunction, &ATTRIBUTES)
 }
 
 // Its predicates of these attributes.
 #[tactic(auto, using(crate::proofs::Keeping::kept_more))]
-fn kept_in(alloc: Global, conjunction: &[RawPred], attrs: &[Attr]) -> Result<List<Pred>, AllocError>
-    ensures { IfOk result (λ preds. preds ≡ kept_in conjunction.now attrs.now) }
+fn keep_in(alloc: Global, conjunction: &[RawPred], attrs: &[Attr]) -> Result<List<Pred>, AllocError>
+    ensures { IfOk result (λ preds. preds ≡ keep_in conjunction.now attrs.now) }
 {
     let mut preds = List::from_vec(Vec::with_capacity(alloc, conjunction.len())?);
     for attr in attrs {
@@ -71,10 +71,10 @@ fn push_kept(
     attr: Attr,
     preds: &mut List<Pred>,
 ) -> Result<(), AllocError>
-    ensures { OnOk result (preds.new ≡ preds.old ++ kept_in conjunction.now (attr ∷ [])) }
+    ensures { OnOk result (preds.new ≡ preds.old ++ keep_in conjunction.now (attr ∷ [])) }
 {
     if let Some(pred) = find_named(conjunction, attr) {
-        preds.push(kept_pred(alloc, attr, pred)?)?;
+        preds.push(keep_pred(alloc, attr, pred)?)?;
     }
     Ok(())
 }
@@ -89,8 +89,8 @@ fn find_named(conjunction: &[RawPred], attr: Attr) -> Option<&RawPred>
 }
 
 // The predicate with its values in byte order.
-fn kept_pred(alloc: Global, attr: Attr, pred: &RawPred) -> Result<Pred, AllocError>
-    ensures { IfOk result (λ p. p ≡ kept_pred attr pred.now) }
+fn keep_pred(alloc: Global, attr: Attr, pred: &RawPred) -> Result<Pred, AllocError>
+    ensures { IfOk result (λ p. p ≡ keep_pred attr pred.now) }
 {
     let values = in_order(alloc, pred.values.as_slice())?;
     Ok(Pred {

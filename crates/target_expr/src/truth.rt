@@ -2,7 +2,7 @@ ghost use Rattle.std.specs.Prelude.{◌≡◌, ◌+◌, IsTrue};
 ghost use Rattle.std.specs.List.{list_all, list_any};
 ghost use Rattle.std.specs.Str.{bytes_eq};
 ghost use Rattle.target_expr.specs.Kept.{is_kept_pred, rise, text_below};
-ghost use Rattle.target_expr.specs.Truth.{conjunction_holds, holds, is_in, pred_holds, tested};
+ghost use Rattle.target_expr.specs.Truth.{conjunction_holds, holds, is_in, pred_holds, tests_in};
 
 use crate::assignment::Assignment;
 use crate::expr::Expr;
@@ -18,7 +18,7 @@ impl Expr {
     /// that is true.
     pub fn holds<L: Ledger>(&self, assignment: &Assignment, steps: &mut Steps<L>) -> bool
         ensures value { result ≡ holds assignment.now self.now }
-        ensures steps { steps.new ≡ steps.old + tested assignment.now self.now }
+        ensures steps { steps.new ≡ steps.old + tests_in assignment.now self.now }
     {
         for conjunction in self.as_slice() {
             steps.tick();

@@ -50,42 +50,6 @@ impl Starts<Counter> for Zero {
     ghost origin = { 0 };
 }
 
-fn leave_adding<N: Adds>(
-    lock: &HistLock<Counter>,
-    seat: Seat<Counter>,
-    turn: Turn<Counter>,
-) -> Seat<Counter>
-    requires lock { (seat.lock ≡ lock.now) × (seat.turn ≡ true) }
-    requires value { Counts seat.origin turn.value (seat.seen ++ N.added ∷ []) }
-    requires names { N.added ≡ seat.worker }
-    ensures { result ≡ seat_with seat (seat.seen ++ seat.worker ∷ []) false }
-{
-    lock.leave_with::<Entry<N>>(seat, turn)
-}
-
-// So many steps of a generator of numbers, which stand for what a turn does.
-fn busy(work: u32, from: u64) -> u64 {
-    let mut n = from;
-    for _ in 0..work {
-        n = n
-            .wrapping_mul(6364136223846793005)
-            .wrapping_add(1442695040888963407);
-    }
-    n
-}
-
-// Works, and adds one.
-fn add<R: Wait>(rt: &R, lock: &HistLock<Counter>, seat: Seat<Counter>, work: u32) -> Seat<Counter>
-    requires { CanAdd lock.now seat }
-    ensures same { IsSameSeat seat result }
-    ensures seen { (rest : List ℕ) × (result.seen ≡ (seat.seen ++ rest) ++ seat.worker ∷ []) × (entries_of adder seat.worker rest ≡ []) }
-{
-    let (seat, mut turn) = lock.enter(rt, seat);
-    turn.value.sum = busy(work, turn.value.sum);
-    turn.value.count += 1;
-    leave_adding::<Brand>(lock, seat, turn)
-}
-
 /// Adds one so many times.
 pub(super) fn add_many<R: Wait>(
     rt: &R,
@@ -102,4 +66,40 @@ pub(super) fn add_many<R: Wait>(
         seat = add(rt, lock, seat, work);
     }
     seat
+}
+
+// Works, and adds one.
+fn add<R: Wait>(rt: &R, lock: &HistLock<Counter>, seat: Seat<Counter>, work: u32) -> Seat<Counter>
+    requires { CanAdd lock.now seat }
+    ensures same { IsSameSeat seat result }
+    ensures seen { (rest : List ℕ) × (result.seen ≡ (seat.seen ++ rest) ++ seat.worker ∷ []) × (entries_of adder seat.worker rest ≡ []) }
+{
+    let (seat, mut turn) = lock.enter(rt, seat);
+    turn.value.sum = busy(work, turn.value.sum);
+    turn.value.count += 1;
+    leave_adding::<Brand>(lock, seat, turn)
+}
+
+// So many steps of a generator of numbers, which stand for what a turn does.
+fn busy(work: u32, from: u64) -> u64 {
+    let mut n = from;
+    for _ in 0..work {
+        n = n
+            .wrapping_mul(6364136223846793005)
+            .wrapping_add(1442695040888963407);
+    }
+    n
+}
+
+fn leave_adding<N: Adds>(
+    lock: &HistLock<Counter>,
+    seat: Seat<Counter>,
+    turn: Turn<Counter>,
+) -> Seat<Counter>
+    requires lock { (seat.lock ≡ lock.now) × (seat.turn ≡ true) }
+    requires value { Counts seat.origin turn.value (seat.seen ++ N.added ∷ []) }
+    requires names { N.added ≡ seat.worker }
+    ensures { result ≡ seat_with seat (seat.seen ++ seat.worker ∷ []) false }
+{
+    lock.leave_with::<Entry<N>>(seat, turn)
 }

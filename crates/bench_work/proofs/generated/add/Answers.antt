@@ -1,5 +1,5 @@
 use Rattle.std.proofs.Common.{sym, ◌∙◌, ap}
-use Rattle.bench_work.proofs.Singles.{has_attr, single_push}
+use Rattle.target_expr.proofs.Singles.{has_attr, single_push}
 use Rattle.bench_work.proofs.generated.add.Goals as goal
 
 pub returns : goal.returns

@@ -1,4 +1,4 @@
 use Rattle.bench_work.proofs.work_line.work_line.Given as goal
 
-abbrev pub ghosts-line_counted : goal.ghosts-line_counted
-ghosts-line_counted a = record { name = a.blank.name; parts = a.blank.parts }
+abbrev pub ghosts-line_by : goal.ghosts-line_by
+ghosts-line_by a = record { name = a.blank.name; parts = a.blank.parts }

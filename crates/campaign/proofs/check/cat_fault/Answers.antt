@@ -4,12 +4,12 @@ use Rattle.campaign.specs.Faults.{is_list}
 use Rattle.campaign.proofs.check.cat_fault.Goals as goal
 use Rattle.campaign.proofs.Firsts.{texts_first}
 
-pub returns-in_err-at : goal.returns-in_err-at
-returns-in_err-at c =
+pub returns-in_err-place : goal.returns-in_err-place
+returns-in_err-place c =
     let few : is_list c.args.cat.now ≡ true = sym c.is_few.ensures ∙ c.if-not-is_few.false in
-    rw c.from_residual.ensures (texts_first Cat CatItem c.args.cat.now None few c.in_err-at.ensures)
+    rw c.from_residual.ensures (texts_first Cat CatItem c.args.cat.now None few c.in_err-place.ensures)
 
 pub returns : goal.returns
 returns c =
     let few : is_list c.args.cat.now ≡ true = sym c.is_few.ensures ∙ c.if-not-is_few.false in
-    texts_first Cat CatItem c.args.cat.now (Some c.in_ok-at.at) few c.in_ok-at.ensures
+    texts_first Cat CatItem c.args.cat.now (Some c.in_ok-place.place) few c.in_ok-place.ensures

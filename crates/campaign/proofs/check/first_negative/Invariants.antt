@@ -2,8 +2,8 @@ use Rattle.std.proofs.Common.{◌≡◌, ℕ, ◌<◌, get_or, false, not, pos, 
 use Rattle.std.specs.Int.{w32}
 use Rattle.campaign.proofs.check.first_negative.Given as goal
 
-abbrev pub invariant-loop-at : goal.invariant-loop-at
-invariant-loop-at l = record {
-  right : (k : ℕ) → k < l.at → not (int_le (pos 0) (get_or l.ints k (pos 0))) ≡ false;
-  fits : (k : ℕ) → k < l.at → FitsSigned w32 (get_or l.ints k (pos 0));
+abbrev pub invariant-loop-place : goal.invariant-loop-place
+invariant-loop-place l = record {
+  right : (k : ℕ) → k < l.place → not (int_le (pos 0) (get_or l.ints k (pos 0))) ≡ false;
+  fits : (k : ℕ) → k < l.place → FitsSigned w32 (get_or l.ints k (pos 0));
 }

@@ -4,7 +4,7 @@ use Rattle.target_expr.specs.declared.pred.Pred.{Pred}
 use Rattle.target_expr.specs.declared.pred.Pair.{Pair}
 use Rattle.target_expr.specs.Pairs.{pairs_of}
 use Rattle.conj_index.specs.Campaigns.{Campaigns, conjunctions_in, expression_of}
-use Rattle.conj_index.specs.Growing.{AreGrown, shifted}
+use Rattle.conj_index.specs.Growing.{AreGrown, shift}
 use Rattle.conj_index.proofs.Campaigns.{conjunctions_next, conjunctions_up, pairs_fit, pairs_more, pairs_next, pairs_up}
 use Rattle.conj_index.proofs.build.enter_all.Goals as goal
 
@@ -40,9 +40,9 @@ loop-expr-preserved g c =
     let many : length c.loop-expr-item.result.1 ≡ length (get_or c.args.added.now i c.loop-expr-item.result).1 =
     ap (λ (q : ℕ × List (List Pred)). length q.1) c.loop-expr-item.is in
     let before : List Pair = pairs_of (expression_of (take i c.args.added.now)) in
-    let next : before ++ map (shifted c.loop-expr.first) c.into_vec.result.items ≡ pairs_of (expression_of (take (i + 1) c.args.added.now)) =
-    ap (λ n. before ++ map (shifted n) c.into_vec.result.items) c.loop-expr.invariant.first
-    ∙ ap (λ l. before ++ map (shifted (conjunctions_in (take i c.args.added.now))) l)
+    let next : before ++ map (shift c.loop-expr.first) c.into_vec.result.items ≡ pairs_of (expression_of (take (i + 1) c.args.added.now)) =
+    ap (λ n. before ++ map (shift n) c.into_vec.result.items) c.loop-expr.invariant.first
+    ∙ ap (λ l. before ++ map (shift (conjunctions_in (take i c.args.added.now))) l)
     (c.into_vec.ensures ∙ c.in_ok-pairs.ensures.value ∙ ap (λ (q : ℕ × List (List Pred)). pairs_of q.1) c.loop-expr-item.is)
     ∙ sym (pairs_more c.args.added.now i c.loop-expr-item.result c.loop-expr-test.true) in
     let P : List Pair → Type 0 = λ ps. AreGrown ps c.enter_pairs.new.parts.items in

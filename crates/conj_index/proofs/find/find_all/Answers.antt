@@ -17,7 +17,7 @@ loop-size-init g c = record {
 
 pub overflow_cast-size : goal.overflow_cast-size
 overflow_cast-size g c =
-    let few : length (take (length c.args.pairs.now + 1) c.args.index.now.parts) ≤ 24 = few_parts c.args.pairs.now c.args.index.now.parts c.requires in
+    let few : length (take (length c.args.pairs.now + 1) c.args.index.now.parts) ≤ 257 = few_parts c.args.pairs.now c.args.index.now.parts c.requires in
     let same : length c.first_parts-part-items.result.now ≡ length (take (length c.args.pairs.now + 1) c.args.index.now.parts) = ap length c.first_parts-part-items.ensures in
     omega (arith, few, same, c.loop-size-test.true)
 

@@ -12,8 +12,8 @@ decreases-items_of l = 5 * l.depth + 2
 abbrev pub decreases-more_items_of : goal.decreases-more_items_of
 decreases-more_items_of l = 5 * l.depth + 1
 
-abbrev pub decreases-valued_of : goal.decreases-valued_of
-decreases-valued_of l = 5 * l.depth + 1
+abbrev pub decreases-value_after_colon : goal.decreases-value_after_colon
+decreases-value_after_colon l = 5 * l.depth + 1
 
 abbrev pub decreases-member_of : goal.decreases-member_of
 decreases-member_of l = 5 * l.depth + 2

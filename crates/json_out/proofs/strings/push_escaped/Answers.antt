@@ -1,6 +1,6 @@
 use Rattle.std.proofs.Common.{◌≡◌, ◌-◌, ◌++◌, ◌∷◌, length, take, drop, ap, sym, ◌∙◌, append_assoc, length-drop, arith}
 use Rattle.std.proofs.lemmas.List.{take_all}
-use Rattle.json_out.specs.Strings.{escaped}
+use Rattle.json_out.specs.Strings.{escape}
 use Rattle.json_out.proofs.Escapes.{run_moved}
 use Rattle.json_out.proofs.strings.push_escaped.Goals as goal
 
@@ -16,5 +16,5 @@ loop-byte-preserved c =
     let run = c.in_ok-extend.ensures.ok in
     record {
       rest = run_moved c.loop-byte.out rest _ _ _ n byte run one split c.plain_len-plain.ensures.plain ∙ c.loop-byte.invariant.rest;
-      front = (more ++ (take n rest ++ escaped byte), one ∙ ap (λ l. l ++ escaped byte) (run ∙ ap (λ l. l ++ take n rest) came ∙ append_assoc _ more (take n rest)) ∙ append_assoc _ (more ++ take n rest) (escaped byte) ∙ ap (λ l. c.args.out.now ++ l) (append_assoc more (take n rest) (escaped byte)));
+      front = (more ++ (take n rest ++ escape byte), one ∙ ap (λ l. l ++ escape byte) (run ∙ ap (λ l. l ++ take n rest) came ∙ append_assoc _ more (take n rest)) ∙ append_assoc _ (more ++ take n rest) (escape byte) ∙ ap (λ l. c.args.out.now ++ l) (append_assoc more (take n rest) (escape byte)));
     }

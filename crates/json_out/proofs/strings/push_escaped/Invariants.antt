@@ -1,11 +1,11 @@
 use Rattle.std.proofs.Common.{◌≡◌, ◌++◌, ℕ, List, length}
 use Rattle.std.specs.List.{flat_map}
-use Rattle.json_out.specs.Strings.{escaped}
+use Rattle.json_out.specs.Strings.{escape}
 use Rattle.json_out.proofs.strings.push_escaped.Given as goal
 
 abbrev pub invariant-loop-byte : goal.invariant-loop-byte
 invariant-loop-byte l = record {
-  rest : l.out ++ flat_map escaped l.rest ≡ l.fn.out ++ flat_map escaped l.text;
+  rest : l.out ++ flat_map escape l.rest ≡ l.fn.out ++ flat_map escape l.text;
   front : (more : List ℕ) × (l.out ≡ l.fn.out ++ more);
 }
 

@@ -7,14 +7,14 @@ use Rattle.rtb_num.proofs.number_form.is_number.Goals as goal
 
 pub returns-in-None : goal.returns-in-None
 returns-in-None c =
-    let unsigned = c.unsigned-unsigned.ensures in
+    let unsigned = c.without_minus-unsigned.ensures in
     c.is_decimal.ensures ∙ ap is_decimal unsigned ∙ number_none c.args.text.now (ap (position is_exponent_mark) (sym unsigned) ∙ sym c.exponent_mark_of.ensures ∙ c.in-None.is)
 
 pub returns-then-is_decimal : goal.returns-then-is_decimal
 returns-then-is_decimal c =
     let at = c.in-Some.at in
-    let text = c.unsigned-unsigned.result.now in
-    let unsigned : text ≡ without_minus c.args.text.now = c.unsigned-unsigned.ensures in
+    let text = c.without_minus-unsigned.result.now in
+    let unsigned : text ≡ without_minus c.args.text.now = c.without_minus-unsigned.ensures in
     let rest : take (length text - (at + 1)) (drop (at + 1) text) ≡ drop (at + 1) text = take_all _ _ (omega (arith, length-drop (at + 1) text)) in
     c.is_exponent.ensures
     ∙ ap is_exponent rest

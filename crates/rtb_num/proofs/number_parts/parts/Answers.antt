@@ -7,7 +7,7 @@ use Rattle.rtb_num.proofs.number_parts.parts.Goals as goal
 
 pub powers-up-requires : goal.powers-up-requires
 powers-up-requires c =
-    ap (λ s. list_all is_digit (without_sign s)) (c.split_at_exponent.ensures.exponent ∙ ap (after_first is_exponent_mark) c.unsigned.ensures)
+    ap (λ s. list_all is_digit (without_sign s)) (c.split_at_exponent.ensures.exponent ∙ ap (after_first is_exponent_mark) c.without_minus.ensures)
     ∙ exponent_digits c.args.text.now c.requires
 
 -- the sum stops at the greatest number, as its second part does
@@ -20,8 +20,8 @@ returns c =
     let text = c.args.text.now in
     let whole = c.split_at_point.result.0.now in
     let fraction = c.split_at_point.result.1.now in
-    let decimal : c.split_at_exponent.result.0.now ≡ decimal_part text = c.split_at_exponent.ensures.decimal ∙ ap (before_first is_exponent_mark) c.unsigned.ensures in
-    let exponent : c.split_at_exponent.result.1.now ≡ exponent_part text = c.split_at_exponent.ensures.exponent ∙ ap (after_first is_exponent_mark) c.unsigned.ensures in
+    let decimal : c.split_at_exponent.result.0.now ≡ decimal_part text = c.split_at_exponent.ensures.decimal ∙ ap (before_first is_exponent_mark) c.without_minus.ensures in
+    let exponent : c.split_at_exponent.result.1.now ≡ exponent_part text = c.split_at_exponent.ensures.exponent ∙ ap (after_first is_exponent_mark) c.without_minus.ensures in
     let before : whole ≡ before_first is_point (decimal_part text) = c.split_at_point.ensures.whole ∙ ap (before_first is_point) decimal in
     let behind : fraction ≡ after_first is_point (decimal_part text) = c.split_at_point.ensures.fraction ∙ ap (after_first is_point) decimal in
     let digits : digits_of (decimal_part text) ≡ whole ++ fraction = sym (ap (λ s. s ++ fraction) before ∙ ap (λ s. before_first is_point (decimal_part text) ++ s) behind) in

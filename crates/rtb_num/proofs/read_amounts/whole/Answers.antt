@@ -14,9 +14,9 @@ returns-then-number-clause-none c = λ _ z low high. no_integer (number_in c.arg
 pub returns-clause-value : goal.returns-clause-value
 returns-clause-value c =
     let e = c.scale-number.ensures in
-    some_weaker _ _ _ (λ z h. integer_is (number_in c.args.text.now) _ _ _ z e.units e.finer c.if-number.false e.sign h) c.signed.ensures.value
+    some_weaker _ _ _ (λ z h. integer_is (number_in c.args.text.now) _ _ _ z e.units e.finer c.if-number.false e.sign h) c.to_i32.ensures.value
 
 pub returns-clause-none : goal.returns-clause-none
 returns-clause-none c =
     let e = c.scale-number.ensures in
-    λ none z low high. out_of_range (number_in c.args.text.now) _ _ e.units e.sign (c.signed.ensures.none none) (c.signed.ensures.none_below none) z low high
+    λ none z low high. out_of_range (number_in c.args.text.now) _ _ e.units e.sign (c.to_i32.ensures.none none) (c.to_i32.ensures.none_below none) z low high

@@ -1,6 +1,0 @@
-use Rattle.std.proofs.Common.{◌≡◌, take}
-use Rattle.target_expr.specs.Kept.{kept_in}
-use Rattle.target_expr.proofs.make.kept_in.Given as goal
-
-abbrev pub invariant-loop-attr : goal.invariant-loop-attr
-invariant-loop-attr l = l.preds ≡ kept_in l.conjunction (take l.attr-index l.attrs)
