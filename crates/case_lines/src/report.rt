@@ -1,6 +1,10 @@
 //! Cases, one after the other.
+ghost use Rattle.std.specs.Prelude.{◌≡◌, ◌≢◌};
+ghost use Rattle.rtb_base.specs.Faults.{RisesOnlyWhere, Rose};
+ghost use Rattle.rtb_io.specs.declared.status.Status.TheVariants.{NotRead, NotWritten};
+
 use crate::notation::{expand, show};
-use rtb_io::{read_all, write_all};
+use rtb_io::{ReadFault, Status, read_all, write_all};
 use rtb_num::{List, Sink, Source, Txt};
 use std::alloc::{AllocError, Global};
 
@@ -14,18 +18,33 @@ pub trait Areas {
 }
 
 /// Writes a report on the cases that it reads: each line that is answered otherwise than it says, with
-/// what came, and last `N cases, M differ`. The status: 0, or 7 where the sink failed, 9 for want of
-/// memory, 10 where the source failed or had too much.
-pub fn run_cases<A: Areas, I: Source, O: Sink>(alloc: Global, source: &mut I, sink: &mut O) -> u8 {
-    let Ok(input) = read_all(alloc, source, MOST_BYTES) else {
-        return 10;
-    };
-    match report_on::<A>(alloc, input.as_bytes()) {
+/// what came, and last `N cases, M differ`.
+pub fn run_cases<A: Areas, I: Source, O: Sink>(
+    alloc: Global,
+    source: &mut I,
+    sink: &mut O,
+) -> Status
+    ensures not_written { RisesOnlyWhere (result ≡ NotWritten) (O.faults sink.old) (O.faults sink.new) }
+    ensures not_read { RisesOnlyWhere (result ≡ NotRead) (I.faults source.old) (I.faults source.new) }
+{
+    match read_all(alloc, source, MOST_BYTES) {
+        Ok(input) => tell_report::<A, O>(alloc, input.as_bytes(), sink),
+        Err(ReadFault::Failed) => Status::NotRead,
+        Err(ReadFault::Memory) => Status::Memory,
+    }
+}
+
+// Writes the report on this input.
+fn tell_report<A: Areas, O: Sink>(alloc: Global, input: &[u8], sink: &mut O) -> Status
+    ensures not_written { RisesOnlyWhere (result ≡ NotWritten) (O.faults sink.old) (O.faults sink.new) }
+    ensures read { result ≢ NotRead }
+{
+    match report_on::<A>(alloc, input) {
         Ok(report) => match write_all(sink, report.as_bytes()) {
-            Ok(()) => 0,
-            Err(_) => 7,
+            Ok(()) => Status::Done,
+            Err(_) => Status::NotWritten,
         },
-        Err(AllocError) => 9,
+        Err(AllocError) => Status::Memory,
     }
 }
 
@@ -36,6 +55,9 @@ fn report_on<A: Areas>(alloc: Global, input: &[u8]) -> Result<Txt, AllocError> {
         cases: 0,
         differ: 0,
     };
+    if input.len() > MOST_BYTES {
+        report.text.extend(b"there are more cases than are read\n")?;
+    }
     match str::from_utf8(input) {
         Ok(text) => {
             for line in text.lines() {
