@@ -9,42 +9,10 @@ use Rattle.std.proofs.lemmas.List.{map-append, length-map, length-take, map_push
 use Rattle.std.proofs.lemmas.List.Folds.{concat-append}
 use Rattle.exchange_run.specs.Auction.{Sale}
 use Rattle.exchange_run.specs.Words.{Campaign}
-use Rattle.exchange_run.specs.Response.{bid_tail, bid_text, seat_bids, seats_of}
+use Rattle.exchange_run.specs.Response.{bid_text, seat_bids, seat_text, seats_of}
 use Rattle.exchange_run.specs.View.{sale_view}
 use Rattle.exchange_run.specs.declared.auction.SoldImp.{SoldImp}
 use Rattle.exchange_run.proofs.Sales.{numbered_push}
-
-pub in_three : (o a b c : List ℕ) → ((o ++ a) ++ b) ++ c ≡ o ++ ((a ++ b) ++ c)
-in_three o a b c = ap (λ l. l ++ c) (append_assoc o a b) ∙ append_assoc o (a ++ b) c
-
-pub in_five : (o a b c d e : List ℕ) → ((((o ++ a) ++ b) ++ c) ++ d) ++ e ≡ o ++ ((((a ++ b) ++ c) ++ d) ++ e)
-in_five o a b c d e = ap (λ l. (l ++ d) ++ e) (in_three o a b c) ∙ in_three o ((a ++ b) ++ c) d e
-
-some_there : (x : List ℕ) (xs : List (List ℕ)) → (length (x ∷ xs) == 0) ≡ false
-some_there x xs = grind (arith, nat_tests)
-
--- a piece joined to those before it
-pub join_push : (xs : List (List ℕ)) (y : List ℕ) → join_with_byte 44 (xs ++ y ∷ []) ≡ join_with_byte 44 xs ++ (cond (length xs == 0) [] (44 ∷ []) ++ y)
-join_push [] y = refl
-join_push (x ∷ []) y = refl
-join_push (x ∷ z ∷ xs) y =
-    ap (λ l. x ++ 44 ∷ l) (join_push (z ∷ xs) y ∙ ap (λ b. join_with_byte 44 (z ∷ xs) ++ (cond b [] (44 ∷ []) ++ y)) (some_there z xs))
-    ∙ sym (append_assoc x (44 ∷ join_with_byte 44 (z ∷ xs)) (44 ∷ y))
-    ∙ ap (λ b. join_with_byte 44 (x ∷ z ∷ xs) ++ (cond b [] (44 ∷ []) ++ y)) (sym (some_there x (z ∷ xs)))
-
-regrouped : (o j comma y : List ℕ) → ((o ++ j) ++ comma) ++ y ≡ o ++ (j ++ (comma ++ y))
-regrouped o j comma y = append_assoc (o ++ j) comma y ∙ append_assoc o j (comma ++ y)
-
--- one piece more behind a comma
-pub joined_more : (o out : List ℕ) (pieces : List (List ℕ)) (first : Bool) (y : List ℕ) → out ≡ o ++ join_with_byte 44 pieces → first ≡ (length pieces == 0)
-    → (out ++ cond first [] (44 ∷ [])) ++ y ≡ o ++ join_with_byte 44 (pieces ++ y ∷ [])
-joined_more o out pieces first y e f =
-    ap (λ l. (l ++ cond first [] (44 ∷ [])) ++ y) e ∙ ap (λ b. ((o ++ join_with_byte 44 pieces) ++ cond b [] (44 ∷ [])) ++ y) f
-    ∙ regrouped o (join_with_byte 44 pieces) (cond (length pieces == 0) [] (44 ∷ [])) y ∙ ap (λ l. o ++ l) (sym (join_push pieces y))
-
-pub never_first : (pieces : List (List ℕ)) (y : List ℕ) → (length (pieces ++ y ∷ []) == 0) ≡ false
-never_first [] y = refl
-never_first (x ∷ pieces) y = some_there x (pieces ++ y ∷ [])
 
 pub same_seat : (a b : ℕ) → a ≡ b → (a == b) ≡ true
 same_seat a b e = grind (arith, nat_tests)
@@ -140,21 +108,9 @@ seat_push seats kept s e =
     ∙ ap (λ l. numbers seats ++ l) (number_alone (list_any (λ (t : Bor (ℕ × Campaign)). t.now.0 == s.now.0) seats) s ∙ ap (λ b. cond b [] (s.now.0 ∷ [])) (any_number s.now.0 seats))
     ∙ ap (λ l. l ++ cond (list_any (λ m. m == s.now.0) l) [] (s.now.0 ∷ [])) e
 
--- the text of one seat more
-pub seat_text_more : (o out y : List ℕ) (f : ℕ → List ℕ) (seats : List (Bor (ℕ × Campaign))) (k : ℕ) (d : Bor (ℕ × Campaign)) → k < length seats → out ≡ o ++ join_with_byte 44 (map f (numbers (take k seats))) → y ≡ f (get_or seats k d).now.0
-    → (out ++ cond (k == 0) [] (44 ∷ [])) ++ y ≡ o ++ join_with_byte 44 (map f (numbers (take (k + 1) seats)))
-seat_text_more o out y f seats k d lt e same =
-    let before = map f (numbers (take k seats)) in
-    let count : k ≡ length before = omega (arith, length-map (numbers (take k seats)) f, length-map (take k seats) (λ (s : Bor (ℕ × Campaign)). s.now.0), length-take k seats) in
-    joined_more o out before (k == 0) y e (ap (λ n. n == 0) count) ∙ ap (λ z. o ++ join_with_byte 44 (before ++ z ∷ [])) same
-    ∙ ap (λ l. o ++ join_with_byte 44 l) (sym (ap (λ l. map f (numbers l)) (take_more seats k d lt) ∙ ap (map f) (map_push (λ (s : Bor (ℕ × Campaign)). s.now.0) (take k seats) (get_or seats k d)) ∙ map_push f (numbers (take k seats)) (get_or seats k d).now.0))
-
--- ---- the texts of a campaign
-
-abbrev pub tail_by : List ℕ → List ℕ → List ℕ → List ℕ → List ℕ
-tail_by adm adomain cid crid = concat (codes ",\"adm\":\"" ∷ adm ∷ codes "\",\"adomain\":[\"" ∷ adomain ∷ codes "\"],\"cid\":\"" ∷ cid ∷ codes "\",\"crid\":\"" ∷ crid ∷ codes "\"}" ∷ [])
-
-pub tail_same : (n : List ℕ) → tail_by (codes "ad " ++ n) (codes "ad" ++ n ++ codes ".example") n (codes "cr" ++ n) ≡ bid_tail n
-tail_same n =
-    ap (λ l. codes ",\"adm\":\"ad " ++ (n ++ (codes "\",\"adomain\":[\"ad" ++ l)))
-    (append_assoc n (codes ".example") (codes "\"],\"cid\":\"" ++ (n ++ (codes "\",\"crid\":\"cr" ++ (n ++ codes "\"}")))))
+-- the texts of one seat more
+pub seats_more : (f : ℕ → List ℕ) (seats : List (Bor (ℕ × Campaign))) (k : ℕ) (d : Bor (ℕ × Campaign)) → k < length seats → d ≡ get_or seats k d
+    → map f (numbers (take (k + 1) seats)) ≡ map f (numbers (take k seats)) ++ f d.now.0 ∷ []
+seats_more f seats k d lt e =
+    ap (λ l. map f (numbers l)) (take_more seats k d lt ∙ ap (λ s. take k seats ++ s ∷ []) (sym e))
+    ∙ ap (map f) (map_push (λ (s : Bor (ℕ × Campaign)). s.now.0) (take k seats) d) ∙ map_push f (numbers (take k seats)) d.now.0

@@ -1,21 +1,22 @@
 -- The text of a bid response (OpenRTB 2.5, sections 4.2.1 to 4.2.3), without spaces.
 use Rattle.std.specs.Prelude.{ℕ, ◌==◌, not, List, [], ◌∷◌, ◌++◌, filter, map, codes, decimal}
-use Rattle.std.specs.List.{concat, enumerate_from, join_with_byte}
+use Rattle.std.specs.List.{enumerate_from}
 use Rattle.rtb_num.specs.Amounts.{micros_text}
 use Rattle.json_out.specs.Strings.{string_text}
+use Rattle.json_out.specs.Texts.{Member, array_text, object_text}
 use Rattle.exchange_run.specs.Auction.{Sale}
 
 -- A bid object. Sales are numbered from 1 in the order of the impressions, and the number is the
--- bid's `id`. Campaign n has the markup `ad n`, the domain `adn.example` and the creative `crn`.
--- Numbers are given as their digits.
-abbrev pub bid_head : List ℕ → List ℕ → List ℕ
-bid_head n imp = codes "{\"id\":\"" ++ n ++ codes "\",\"impid\":" ++ string_text imp ++ codes ",\"price\":"
+-- bid's `id`. Campaign c has the markup `ad c`, the domain `adc.example` and the creative `crc`.
+abbrev pub sale_members : ℕ → Sale → List Member
+sale_members n s = (codes "id", string_text (decimal n)) ∷ (codes "impid", string_text s.imp) ∷ (codes "price", micros_text s.price) ∷ []
 
-abbrev pub bid_tail : List ℕ → List ℕ
-bid_tail c = concat (codes ",\"adm\":\"ad " ∷ c ∷ codes "\",\"adomain\":[\"ad" ∷ c ∷ codes ".example\"],\"cid\":\"" ∷ c ∷ codes "\",\"crid\":\"cr" ∷ c ∷ codes "\"}" ∷ [])
+abbrev pub creative_members : ℕ → List Member
+creative_members c = (codes "adm", string_text (codes "ad " ++ decimal c)) ∷ (codes "adomain", array_text (string_text (codes "ad" ++ decimal c ++ codes ".example") ∷ []))
+    ∷ (codes "cid", string_text (decimal c)) ∷ (codes "crid", string_text (codes "cr" ++ decimal c)) ∷ []
 
 abbrev pub bid_text : ℕ × Sale → List ℕ
-bid_text p = bid_head (decimal p.0) p.1.imp ++ micros_text p.1.price ++ bid_tail (decimal p.1.campaign)
+bid_text p = object_text (sale_members p.0 p.1 ++ creative_members p.1.campaign)
 
 -- the campaigns that bought, in the order of what each bought first
 unfoldable pub seats_of : List Sale → List ℕ
@@ -26,15 +27,9 @@ seats_of (s ∷ sales) = s.campaign ∷ filter (λ c. not (c == s.campaign)) (se
 abbrev pub seat_bids : List Sale → ℕ → List (List ℕ)
 seat_bids sales c = map bid_text (filter (λ (p : ℕ × Sale). p.1.campaign == c) (enumerate_from 1 sales))
 
-abbrev pub seat_tail : List ℕ → List ℕ
-seat_tail c = concat (codes "],\"seat\":\"s" ∷ c ∷ codes "\"}" ∷ [])
-
 abbrev pub seat_text : List Sale → ℕ → List ℕ
-seat_text sales c = codes "{\"bid\":[" ++ join_with_byte 44 (seat_bids sales c) ++ seat_tail (decimal c)
-
-abbrev pub response_head : List ℕ → List ℕ
-response_head id = codes "{\"id\":" ++ string_text id ++ codes ",\"seatbid\":["
+seat_text sales c = object_text ((codes "bid", array_text (seat_bids sales c)) ∷ (codes "seat", string_text (codes "s" ++ decimal c)) ∷ [])
 
 -- one object a seat, in the order of what each bought first
 abbrev pub response_text : List ℕ → List Sale → List ℕ
-response_text id sales = response_head id ++ join_with_byte 44 (map (seat_text sales) (seats_of sales)) ++ codes "],\"cur\":\"USD\"}"
+response_text id sales = object_text ((codes "id", string_text id) ∷ (codes "seatbid", array_text (map (seat_text sales) (seats_of sales))) ∷ (codes "cur", string_text (codes "USD")) ∷ [])

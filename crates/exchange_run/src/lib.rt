@@ -2,6 +2,7 @@
 #![tactic(auto)]
 
 mod auction;
+mod members;
 mod numbered;
 mod refusals;
 mod response;

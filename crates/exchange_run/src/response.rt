@@ -1,29 +1,31 @@
-ghost use Rattle.std.specs.Prelude.{◌≡◌, ◌==◌, ◌++◌, [], ◌∷◌, if◌then◌else◌, decimal, map, OnOk, IfOk};
-ghost use Rattle.std.specs.List.{concat, join_with_byte, list_any};
-ghost use Rattle.exchange_run.specs.Response.{bid_head, bid_tail, bid_text, response_head, response_text, seat_bids, seat_tail, seat_text, seats_of};
+ghost use Rattle.std.specs.Prelude.{◌≡◌, ◌==◌, ◌++◌, [], ◌∷◌, if◌then◌else◌, map, IsTrue, OnOk, IfOk};
+ghost use Rattle.std.specs.List.{list_any};
+ghost use Rattle.json_out.specs.Inside.{put_members};
+ghost use Rattle.json_out.specs.Texts.{array_text};
+ghost use Rattle.json_out.specs.Writer.{put_value, takes_name, takes_value};
+ghost use Rattle.exchange_run.specs.Response.{bid_text, creative_members, response_text, sale_members, seat_bids, seat_text, seats_of};
 ghost use Rattle.exchange_run.specs.View.{sale_view};
 
 use crate::auction::SoldImp;
+use crate::members::{put_digits, put_micros, put_one, put_text};
 use crate::numbered::NumberedCampaign;
-use itoa::Buffer;
-use json_out::push_string;
-use rtb_num::{Txt, write_micros};
+use json_out::Writer;
+use rtb_num::Txt;
 use std::alloc::{AllocError, Global};
 
-/// Appends the bid response to the request of that `id`.
-pub(crate) fn put_response(
-    alloc: Global,
-    out: &mut Txt,
-    id: &[u8],
-    sold: &[SoldImp],
-) -> Result<(), AllocError>
-    ensures { OnOk result (out.new ≡ out.old ++ response_text id.now (map sale_view sold.now)) }
+/// The bid response to the request of that `id`.
+pub(crate) fn bid_response(alloc: Global, id: &[u8], sold: &[SoldImp]) -> Result<Txt, AllocError>
+    ensures { IfOk result (λ t. t ≡ response_text id.now (map sale_view sold.now)) }
 {
     let seats = seats_in(alloc, sold)?;
-    put_response_head(out, id)?;
-    put_seats(out, sold, seats.as_slice())?;
-    out.extend(b"],\"cur\":\"USD\"}")?;
-    Ok(())
+    let mut writer = Writer::new(alloc);
+    writer.obj()?;
+    put_text(&mut writer, b"id", id)?;
+    writer.name(b"seatbid")?;
+    put_seats(alloc, &mut writer, sold, seats.as_slice())?;
+    put_text(&mut writer, b"cur", b"USD")?;
+    writer.end()?;
+    Ok(writer.finish())
 }
 
 // The campaigns that bought, in the order of what each bought first.
@@ -60,105 +62,110 @@ fn has_seat(seats: &[&NumberedCampaign], campaign: &NumberedCampaign) -> bool
     seats.iter().any(|seat| seat.number() == campaign.number())
 }
 
-fn put_response_head(out: &mut Txt, id: &[u8]) -> Result<(), AllocError>
-    ensures { OnOk result (out.new ≡ out.old ++ response_head id.now) }
+// Writes the objects of the seats, as an array.
+fn put_seats(
+    alloc: Global,
+    writer: &mut Writer,
+    sold: &[SoldImp],
+    seats: &[&NumberedCampaign],
+) -> Result<(), AllocError>
+    requires { IsTrue (takes_value writer.old) }
+    ensures { OnOk result (writer.new ≡ put_value writer.old (array_text (map (seat_text (map sale_view sold.now)) (map (λ s. s.now.0) seats.now)))) }
 {
-    out.extend(b"{\"id\":")?;
-    push_string(out, id)?;
-    out.extend(b",\"seatbid\":[")?;
-    Ok(())
-}
-
-fn put_seats(out: &mut Txt, sold: &[SoldImp], seats: &[&NumberedCampaign]) -> Result<(), AllocError>
-    ensures { OnOk result (out.new ≡ out.old ++ join_with_byte 44 (map (seat_text (map sale_view sold.now)) (map (λ s. s.now.0) seats.now))) }
-{
-    for (index, seat) in seats.iter().enumerate() {
-        put_comma(out, index == 0)?;
-        put_seat(out, sold, seat)?;
+    writer.arr()?;
+    for seat in seats {
+        put_seat(alloc, writer, sold, seat)?;
     }
+    writer.end()?;
     Ok(())
 }
 
-// Appends a comma, but before the first of a list.
-fn put_comma(out: &mut Txt, is_first: bool) -> Result<(), AllocError>
-    ensures { OnOk result (out.new ≡ out.old ++ (if is_first then [] else 44 ∷ [])) }
+// Writes the object of one seat.
+fn put_seat(
+    alloc: Global,
+    writer: &mut Writer,
+    sold: &[SoldImp],
+    seat: &NumberedCampaign,
+) -> Result<(), AllocError>
+    requires { IsTrue (takes_value writer.old) }
+    ensures { OnOk result (writer.new ≡ put_value writer.old (seat_text (map sale_view sold.now) seat.now.0)) }
 {
-    if !is_first {
-        out.push(b',')?;
-    }
+    writer.obj()?;
+    writer.name(b"bid")?;
+    put_bids(alloc, writer, sold, seat)?;
+    put_text(writer, b"seat", seat.facts().seat().as_bytes())?;
+    writer.end()?;
     Ok(())
 }
 
-// Appends the object of one seat.
-fn put_seat(out: &mut Txt, sold: &[SoldImp], seat: &NumberedCampaign) -> Result<(), AllocError>
-    ensures { OnOk result (out.new ≡ out.old ++ seat_text (map sale_view sold.now) seat.now.0) }
+// Writes the bids of one seat, as an array.
+fn put_bids(
+    alloc: Global,
+    writer: &mut Writer,
+    sold: &[SoldImp],
+    seat: &NumberedCampaign,
+) -> Result<(), AllocError>
+    requires { IsTrue (takes_value writer.old) }
+    ensures { OnOk result (writer.new ≡ put_value writer.old (array_text (seat_bids (map sale_view sold.now) seat.now.0))) }
 {
-    out.extend(b"{\"bid\":[")?;
-    put_seat_bids(out, sold, seat)?;
-    put_seat_tail(out, seat)?;
-    Ok(())
-}
-
-// Appends the bids of one seat.
-fn put_seat_bids(out: &mut Txt, sold: &[SoldImp], seat: &NumberedCampaign) -> Result<(), AllocError>
-    ensures { OnOk result (out.new ≡ out.old ++ join_with_byte 44 (seat_bids (map sale_view sold.now) seat.now.0)) }
-{
-    let mut is_first = true;
+    writer.arr()?;
     for (index, sale) in sold.iter().enumerate() {
         if sale.campaign.number() == seat.number() {
-            put_comma(out, is_first)?;
-            put_bid(out, index + 1, sale)?;
-            is_first = false;
+            put_bid(alloc, writer, index + 1, sale)?;
         }
     }
+    writer.end()?;
     Ok(())
 }
 
-// Appends the bid object of the sale of that number.
-fn put_bid(out: &mut Txt, number: usize, sale: &SoldImp) -> Result<(), AllocError>
-    ensures { OnOk result (out.new ≡ out.old ++ bid_text (number, sale_view sale.now)) }
+// Writes the bid object of the sale of that number.
+fn put_bid(
+    alloc: Global,
+    writer: &mut Writer,
+    number: usize,
+    sale: &SoldImp,
+) -> Result<(), AllocError>
+    requires { IsTrue (takes_value writer.old) }
+    ensures { OnOk result (writer.new ≡ put_value writer.old (bid_text (number, sale_view sale.now))) }
 {
-    let mut buffer = Buffer::new();
-    put_bid_head(out, buffer.format(number).as_bytes(), sale.imp.as_bytes())?;
-    write_micros(sale.price, out)?;
-    put_bid_tail(out, sale.campaign)?;
+    writer.obj()?;
+    put_sale(alloc, writer, number, sale)?;
+    put_creative(alloc, writer, sale.campaign)?;
+    writer.end()?;
     Ok(())
 }
 
-// Appends what stands before the price in a bid object.
-fn put_bid_head(out: &mut Txt, number: &[u8], imp: &[u8]) -> Result<(), AllocError>
-    ensures { OnOk result (out.new ≡ out.old ++ bid_head number.now imp.now) }
+// Writes what was sold, and the price in US dollars.
+fn put_sale(
+    alloc: Global,
+    writer: &mut Writer,
+    number: usize,
+    sale: &SoldImp,
+) -> Result<(), AllocError>
+    requires { IsTrue (takes_name writer.old) }
+    ensures ok { OnOk result (writer.new ≡ put_members writer.old (sale_members number (sale_view sale.now))) }
+    ensures next { OnOk result (IsTrue (takes_name writer.new)) }
 {
-    out.extend(b"{\"id\":\"")?;
-    out.extend(number)?;
-    out.extend(b"\",\"impid\":")?;
-    push_string(out, imp)?;
-    out.extend(b",\"price\":")?;
+    put_digits(alloc, writer, b"id", number as u64)?;
+    put_text(writer, b"impid", sale.imp.as_bytes())?;
+    put_micros(writer, b"price", sale.price)?;
     Ok(())
 }
 
-// Appends what stands behind the price in a bid object.
-fn put_bid_tail(out: &mut Txt, campaign: &NumberedCampaign) -> Result<(), AllocError>
-    ensures { OnOk result (out.new ≡ out.old ++ bid_tail (decimal campaign.now.0)) }
+// Writes what is shown.
+fn put_creative(
+    alloc: Global,
+    writer: &mut Writer,
+    campaign: &NumberedCampaign,
+) -> Result<(), AllocError>
+    requires { IsTrue (takes_name writer.old) }
+    ensures ok { OnOk result (writer.new ≡ put_members writer.old (creative_members campaign.now.0)) }
+    ensures next { OnOk result (IsTrue (takes_name writer.new)) }
 {
     let facts = campaign.facts();
-    let mut buffer = Buffer::new();
-    out.extend_all(&[
-        b",\"adm\":\"",
-        facts.adm().as_bytes(),
-        b"\",\"adomain\":[\"",
-        facts.adomain().as_bytes(),
-        b"\"],\"cid\":\"",
-        buffer.format(campaign.number()).as_bytes(),
-        b"\",\"crid\":\"",
-        facts.crid().as_bytes(),
-        b"\"}",
-    ])?;
+    put_text(writer, b"adm", facts.adm().as_bytes())?;
+    put_one(writer, b"adomain", facts.adomain().as_bytes())?;
+    put_digits(alloc, writer, b"cid", u64::from(campaign.number()))?;
+    put_text(writer, b"crid", facts.crid().as_bytes())?;
     Ok(())
-}
-
-fn put_seat_tail(out: &mut Txt, seat: &NumberedCampaign) -> Result<(), AllocError>
-    ensures { OnOk result (out.new ≡ out.old ++ seat_tail (decimal seat.now.0)) }
-{
-    out.extend_all(&[b"],\"seat\":\"", seat.facts().seat().as_bytes(), b"\"}"])
 }

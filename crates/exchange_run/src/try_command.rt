@@ -1,18 +1,19 @@
-ghost use Rattle.std.specs.Prelude.{◌≡◌, ◌≢◌, ◌≤◌, ◌⊎◌, Err, None, length, IfErr, IfOk, IsSome, OnOk};
+ghost use Rattle.std.specs.Prelude.{◌≡◌, ◌≢◌, ◌≤◌, ◌⊎◌, Err, None, length, map, IfErr, IfOk, IsSome, OnOk};
 ghost use Rattle.rtb_base.specs.Faults.{RisesOnlyWhere, Rose};
 ghost use Rattle.rtb_io.specs.Fronts.{TakesAtMost};
 ghost use Rattle.rtb_io.specs.Statuses.{code_of};
 ghost use Rattle.rtb_io.specs.declared.status.Status.TheVariants.{Done, NotRead, NotWritten, Refused, Usage};
-ghost use Rattle.exchange_run.specs.Answer.{HalfTold, IsOutcome, IsReply, Replies, Told, line_of, refusal_of, reply_to, tree_reply};
+ghost use Rattle.exchange_run.specs.Answer.{HalfTold, IsOutcome, IsReply, Replies, Told, line_of, refusal_of, reply_to, sold_line, tree_reply};
 ghost use Rattle.exchange_run.specs.Refusals.{error_text, json_fault_text, request_fault_text};
 ghost use Rattle.exact_json.specs.Docs.{doc_tree};
 ghost use Rattle.exchange_run.specs.Words.{campaigns_of, command_of};
+ghost use Rattle.exchange_run.specs.View.{sale_view};
 ghost use Rattle.exchange_run.specs.Numbered.{AreNumbered, campaigns_only};
 
-use crate::auction::sell;
+use crate::auction::{SoldImp, sell};
 use crate::numbered::NumberedCampaign;
-use crate::refusals::{put_error, put_json_fault, put_request_fault};
-use crate::response::put_response;
+use crate::refusals::{error, json_fault, request_fault};
+use crate::response::bid_response;
 use crate::status_lines::{end_with, tell};
 use crate::unbuilt::is_unbuilt;
 use crate::words::{campaigns_in, command_in};
@@ -126,8 +127,7 @@ fn bytes_reply(
 fn refusal(alloc: Global, word: &[u8]) -> Result<Reply, AllocError>
     ensures { IfOk result (λ r. r ≡ refusal_of (error_text word.now)) }
 {
-    let mut line = Txt::new(alloc);
-    put_error(word, &mut line)?;
+    let line = error(alloc, word)?;
     Ok(Reply {
         status: Status::Refused,
         line,
@@ -160,16 +160,21 @@ fn request_reply(
         return refusal(alloc, b"not-built");
     }
     let sold = sell(alloc, campaigns, request)?;
-    let mut line = Txt::new(alloc);
-    if sold.is_empty() {
-        line.extend(b"no-bid")?;
-    } else {
-        put_response(alloc, &mut line, request.id.as_bytes(), sold.as_slice())?;
-    }
+    let line = sold_line(alloc, request, sold.as_slice())?;
     Ok(Reply {
         status: Status::Done,
         line,
     })
+}
+
+// The sales, or `no-bid` where nothing is sold.
+fn sold_line(alloc: Global, request: &BidRequest, sold: &[SoldImp]) -> Result<Txt, AllocError>
+    ensures { IfOk result (λ t. t ≡ sold_line request.now (map sale_view sold.now)) }
+{
+    if sold.is_empty() {
+        return Txt::from_slice(alloc, b"no-bid");
+    }
+    bid_response(alloc, request.id.as_bytes(), sold)
 }
 
 fn request_refusal(alloc: Global, fault: &ReqFault) -> Result<Reply, AllocError>
@@ -179,8 +184,7 @@ fn request_refusal(alloc: Global, fault: &ReqFault) -> Result<Reply, AllocError>
     if matches!(fault, ReqFault::Memory) {
         return Err(AllocError);
     }
-    let mut line = Txt::new(alloc);
-    put_request_fault(fault, &mut line)?;
+    let line = request_fault(alloc, fault)?;
     Ok(Reply {
         status: Status::Refused,
         line,
@@ -195,8 +199,7 @@ fn json_refusal(alloc: Global, fault: JsonFault) -> Result<Reply, AllocError>
     if fault == JsonFault::Memory {
         return Err(AllocError);
     }
-    let mut line = Txt::new(alloc);
-    put_json_fault(fault, &mut line)?;
+    let line = json_fault(alloc, fault)?;
     Ok(Reply {
         status: Status::Refused,
         line,
