@@ -5,7 +5,7 @@ use Rattle.std.specs.List.Sorted.{IsPermutation}
 use Rattle.std.proofs.lemmas.List.Sorted.{list_any-IsPermutation}
 use Rattle.deal_rules.specs.declared.rule.Rule.{Rule}
 use Rattle.deal_rules.specs.declared.rule.Rule.TheVariants.{Request, NoBanner, Size, Attribute, Secure, SeatNotAllowed, SeatBlocked, Category, Advertiser, Budget, Capped, Private, Currency, Floor}
-use Rattle.deal_rules.specs.Offers.{first_excluding, is_excluded}
+use Rattle.deal_rules.specs.Offers.{first_reason, is_excluded}
 use Rattle.deal_rules.specs.Rules.{Opportunity, Tested, common_rules, public_rules}
 use Rattle.deal_rules.specs.Tests.{test_of}
 
@@ -27,7 +27,7 @@ some_excludes : (o : Opportunity) (rules : List Rule) → list_any (λ r. test_o
 some_excludes o [] = refl
 some_excludes o (r ∷ rules) = ap (λ b. test_of r o || b) (some_excludes o rules)
 
-first_excludes : (o : Opportunity) (rules : List Rule) → find (λ r. test_of r o) rules ≡ first_excluding (tested rules) o
+first_excludes : (o : Opportunity) (rules : List Rule) → find (λ r. test_of r o) rules ≡ first_reason (tested rules) o
 first_excludes o [] = refl
 first_excludes o (r ∷ rules) = by_test (test_of r o) r (find (λ (t : Tested). t.1 o) (tested rules)) (find (λ s. test_of s o) rules) (first_excludes o rules)
   where
@@ -51,10 +51,10 @@ pub public_excludes : (o : Opportunity) → list_any (λ r. test_of r o) public 
 unfolding common_rules public_rules
 public_excludes o = some_excludes o public
 
-pub first_common : (o : Opportunity) → find (λ r. test_of r o) common ≡ first_excluding common_rules o
+pub common_reason : (o : Opportunity) → find (λ r. test_of r o) common ≡ first_reason common_rules o
 unfolding common_rules public_rules
-first_common o = first_excludes o common
+common_reason o = first_excludes o common
 
-pub first_of_all : (o : Opportunity) → find (λ r. test_of r o) (common ++ public) ≡ first_excluding (common_rules ++ public_rules) o
+pub reason_of_all : (o : Opportunity) → find (λ r. test_of r o) (common ++ public) ≡ first_reason (common_rules ++ public_rules) o
 unfolding common_rules public_rules
-first_of_all o = first_excludes o (common ++ public)
+reason_of_all o = first_excludes o (common ++ public)

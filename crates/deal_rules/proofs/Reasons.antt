@@ -5,7 +5,7 @@ use Rattle.std.specs.List.{list_any, cons_option, enumerate_from, filter_map}
 use Rattle.std.proofs.lemmas.List.Folds.{list_any-append}
 use Rattle.campaign.specs.declared.parts.FactParts.{FactParts}
 use Rattle.clearing.specs.declared.Offer.{Offer}
-use Rattle.deal_rules.specs.Offers.{deal_offer, deal_offers, first_excluding, is_excluded, is_open_to, offer_in, offers_of, why_not_of}
+use Rattle.deal_rules.specs.Offers.{deal_offer, deal_offers, first_reason, is_excluded, is_open_to, offer_in, offers_of, why_not_of}
 use Rattle.deal_rules.specs.Rules.{Opportunity, Tested, common_rules, public_rules}
 use Rattle.rtb_types.specs.declared.request.Deal.{Deal}
 
@@ -15,7 +15,7 @@ is_filled [] = false
 is_filled (x ∷ xs) = true
 
 -- a rule is named exactly where one excludes
-named : (o : Opportunity) (rules : List Tested) → is_some (first_excluding rules o) ≡ is_excluded rules o
+named : (o : Opportunity) (rules : List Tested) → is_some (first_reason rules o) ≡ is_excluded rules o
 named o [] = refl
 named o (r ∷ rules) = by_test (r.1 o) r (find (λ (t : Tested). t.1 o) rules) (is_excluded rules o) (named o rules)
   where

@@ -11,8 +11,8 @@ use Rattle.rtb_types.specs.declared.request.Deal.{Deal}
 abbrev pub is_excluded : List Tested → Opportunity → Bool
 is_excluded rules o = list_any (λ (r : Tested). r.1 o) rules
 
-abbrev pub first_excluding : List Tested → Opportunity → Option Rule
-first_excluding rules o = option_map (λ (r : Tested). r.0) (find (λ (r : Tested). r.1 o) rules)
+abbrev pub first_reason : List Tested → Opportunity → Option Rule
+first_reason rules o = option_map (λ (r : Tested). r.0) (find (λ (r : Tested). r.1 o) rules)
 
 -- the campaign lists the deal (3.2.12), which is in US dollars, is open to its seat and its advertiser, and
 -- has a floor that its bid meets
@@ -42,4 +42,4 @@ offers_of number o = if is_excluded common_rules o then [] else public_offers nu
 -- campaign that no deal is open to
 
 unfoldable pub why_not_of : Opportunity → Option Rule
-why_not_of o = first_excluding (if list_any (is_open_to o.facts) o.imp.pmp.deals then common_rules else common_rules ++ public_rules) o
+why_not_of o = first_reason (if list_any (is_open_to o.facts) o.imp.pmp.deals then common_rules else common_rules ++ public_rules) o

@@ -99,7 +99,7 @@ fn push_public(
 ) -> Result<(), AllocError>
     ensures { OnOk result (offers.new ≡ offers.old ++ public_offers number (opportunity_seen opportunity.now)) }
 {
-    if opportunity.is_excluded_from_the_public() {
+    if opportunity.is_excluded_in_public() {
         return Ok(());
     }
     offers.push(offer_in(opportunity.facts, number, 0))
@@ -162,9 +162,9 @@ fn why_not_for(opportunity: &Opportunity<'_>) -> Option<Rule>
     ensures { result ≡ why_not_of (opportunity_seen opportunity.now) }
 {
     if has_open(opportunity.imp.pmp.deals.as_slice(), opportunity.facts) {
-        return opportunity.first_common();
+        return opportunity.common_reason();
     }
-    opportunity.first_of_all()
+    opportunity.reason_of_all()
 }
 
 // Whether the campaign can buy in one of the deals.

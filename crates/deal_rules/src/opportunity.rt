@@ -4,7 +4,7 @@ ghost use Rattle.std.specs.List.{list_any};
 ghost use Rattle.std.specs.Option.{option_map_or};
 ghost use Rattle.std.specs.Ordering.{int_eq};
 ghost use Rattle.campaign.specs.Kept.{size_of};
-ghost use Rattle.deal_rules.specs.Offers.{first_excluding, is_excluded};
+ghost use Rattle.deal_rules.specs.Offers.{first_reason, is_excluded};
 ghost use Rattle.deal_rules.specs.Rules.{allows, blocked_attributes_of, common_rules, is_over, public_rules, sizes_of, takes_size};
 ghost use Rattle.deal_rules.specs.Tests.{opportunity_seen, test_of};
 
@@ -67,37 +67,37 @@ impl Opportunity<'_> {
     pub fn is_excluded(&self) -> bool
         ensures { result ≡ is_excluded common_rules (opportunity_seen self.now) }
     {
-        self.has_excluding(&SHORT_FIRST)
+        self.has_reason(&SHORT_FIRST)
     }
 
     /// Whether a rule for the public pool excludes it there.
-    pub fn is_excluded_from_the_public(&self) -> bool
+    pub fn is_excluded_in_public(&self) -> bool
         ensures { result ≡ is_excluded public_rules (opportunity_seen self.now) }
     {
-        self.has_excluding(&RULES[COMMON..])
+        self.has_reason(&RULES[COMMON..])
     }
 
     /// The first rule for each pool that excludes it.
-    pub fn first_common(&self) -> Option<Rule>
-        ensures { result ≡ first_excluding common_rules (opportunity_seen self.now) }
+    pub fn common_reason(&self) -> Option<Rule>
+        ensures { result ≡ first_reason common_rules (opportunity_seen self.now) }
     {
-        self.first_excluding(&RULES[..COMMON]).copied()
+        self.first_reason(&RULES[..COMMON]).copied()
     }
 
     /// The first of all rules that excludes it.
-    pub fn first_of_all(&self) -> Option<Rule>
-        ensures { result ≡ first_excluding (common_rules ++ public_rules) (opportunity_seen self.now) }
+    pub fn reason_of_all(&self) -> Option<Rule>
+        ensures { result ≡ first_reason (common_rules ++ public_rules) (opportunity_seen self.now) }
     {
-        self.first_excluding(&RULES).copied()
+        self.first_reason(&RULES).copied()
     }
 
-    fn has_excluding(&self, rules: &[Rule]) -> bool
+    fn has_reason(&self, rules: &[Rule]) -> bool
         ensures { result ≡ list_any (λ r. test_of r (opportunity_seen self.now)) rules.now }
     {
         rules.iter().any(|rule| self.is_excluded_by(*rule))
     }
 
-    fn first_excluding<'r>(&self, rules: &'r [Rule]) -> Option<&'r Rule>
+    fn first_reason<'r>(&self, rules: &'r [Rule]) -> Option<&'r Rule>
         ensures { option_map (λ r. r.now) result ≡ find (λ r. test_of r (opportunity_seen self.now)) rules.now }
     {
         rules.iter().find(|rule| self.is_excluded_by(**rule))

@@ -1,7 +1,0 @@
-use Rattle.std.proofs.Common.{◌∙◌}
-use Rattle.deal_rules.specs.Tests.{opportunity_seen}
-use Rattle.deal_rules.proofs.Ordered.{first_of_all}
-use Rattle.deal_rules.proofs.opportunity.Opportunity.first_of_all.Goals as goal
-
-pub returns : goal.returns
-returns c = c.copied.ensures ∙ c.first_excluding.ensures ∙ first_of_all (opportunity_seen c.args.self.now)
