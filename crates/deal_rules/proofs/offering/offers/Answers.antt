@@ -1,0 +1,19 @@
+use Rattle.std.proofs.Common.{◌≡◌, subst, true}
+use Rattle.std.specs.List.{list_all}
+use Rattle.clearing.specs.Clearing.{is_fit}
+use Rattle.deal_rules.specs.Offers.{offers_of}
+use Rattle.deal_rules.specs.Rules.{opportunity_of}
+use Rattle.deal_rules.specs.Terms.{terms_of}
+use Rattle.deal_rules.proofs.Fitting.{offers_fit}
+use Rattle.deal_rules.proofs.Places.{fit_as_answered, same_place}
+use Rattle.deal_rules.proofs.offering.offers.Goals as goal
+
+pub returns-clause-fit : goal.returns-clause-fit
+returns-clause-fit c = λ i at.
+    let r = c.args.request.now in
+    let imp = c.index-as_slice-imp.result in
+    let offers = offers_of c.args.number (opportunity_of r imp c.args.facts.now c.args.free c.args.shown) in
+    let same : imp ≡ i = same_place c.as_slice.result.now r.imps c.args.imp imp i c.index-as_slice-imp.is c.as_slice.ensures at in
+    fit_as_answered c.offers_for.result (terms_of r i) offers
+    (subst (λ k. list_all (is_fit (terms_of r k)) offers ≡ true) same (offers_fit c.args.number r imp c.args.facts.now c.args.free c.args.shown))
+    c.offers_for.ensures

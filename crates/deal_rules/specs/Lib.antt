@@ -1,0 +1,4 @@
+pub mod Offers
+pub mod Rules
+pub mod Terms
+pub mod Tests

@@ -1,0 +1,45 @@
+-- The offers of one campaign for an impression, and why there is none.
+use Rattle.std.specs.Prelude.{ℕ, ◌&&◌, nat_le, List, [], ◌∷◌, ◌++◌, Bool, Option, Some, None, find, option_map, if◌then◌else◌}
+use Rattle.std.specs.List.{list_any, filter_map, enumerate_from}
+use Rattle.campaign.specs.declared.parts.FactParts.{FactParts}
+use Rattle.clearing.specs.declared.Offer.{Offer}
+use Rattle.deal_rules.specs.declared.rule.Rule.{Rule}
+use Rattle.deal_rules.specs.Rules.{Opportunity, Tested, allows, common_rules, has_text, is_usd, public_rules}
+use Rattle.rtb_types.specs.declared.request.Deal.{Deal}
+
+-- whether some rule excludes, and the first that does
+abbrev pub is_excluded : List Tested → Opportunity → Bool
+is_excluded rules o = list_any (λ (r : Tested). r.1 o) rules
+
+abbrev pub first_reason : List Tested → Opportunity → Option Rule
+first_reason rules o = option_map (λ (r : Tested). r.0) (find (λ (r : Tested). r.1 o) rules)
+
+-- the campaign lists the deal (3.2.12), which is in US dollars, is open to its seat and its advertiser, and
+-- has a floor that its bid meets
+abbrev pub is_open_to : FactParts → Deal → Bool
+is_open_to f deal = has_text f.deals deal.id && (is_usd deal.currency && (allows deal.wseat f.seat && (allows deal.wadomain f.adomain && nat_le deal.floor f.bid)))
+
+-- ---- offers of the campaign with that number
+
+abbrev pub offer_in : ℕ → FactParts → ℕ → Offer
+offer_in number f pool = record { campaign = number; bid = f.bid; pool = pool }
+
+-- in the public pool, which is pool 0
+abbrev pub public_offers : ℕ → Opportunity → List Offer
+public_offers number o = if is_excluded public_rules o then [] else offer_in number o.facts 0 ∷ []
+
+-- in the pools of the deals that are open to it: those of the first deal on are pools 1, 2, ..
+abbrev pub deal_offer : ℕ → FactParts → ℕ × Deal → Option Offer
+deal_offer number f p = if is_open_to f p.1 then Some (offer_in number f p.0) else None
+
+abbrev pub deal_offers : ℕ → FactParts → List Deal → List Offer
+deal_offers number f deals = filter_map (deal_offer number f) (enumerate_from 1 deals)
+
+unfoldable pub offers_of : ℕ → Opportunity → List Offer
+offers_of number o = if is_excluded common_rules o then [] else public_offers number o ++ deal_offers number o.facts o.imp.pmp.deals
+
+-- ---- why there is none: the first rule that excludes, where those of the public pool count only for a
+-- campaign that no deal is open to
+
+unfoldable pub why_not_of : Opportunity → Option Rule
+why_not_of o = first_reason (if list_any (is_open_to o.facts) o.imp.pmp.deals then common_rules else common_rules ++ public_rules) o

@@ -1,0 +1,16 @@
+//! Where a campaign offers for an impression, why it does not, and by what terms each pool sells (OpenRTB
+//! 2.5, sections 3.2.1 to 3.2.12).
+//!
+//! `specs/Rules.antt` has the fourteen rules as one list, `specs/Offers.antt` the offers and the first rule
+//! that excludes, and `specs/Terms.antt` the terms of the pools and the user of a request.
+#![tactic(auto)]
+
+mod lists;
+mod offering;
+mod opportunity;
+mod pools;
+mod rule;
+
+pub use offering::{offers, why_not};
+pub use pools::{terms, user_of};
+pub use rule::Rule;

@@ -1,0 +1,180 @@
+//! The calls of `deal_rules` and `clearing` on a market.
+ghost use Rattle.std.specs.Prelude.{◌≡◌, Some, slice_get, IfOk, IsTrue};
+ghost use Rattle.std.specs.List.{list_all};
+ghost use Rattle.clearing.specs.Clearing.{is_fit};
+ghost use Rattle.deal_rules.specs.Terms.{terms_of};
+ghost use Rattle.rtb_types.specs.declared.request.Imp.{Imp as Impression};
+
+use crate::market::{Market, market_of};
+use case_lines::Areas;
+use clearing::{Offer, PriceKind, clear};
+use deal_rules::{Rule, offers, terms, user_of, why_not};
+use rtb_num::Txt;
+use std::alloc::{AllocError, Global};
+
+/// The calls, each on the words of a market (`market.rt`):
+///
+/// - `offers | ..`: the offers for the first impression, all campaigns in their order, as
+///   `CAMPAIGN:BID:POOL` in micro-dollars, or `none`.
+/// - `why_not | ..`: the rule that excludes each campaign, or `offers`.
+/// - `terms | ..`: the terms of each pool, as `second 300000`.
+/// - `sold | ..`: what the offers are cleared to, as `1 pays 1010000 in pool 0`, or `no sale`.
+/// - `user_of | ..`: the user, or `none`.
+pub struct Rules;
+
+impl Areas for Rules {
+    fn answer(alloc: Global, call: &[u8], args: &[Txt], out: &mut Txt) -> Result<bool, AllocError> {
+        match market_of(alloc, args)? {
+            Some(market) => answer_in(alloc, call, &market, out),
+            None => unreadable(out),
+        }
+    }
+}
+
+fn unreadable(out: &mut Txt) -> Result<bool, AllocError> {
+    out.extend(b"unreadable")?;
+    Ok(true)
+}
+
+fn answer_in(
+    alloc: Global,
+    call: &[u8],
+    market: &Market,
+    out: &mut Txt,
+) -> Result<bool, AllocError> {
+    match call {
+        b"offers" => put_offers(alloc, market, out)?,
+        b"why_not" => put_reasons(market, out)?,
+        b"terms" => put_terms(alloc, market, out)?,
+        b"sold" => put_sale(alloc, market, out)?,
+        b"user_of" => put_user(market, out)?,
+        _ => return Ok(false),
+    }
+    Ok(true)
+}
+
+// ---- offers
+
+fn put_offers(alloc: Global, market: &Market, out: &mut Txt) -> Result<(), AllocError> {
+    let offers = all_offers(alloc, market)?;
+    if offers.is_empty() {
+        return out.extend(b"none");
+    }
+    for (i, offer) in offers.iter().enumerate() {
+        put_blank(i, out)?;
+        put_offer(alloc, offer, out)?;
+    }
+    Ok(())
+}
+
+// The offers of all campaigns, which fit the terms.
+fn all_offers(alloc: Global, market: &Market) -> Result<Vec<Offer>, AllocError>
+    ensures { (i : Impression) → slice_get market.now.request.imps 0 ≡ Some i → IfOk result (λ os. IsTrue (list_all (is_fit (terms_of market.now.request i)) os.items)) }
+{
+    let mut all = Vec::new(alloc);
+    let mut number: u32 = 0;
+    for bidder in &market.bidders {
+        number = number.saturating_add(1);
+        let shown = bidder.shown_in(&market.request);
+        let more = offers(
+            alloc,
+            &market.request,
+            0,
+            number,
+            &bidder.facts,
+            bidder.free,
+            shown,
+        )?;
+        all.extend_from_slice(more.as_slice())?;
+    }
+    Ok(all)
+}
+
+fn put_offer(alloc: Global, offer: &Offer, out: &mut Txt) -> Result<(), AllocError> {
+    let campaign = offer.campaign;
+    let bid = offer.bid.get();
+    let pool = offer.pool;
+    out.extend(format!(in alloc; "{campaign}:{bid}:{pool}")?.as_bytes())
+}
+
+// What stands between two.
+fn put_blank(place: usize, out: &mut Txt) -> Result<(), AllocError> {
+    if place > 0 {
+        return out.push(b' ');
+    }
+    Ok(())
+}
+
+// ---- why there is none
+
+fn put_reasons(market: &Market, out: &mut Txt) -> Result<(), AllocError> {
+    for (i, bidder) in market.bidders.iter().enumerate() {
+        put_blank(i, out)?;
+        let shown = bidder.shown_in(&market.request);
+        let rule = why_not(&market.request, 0, &bidder.facts, bidder.free, shown);
+        out.extend(name_of(rule))?;
+    }
+    Ok(())
+}
+
+fn name_of(rule: Option<Rule>) -> &'static [u8] {
+    match rule {
+        None => b"offers",
+        Some(Rule::Request) => b"request",
+        Some(Rule::NoBanner) => b"no-banner",
+        Some(Rule::Size) => b"size",
+        Some(Rule::Attribute) => b"attribute",
+        Some(Rule::Secure) => b"secure",
+        Some(Rule::SeatNotAllowed) => b"seat-not-allowed",
+        Some(Rule::SeatBlocked) => b"seat-blocked",
+        Some(Rule::Category) => b"category",
+        Some(Rule::Advertiser) => b"advertiser",
+        Some(Rule::Budget) => b"budget",
+        Some(Rule::Capped) => b"capped",
+        Some(Rule::Private) => b"private",
+        Some(Rule::Currency) => b"currency",
+        Some(Rule::Floor) => b"floor",
+    }
+}
+
+// ---- terms and sales
+
+fn put_terms(alloc: Global, market: &Market, out: &mut Txt) -> Result<(), AllocError> {
+    let terms = terms(alloc, &market.request, 0)?;
+    for (i, term) in terms.as_slice().iter().enumerate() {
+        put_blank(i, out)?;
+        out.extend(kind_name(term.kind))?;
+        let floor = term.floor.get();
+        out.extend(format!(in alloc; " {floor}")?.as_bytes())?;
+    }
+    Ok(())
+}
+
+fn kind_name(kind: PriceKind) -> &'static [u8] {
+    match kind {
+        PriceKind::First => b"first",
+        PriceKind::Second => b"second",
+        PriceKind::Agreed => b"agreed",
+    }
+}
+
+fn put_sale(alloc: Global, market: &Market, out: &mut Txt) -> Result<(), AllocError> {
+    let terms = terms(alloc, &market.request, 0)?;
+    let offers = all_offers(alloc, market)?;
+    match clear(&offers, terms.as_slice()) {
+        Some(win) => {
+            let campaign = win.campaign;
+            let price = win.price.get();
+            let pool = win.pool;
+            out.extend(format!(in alloc; "{campaign} pays {price} in pool {pool}")?.as_bytes())
+        }
+        None => out.extend(b"no sale"),
+    }
+}
+
+fn put_user(market: &Market, out: &mut Txt) -> Result<(), AllocError> {
+    match user_of(&market.request) {
+        Some(user) => out.extend(user.as_bytes()),
+        None => out.extend(b"none"),
+    }
+}
