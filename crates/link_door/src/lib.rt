@@ -1,0 +1,20 @@
+//! Where conversations come from: links, over which bytes are received and sent, and doors, through
+//! which links come.
+//!
+//! Each has a form in memory, of which contracts tell what it holds, and a real form over the network,
+//! of which they tell the count of faults alone.
+#![tactic(auto)]
+
+mod door;
+mod link;
+mod memory_door;
+mod memory_link;
+mod pause;
+mod tcp;
+
+pub use door::Door;
+pub use link::Link;
+pub use memory_door::MemDoor;
+pub use memory_link::MemLink;
+pub use pause::{NoPause, Pause};
+pub use tcp::{TcpDoor, TcpLink};
