@@ -1,5 +1,5 @@
 -- How a conversation goes on, and how it ends.
-use Rattle.std.proofs.Common.{◌≡◌, ℕ, suc, ◌+◌, ◌*◌, ◌-◌, ◌<◌, ◌≤◌, ◌==◌, ◌||◌, ◌⊎◌, inl, inr, not, Bool, true, false, List, [], ◌∷◌, ◌++◌, length, drop, Option, Some, None, refl, sym, ap, subst, ◌∙◌, append_assoc, length-append, arith}
+use Rattle.std.proofs.Common.{◌≡◌, ℕ, ◌+◌, ◌*◌, ◌-◌, ◌<◌, ◌≤◌, ◌==◌, ◌||◌, inl, inr, not, Bool, true, false, List, [], ◌∷◌, ◌++◌, length, drop, Option, Some, None, refl, sym, ap, subst, ◌∙◌, append_assoc, length-append, arith}
 use Rattle.std.specs.List.{list_any}
 use Rattle.std.specs.Io.KnownBytes.{Appends, Consumes}
 use Rattle.std.proofs.KnownBytes.{Appends-trans, Consumes-trans}
@@ -7,22 +7,21 @@ use Rattle.std.proofs.lemmas.List.{append-nil, length-drop}
 use Rattle.std.proofs.lemmas.Bool.{cases_lt, eq-eqb}
 use Rattle.rtb_io.specs.Fronts.{AppendsFront}
 use Rattle.http_wire.specs.declared.message.Message.{Message}
-use Rattle.http_wire.specs.declared.message.Step.{Step}
 use Rattle.http_wire.specs.declared.message.Step.TheVariants.{Got, Refused}
 use Rattle.http_wire.specs.declared.refusal.Refusal.{Refusal}
 use Rattle.http_wire.specs.declared.refusal.Refusal.TheVariants as refusal
 use Rattle.http_wire.specs.Answers.{IsWritable, error_answer, statuses}
-use Rattle.http_wire.specs.Wire.{Decides, IsOutside}
-use Rattle.http_wire.specs.Words.{status_of, word_of}
+use Rattle.http_wire.specs.Wire.{Decides}
+use Rattle.http_wire.specs.Words.{status_of}
 use Rattle.session.specs.declared.link_end.LinkEnd.{LinkEnd}
 use Rattle.session.specs.declared.link_end.LinkEnd.TheVariants as link
 use Rattle.session.specs.declared.service.Given.{Given}
 use Rattle.session.specs.declared.receive.Received.TheVariants as received
 use Rattle.session.specs.Receives.{Costs, Grows, IsReceived, IsEnd, IsMemoryEnd, IsTail, IsTurn, Talking, TurnEnds}
 use Rattle.session.specs.Streams.{is_last, most_messages}
-use Rattle.session.specs.Talk.{EndsSo, EndsWith, GoesOn, IsOver, IsServed, IsText, Sends, Talks, Turn, bodies, memory_closes, refusal_text, texts}
+use Rattle.session.specs.Talk.{EndsSo, GoesOn, IsOver, IsServed, Sends, Talks, Turn, bodies, memory_closes, refusal_text, texts}
 use Rattle.session.proofs.Ends.{stream_of}
-use Rattle.session.proofs.Talks.{bodies_more, cost_more, goes_more, talks_more, talks_on, texts_more}
+use Rattle.session.proofs.Talks.{bodies_more, goes_more, talks_more, talks_on, texts_more}
 
 pub memory_tail : (status : ℕ) (word : List ℕ) (end : LinkEnd) → IsMemoryEnd end → IsTail status word memory_closes end
 memory_tail status word end (inl e) = subst (λ k. IsTail status word memory_closes k) (sym e) refl

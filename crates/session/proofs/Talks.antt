@@ -1,17 +1,12 @@
 -- A conversation that goes on by one message, and one whose bytes go on.
-use Rattle.std.proofs.Common.{◌≡◌, ℕ, suc, ◌+◌, ◌*◌, ◌-◌, ◌<◌, ◌≤◌, ◌==◌, ◌||◌, ◌⊎◌, inl, inr, Bool, true, false, List, [], ◌∷◌, ◌++◌, length, drop, Option, refl, sym, ap, subst, ◌∙◌, append_assoc, length-append, arith}
-use Rattle.std.specs.Prelude.{flat_map}
-use Rattle.std.specs.Io.KnownBytes.{Appends, Consumes}
-use Rattle.std.proofs.KnownBytes.{Appends-trans, Consumes-trans}
+use Rattle.std.proofs.Common.{◌≡◌, ℕ, ◌+◌, ◌*◌, ◌≤◌, false, List, [], ◌∷◌, ◌++◌, length, drop, refl, sym, ap, subst, ◌∙◌, arith}
 use Rattle.std.proofs.lemmas.Grind.{flat_map-append}
-use Rattle.std.proofs.lemmas.List.{append-nil, drop-append-le, length-drop}
+use Rattle.std.proofs.lemmas.List.{append-nil, drop-append-le}
 use Rattle.http_wire.specs.declared.message.Message.{Message}
-use Rattle.http_wire.specs.declared.message.Step.{Step}
-use Rattle.http_wire.specs.declared.message.Step.TheVariants.{Got, Refused}
-use Rattle.http_wire.specs.Wire.{Decides, IsOutside}
+use Rattle.http_wire.specs.declared.message.Step.TheVariants.{Got}
+use Rattle.http_wire.specs.Wire.{Decides}
 use Rattle.http_wire.proofs.Openings.{decides_stays}
 use Rattle.session.specs.declared.service.Given.{Given}
-use Rattle.session.specs.Receives.{Costs, Grows}
 use Rattle.session.specs.Streams.{is_last}
 use Rattle.session.specs.Talk.{Turn, GoesOn, IsText, Talks, texts, bodies}
 

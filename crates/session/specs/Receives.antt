@@ -5,9 +5,8 @@ use Rattle.std.specs.Io.KnownBytes.{Appends, Consumes}
 use Rattle.rtb_io.specs.Fronts.{AppendsFront}
 use Rattle.httparse.specs.Grammar.{RequestHead}
 use Rattle.http_wire.specs.declared.message.Message.{Message}
-use Rattle.http_wire.specs.declared.message.Step.{Step}
 use Rattle.http_wire.specs.declared.message.Step.TheVariants.{Got, Refused}
-use Rattle.http_wire.specs.Wire.{Decides, IsLeast, IsOutside, Opens, begun}
+use Rattle.http_wire.specs.Wire.{Decides, IsOutside, Opens, begun}
 use Rattle.session.specs.declared.receive.Received.{Received}
 use Rattle.session.specs.declared.receive.Received.TheVariants as received
 use Rattle.session.specs.declared.receive.More.{More}

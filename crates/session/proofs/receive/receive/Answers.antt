@@ -1,4 +1,4 @@
-use Rattle.std.proofs.Common.{◌≡◌, ℕ, ◌+◌, ◌-◌, ◌≤◌, ◌++◌, List, length, refl, sym, ap, subst, ◌∙◌, arith}
+use Rattle.std.proofs.Common.{◌≡◌, ◌+◌, ◌-◌, ◌≤◌, ◌++◌, length, refl, sym, ap, subst, ◌∙◌, arith}
 use Rattle.http_wire.specs.declared.message.Step.{Step}
 use Rattle.http_wire.specs.declared.message.Step.TheVariants.{Got, Refused}
 use Rattle.http_wire.specs.Wire.{Decides, IsLeast}

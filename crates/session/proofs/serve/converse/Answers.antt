@@ -1,4 +1,4 @@
-use Rattle.std.proofs.Common.{◌≡◌, ◌+◌, ◌-◌, ◌<◌, ◌≤◌, refl, sym, ap, ◌∙◌, arith}
+use Rattle.std.proofs.Common.{refl, ◌∙◌, arith}
 use Rattle.session.proofs.Served.{at_first, decided_writable, fails, goes_on, over, refuses, starves, still_few, stops}
 use Rattle.session.proofs.serve.converse.Goals as goal
 
