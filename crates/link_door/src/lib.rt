@@ -9,12 +9,18 @@ mod door;
 mod link;
 mod memory_door;
 mod memory_link;
+mod memory_world;
+mod os_world;
 mod pause;
 mod tcp;
+mod world;
 
 pub use door::Door;
 pub use link::Link;
 pub use memory_door::MemDoor;
 pub use memory_link::MemLink;
+pub use memory_world::MemWorld;
+pub use os_world::OsWorld;
 pub use pause::{NoPause, Pause};
 pub use tcp::{TcpDoor, TcpLink};
+pub use world::{World, WorldFault};
