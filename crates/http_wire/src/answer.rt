@@ -1,0 +1,153 @@
+//! How answers are written.
+ghost use Rattle.std.specs.Prelude.{◌≡◌, ◌++◌, List, ℕ, length, take, OnOk, OnErr};
+ghost use Rattle.http_wire.specs.Answers.{IsWritable, allow_line, answer_text, close_line, length_line, memory_answer, status_line, store_failed_answer, type_line};
+
+use itoa::Buffer;
+use rtb_num::Txt;
+use std::alloc::AllocError;
+
+/// The methods that an answer of 405 lists (RFC 9110, section 10.2.1).
+#[derive(Clone, Copy, Debug, PartialEq, Eq)]
+pub enum Allow {
+    None,
+    Post,
+    GetPost,
+}
+
+/// An answer.
+#[derive(Debug, Drop)]
+pub struct Answer {
+    /// A code of RFC 9110, section 15, or of RFC 6585.
+    pub status: u16,
+    /// Some methods at 405, and none at any other status.
+    pub allow: Allow,
+    /// JSON, or nothing; nothing at 204 and 405.
+    pub body: Txt,
+}
+
+/// Appends the text of the answer, all or nothing. `closes`: the link ends behind it.
+///
+/// The status is 200, 201, 204, 400, 404, 405, 409, 410, 413, 415, 431, 500, 501 or 503.
+pub fn write_answer(answer: &Answer, closes: bool, out: &mut Txt) -> Result<(), AllocError>
+    requires { IsWritable answer.now }
+    ensures ok { OnOk result (out.new ≡ out.old ++ answer_text answer.now closes) }
+    ensures err { OnErr result (out.new ≡ out.old) }
+{
+    let before = out.len();
+    let written = push_answer(answer, closes, out);
+    out.settle(before, written)
+}
+
+/// The answer where memory is refused: 503 with `memory`, or `memory-late` where `late` says that the
+/// message has an entry. It takes no memory.
+#[tactic(auto, unfolding(crate::specs::Answers::answer_text, crate::specs::Answers::status_text))]
+pub fn memory_text(late: bool, closes: bool) -> &'static [u8]
+    ensures { result.now ≡ answer_text (memory_answer late) closes }
+{
+    match (late, closes) {
+        (false, false) =>
+            b"HTTP/1.1 503 Service Unavailable\r\nContent-Type: application/json\r\nContent-Length: 18\r\n\r\n{\"error\":\"memory\"}",
+        (false, true) =>
+            b"HTTP/1.1 503 Service Unavailable\r\nContent-Type: application/json\r\nContent-Length: 18\r\nConnection: close\r\n\r\n{\"error\":\"memory\"}",
+        (true, false) =>
+            b"HTTP/1.1 503 Service Unavailable\r\nContent-Type: application/json\r\nContent-Length: 23\r\n\r\n{\"error\":\"memory-late\"}",
+        (true, true) =>
+            b"HTTP/1.1 503 Service Unavailable\r\nContent-Type: application/json\r\nContent-Length: 23\r\nConnection: close\r\n\r\n{\"error\":\"memory-late\"}",
+    }
+}
+
+/// The answer where the store failed: 500 with `store-failed`. It takes no memory.
+#[tactic(auto, unfolding(crate::specs::Answers::answer_text, crate::specs::Answers::status_text))]
+pub fn store_failed_text(closes: bool) -> &'static [u8]
+    ensures { result.now ≡ answer_text store_failed_answer closes }
+{
+    if closes {
+        b"HTTP/1.1 500 Internal Server Error\r\nContent-Type: application/json\r\nContent-Length: 24\r\nConnection: close\r\n\r\n{\"error\":\"store-failed\"}"
+    } else {
+        b"HTTP/1.1 500 Internal Server Error\r\nContent-Type: application/json\r\nContent-Length: 24\r\n\r\n{\"error\":\"store-failed\"}"
+    }
+}
+
+// Appends the answer, or a front of it where memory is refused.
+#[tactic(auto, unfolding(crate::specs::Answers::answer_text))]
+fn push_answer(answer: &Answer, closes: bool, out: &mut Txt) -> Result<(), AllocError>
+    ensures ok { OnOk result (out.new ≡ out.old ++ answer_text answer.now closes) }
+    ensures front { (more : List ℕ) × (out.new ≡ out.old ++ more) }
+{
+    let body = answer.body.as_bytes();
+    out.extend(status_line(answer.status))?;
+    out.extend(allow_line(answer.allow))?;
+    out.extend(type_line(body))?;
+    push_length(answer.status, body, out)?;
+    out.extend(close_line(closes))?;
+    out.extend(b"\r\n")?;
+    out.extend(body)?;
+    Ok(())
+}
+
+// Appends the line of the length.
+fn push_length(status: u16, body: &[u8], out: &mut Txt) -> Result<(), AllocError>
+    ensures ok { OnOk result (out.new ≡ out.old ++ length_line status body.now) }
+    ensures front { (more : List ℕ) × (out.new ≡ out.old ++ more) }
+{
+    if status == 204 {
+        return Ok(());
+    }
+    out.extend(b"Content-Length: ")?;
+    out.extend(Buffer::new().format(body.len()).as_bytes())?;
+    out.extend(b"\r\n")?;
+    Ok(())
+}
+
+// The status line of a status, and nothing for what is no status of an answer.
+#[tactic(auto, unfolding(crate::specs::Answers::status_text))]
+fn status_line(status: u16) -> &'static [u8]
+    ensures { result.now ≡ status_line status }
+{
+    match status {
+        200 => b"HTTP/1.1 200 OK\r\n",
+        201 => b"HTTP/1.1 201 Created\r\n",
+        204 => b"HTTP/1.1 204 No Content\r\n",
+        400 => b"HTTP/1.1 400 Bad Request\r\n",
+        404 => b"HTTP/1.1 404 Not Found\r\n",
+        405 => b"HTTP/1.1 405 Method Not Allowed\r\n",
+        409 => b"HTTP/1.1 409 Conflict\r\n",
+        410 => b"HTTP/1.1 410 Gone\r\n",
+        413 => b"HTTP/1.1 413 Content Too Large\r\n",
+        415 => b"HTTP/1.1 415 Unsupported Media Type\r\n",
+        431 => b"HTTP/1.1 431 Request Header Fields Too Large\r\n",
+        500 => b"HTTP/1.1 500 Internal Server Error\r\n",
+        501 => b"HTTP/1.1 501 Not Implemented\r\n",
+        503 => b"HTTP/1.1 503 Service Unavailable\r\n",
+        _ => b"HTTP/1.1 \r\n",
+    }
+}
+
+fn allow_line(allow: Allow) -> &'static [u8]
+    ensures { result.now ≡ allow_line allow }
+{
+    match allow {
+        Allow::None => b"",
+        Allow::Post => b"Allow: POST\r\n",
+        Allow::GetPost => b"Allow: GET, POST\r\n",
+    }
+}
+
+fn type_line(body: &[u8]) -> &'static [u8]
+    ensures { result.now ≡ type_line body.now }
+{
+    match body {
+        [] => b"",
+        [_, ..] => b"Content-Type: application/json\r\n",
+    }
+}
+
+fn close_line(closes: bool) -> &'static [u8]
+    ensures { result.now ≡ close_line closes }
+{
+    if closes {
+        b"Connection: close\r\n"
+    } else {
+        b""
+    }
+}

@@ -1,0 +1,4 @@
+pub mod Doors
+pub mod Memory
+pub mod MemoryWorld
+pub mod Worlds

@@ -1,0 +1,15 @@
+-- What contracts see of a world in memory.
+use Rattle.std.specs.Prelude.{ℕ, List, Bool, length, nat_lt, ◌||◌}
+use Rattle.rtb_base.specs.Calls.{Calls, next_fails}
+use Rattle.rtb_disk.specs.Memory.{DiskState}
+use Rattle.link_door.specs.Memory.{DoorState}
+
+-- the doors and the disks that are left, and the calls
+pub record WorldState : Type 0 where
+  pub doors : List DoorState
+  pub disks : List DiskState
+  pub calls : Calls
+
+-- a call for so many of these fails: it is told to, or there are too few
+abbrev pub lacks : {Item : Type 0} → Calls → List Item → ℕ → Bool
+lacks calls items n = next_fails calls || nat_lt (length items) n

@@ -1,0 +1,109 @@
+ghost use Rattle.std.specs.Prelude.{◌≡◌, true, false, ◌∷◌, [], Some, Err, length, take, drop, ◌<◌, ◌≤◌, IfOk, OnOk, OnErr, MatchResult};
+ghost use Rattle.rtb_base.specs.Calls.{no_calls, one_call_later};
+ghost use Rattle.std.specs.Result.{is_err};
+ghost use Rattle.link_door.specs.MemoryWorld.{lacks};
+ghost use Rattle.rtb_base.specs.Faults.{CountsErrors, RisesOnlyWhere, RoseAtMost};
+ghost use Rattle.link_door.specs.Worlds.{HandsOut};
+
+use crate::memory_door::MemDoor;
+use crate::world::{World, WorldFault};
+use rtb_disk::MemDisk;
+use rtb_num::{Calls, Failed, List, Txt};
+use std::alloc::{AllocError, Global};
+use std::marker::Model;
+use std::mem;
+
+/// A world in memory, where the calls whose numbers are listed fail.
+///
+/// Calls of `doors` and `disk` are numbered together. Addresses and names are passed over: doors and
+/// disks are handed out in their order. A call that asks for more than are left fails too.
+#[derive(Debug, Drop)]
+pub struct MemWorld {
+    doors: Vec<MemDoor>,
+    disks: Vec<MemDisk>,
+    calls: Calls,
+}
+
+impl Model for MemWorld {
+    ghost use Rattle.link_door.specs.MemoryWorld.{WorldState};
+
+    ghost Value = { WorldState };
+
+    ghost view = { λ w. record { doors = w.doors.items; disks = w.disks.items; calls = w.calls } };
+}
+
+impl MemWorld {
+    /// A world that has these left, and was not called yet. It takes no memory.
+    pub fn new(_: Global, doors: List<MemDoor>, disks: List<MemDisk>, fails: List<u64>) -> MemWorld
+        ensures { result ≡ record { doors = doors; disks = disks; calls = no_calls fails } }
+    {
+        MemWorld {
+            doors: doors.into_vec(),
+            disks: disks.into_vec(),
+            calls: Calls::new(fails),
+        }
+    }
+
+    /// Its calls so far.
+    pub fn calls(&self) -> &Calls
+        ensures { result.now ≡ self.now.calls }
+    {
+        &self.calls
+    }
+}
+
+impl World for MemWorld {
+    type Door = MemDoor;
+
+    type Disk = MemDisk;
+
+    ghost doors_left = { λ w. Some w.doors };
+
+    ghost disks_left = { λ w. Some w.disks };
+
+    ghost faults = { λ w. w.calls.faults };
+
+    fn doors(&mut self, _: Global, _: &Txt, n: u32) -> Result<List<MemDoor>, WorldFault> {
+        if self.calls.begin() || self.doors.len() < n as usize {
+            self.calls.count_fault();
+            return Err(WorldFault::Failed);
+        }
+        let doors = first_doors(&mut self.doors, n as usize)?;
+        Ok(List::from_vec(doors))
+    }
+
+    fn disk(&mut self, _: &Txt) -> Result<MemDisk, Failed>
+        ensures disks { MatchResult result (λ disk. HandsOut (Some self.old.disks) (Some self.new.disks) (disk ∷ [])) (λ _. self.new.disks ≡ self.old.disks) }
+        ensures doors { self.new.doors ≡ self.old.doors }
+        ensures cause { CountsErrors self.old.calls.faults self.new.calls.faults result }
+
+        // A call fails exactly where it is told to, or where none is left.
+        ensures told { is_err result ≡ lacks self.old.calls self.old.disks 1 }
+        ensures calls { self.new.calls ≡ one_call_later self.old.calls (is_err result) }
+    {
+        if self.calls.begin() || self.disks.is_empty() {
+            self.calls.count_fault();
+            return Err(Failed);
+        }
+        Ok(first_disk(&mut self.disks))
+    }
+}
+
+// Takes the first so many.
+fn first_doors(doors: &mut Vec<MemDoor>, n: usize) -> Result<Vec<MemDoor>, AllocError>
+    requires { n ≤ length doors.old.items }
+    ensures given { IfOk result (λ first. first.items ≡ take n doors.old.items) }
+    ensures left { OnOk result (doors.new.items ≡ drop n doors.old.items) }
+    ensures kept { OnErr result (doors.new.items ≡ doors.old.items) }
+{
+    let rest = doors.split_off(n)?;
+    Ok(mem::replace(doors, rest))
+}
+
+// Takes the first.
+fn first_disk(disks: &mut Vec<MemDisk>) -> MemDisk
+    requires { 0 < length disks.old.items }
+    ensures { disks.old.items ≡ result ∷ disks.new.items }
+{
+    disks.remove(0)
+}

@@ -1,0 +1,61 @@
+ghost use Rattle.std.specs.Prelude.{◌≡◌, ℕ, ◌∷◌, [], Err, length, List, Option, IfOk, MatchResult};
+ghost use Rattle.rtb_base.specs.Faults.{CountsErrors, RisesOnlyWhere, RoseAtMost};
+ghost use Rattle.link_door.specs.Worlds.{HandsOut};
+ghost use Rattle.link_door.specs.declared.world.WorldFault.TheVariants.{Memory as memory};
+
+use crate::door::Door;
+use rtb_disk::Disk;
+use rtb_num::{Failed, List, Txt};
+use std::alloc::{AllocError, Global};
+
+/// Why doors were not made.
+#[derive(Clone, Copy, Debug, PartialEq, Eq)]
+pub enum WorldFault {
+    /// The world failed.
+    Failed,
+    /// Memory was refused.
+    Memory,
+}
+
+impl From<AllocError> for WorldFault {
+    ghost from_gives = { λ _ e. e ≡ memory };
+
+    fn from(_: AllocError) -> WorldFault {
+        WorldFault::Memory
+    }
+}
+
+/// The outside of a program: where its doors and disks come from.
+pub trait World {
+    type Door: Door;
+
+    type Disk: Disk;
+
+    // The doors and the disks that are left, where that is known.
+    ghost doors_left: { Self → Option (List Self.Door) };
+
+    ghost disks_left: { Self → Option (List Self.Disk) };
+
+    // How many calls failed so far, up to the greatest number of 64 bits.
+    ghost faults: { Self → ℕ };
+
+    /// So many doors, which share an address. `address` is a name or a number of a host and a port, as
+    /// `127.0.0.1:8080`.
+    fn doors(
+        &mut self,
+        alloc: Global,
+        address: &Txt,
+        n: u32,
+    ) -> Result<List<Self::Door>, WorldFault>
+        ensures count { IfOk result (λ doors. length doors ≡ n) }
+        ensures doors { MatchResult result (HandsOut (doors_left self.old) (doors_left self.new)) (λ _. doors_left self.new ≡ doors_left self.old) }
+        ensures disks { disks_left self.new ≡ disks_left self.old }
+        ensures cause { RisesOnlyWhere (result ≡ Err WorldFault.Failed) (faults self.old) (faults self.new) }
+        ensures once { RoseAtMost 1 (faults self.old) (faults self.new) };
+
+    /// The disk with this name.
+    fn disk(&mut self, path: &Txt) -> Result<Self::Disk, Failed>
+        ensures disks { MatchResult result (λ disk. HandsOut (disks_left self.old) (disks_left self.new) (disk ∷ [])) (λ _. disks_left self.new ≡ disks_left self.old) }
+        ensures doors { doors_left self.new ≡ doors_left self.old }
+        ensures cause { CountsErrors (faults self.old) (faults self.new) result };
+}

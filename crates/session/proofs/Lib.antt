@@ -1,0 +1,5 @@
+pub mod Arrives
+pub mod Ends
+pub mod Rooms
+pub mod Served
+pub mod Talks

@@ -1,0 +1,3 @@
+pub mod Receives
+pub mod Streams
+pub mod Talk

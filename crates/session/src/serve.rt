@@ -1,0 +1,87 @@
+ghost use Rattle.std.specs.Prelude.{◌≡◌, ◌-◌, ◌≤◌, []};
+ghost use Rattle.rtb_base.specs.Faults.{RisesOnlyWhere, RoseAtMost};
+ghost use Rattle.session.specs.Receives.{IsEnd};
+ghost use Rattle.session.specs.Talk.{IsServed};
+
+use crate::input::Input;
+use crate::link_end::LinkEnd;
+use crate::receive::{Received, receive};
+use crate::refusals::{out_of_memory, refuse};
+use crate::service::Service;
+use crate::turns::take_turn;
+use http_wire::is_blank;
+use link_door::Link;
+use rtb_base::Steps;
+use rtb_num::Txt;
+use std::alloc::Global;
+use std::sync::ledger::Ledger;
+
+/// Serves one link to its end: reads messages, gives each to the service, and sends the texts of
+/// what it gives.
+///
+/// The room for the greatest message, 270,336 bytes, is taken first, and is all that input takes. It
+/// ticks once for each call of `next_message`.
+pub fn serve_link<S: Service, L: Link, G: Ledger>(
+    alloc: Global,
+    service: &mut S,
+    link: &mut L,
+    steps: &mut Steps<G>,
+) -> LinkEnd
+    ensures served { IsServed S.answers service.old service.new (L.left link.old) (L.left link.new) (L.sent link.old) (L.sent link.new) (steps.new - steps.old) result }
+    ensures ticks { steps.old ≤ steps.new }
+    ensures cause { RisesOnlyWhere (result ≡ LinkEnd.LinkFailed) (L.faults link.old) (L.faults link.new) }
+    ensures once { RoseAtMost 1 (L.faults link.old) (L.faults link.new) }
+{
+    match Input::new(alloc) {
+        Ok(mut input) => converse(alloc, service, link, &mut input, steps),
+        Err(_) => LinkEnd::NoMemory,
+    }
+}
+
+// The messages of a link, from the first.
+fn converse<S: Service, L: Link, G: Ledger>(
+    alloc: Global,
+    service: &mut S,
+    link: &mut L,
+    input: &mut Input,
+    steps: &mut Steps<G>,
+) -> LinkEnd
+    requires { input.old ≡ [] }
+    ensures served { IsServed S.answers service.old service.new (L.left link.old) (L.left link.new) (L.sent link.old) (L.sent link.new) (steps.new - steps.old) result }
+    ensures ticks { steps.old ≤ steps.new }
+    ensures cause { RisesOnlyWhere (result ≡ LinkEnd.LinkFailed) (L.faults link.old) (L.faults link.new) }
+    ensures once { RoseAtMost 1 (L.faults link.old) (L.faults link.new) }
+{
+    let mut out = Txt::new(alloc);
+    let mut number: u32 = 0;
+    'messages: loop {
+        let message = match receive(alloc, input, link, steps) {
+            Received::Message(message) => message,
+            Received::Refused { status, word } => {
+                return refuse(alloc, status, &word, &mut out, link);
+            }
+            Received::Ended => return input_ended(alloc, input),
+            Received::Failed => return LinkEnd::LinkFailed,
+            Received::Memory => return out_of_memory(link),
+        };
+        number += 1;
+        match take_turn(service, &message, number, &mut out, link) {
+            Some(end) => return end,
+            None => {}
+        }
+    }
+}
+
+// How a link ends whose input has ended.
+fn input_ended(alloc: Global, input: &Input) -> LinkEnd
+    ensures { IsEnd input.now result }
+{
+    let rest = input.bytes();
+    if is_blank(rest) {
+        return LinkEnd::Done;
+    }
+    match Txt::from_slice(alloc, rest) {
+        Ok(left) => LinkEnd::Cut { left },
+        Err(_) => LinkEnd::NoMemory,
+    }
+}

@@ -1,0 +1,159 @@
+//! Calls of `session`: conversations of the small service.
+ghost use Rattle.std.specs.Prelude.{◌≡◌, ◌<◌};
+
+use crate::outside::numbers_in;
+use crate::pieces::Pieces;
+use crate::small_service::Small;
+use link_door::MemLink;
+use rtb_base::Steps;
+use rtb_num::{List, Txt, write_decimal};
+use session::{LinkEnd, serve_link};
+use std::alloc::{AllocError, Global};
+use std::marker::Brand;
+use std::sync::ledger::{Blank, Ledger};
+
+/// Answers a call of this area, or tells that it is none.
+///
+/// - `serve | BYTES`: why the link ended, and behind a colon what was sent. The conversation is held with
+///   the bytes at once, one by one, and in two pieces cut at every byte; where two of them differ, the
+///   answer says `differs at` and the cut.
+/// - `serve_whole | BYTES`: the same with the bytes at once and one by one only.
+/// - `serve_times | N | BYTES | STEP`: the same of N times BYTES, cut at every STEP bytes only, with how
+///   many bytes were sent in place of them.
+/// - `serve_failing | BYTES | CALLS`: the bytes at once over a link where these calls fail, counted from 1.
+pub fn answer(alloc: Global, call: &[u8], args: &[Txt], out: &mut Txt) -> Result<bool, AllocError> {
+    match args {
+        [text] if call == b"serve".as_slice() => {
+            let came = cut_everywhere(alloc, text.as_bytes(), 1)?;
+            out.extend_all(&[came.end.as_bytes(), b": ", came.sent.as_bytes()])?;
+            Ok(true)
+        }
+        [text] if call == b"serve_whole".as_slice() => {
+            let came = cut_everywhere(alloc, text.as_bytes(), usize::MAX)?;
+            out.extend_all(&[came.end.as_bytes(), b": ", came.sent.as_bytes()])?;
+            Ok(true)
+        }
+        [times, text, step] if call == b"serve_times".as_slice() => {
+            let all = repeated(alloc, times.as_bytes(), text.as_bytes())?;
+            let step = number_in(step.as_bytes());
+            let came = cut_everywhere(alloc, all.as_bytes(), step)?;
+            out.extend_all(&[came.end.as_bytes(), b": "])?;
+            write_decimal(came.sent.len() as u64, out)?;
+            Ok(true)
+        }
+        [text, calls] if call == b"serve_failing".as_slice() => {
+            let fails = numbers_in(alloc, calls.as_bytes())?;
+            let came = served(alloc, text.as_bytes(), 0, false, fails)?;
+            out.extend_all(&[came.end.as_bytes(), b": ", came.sent.as_bytes()])?;
+            Ok(true)
+        }
+        _ => Ok(false),
+    }
+}
+
+fn number_in(word: &[u8]) -> usize {
+    match str::from_utf8(word) {
+        Ok(text) => text.parse::<usize>().unwrap_or(0),
+        Err(_) => 0,
+    }
+}
+
+fn repeated(alloc: Global, times: &[u8], text: &[u8]) -> Result<Txt, AllocError> {
+    let mut all = Txt::new(alloc);
+    for _ in 0..number_in(times) {
+        all.extend(text)?;
+    }
+    Ok(all)
+}
+
+// What came of a conversation.
+#[derive(Drop)]
+struct Came {
+    end: Txt,
+    sent: Txt,
+}
+
+// The conversation held with the bytes cut in many ways.
+fn cut_everywhere(alloc: Global, text: &[u8], step: usize) -> Result<Came, AllocError> {
+    let whole = served(alloc, text, 0, false, List::new(alloc))?;
+    let single = served(alloc, text, 0, true, List::new(alloc))?;
+    if !is_same(&whole, &single) {
+        return different(alloc, 0);
+    }
+    for at in (0..text.len()).step_by(step.max(1)) {
+        let cut = served(alloc, text, at, false, List::new(alloc))?;
+        if !is_same(&whole, &cut) {
+            return different(alloc, at);
+        }
+    }
+    Ok(whole)
+}
+
+fn is_same(a: &Came, b: &Came) -> bool {
+    a.end == b.end && a.sent == b.sent
+}
+
+fn different(alloc: Global, at: usize) -> Result<Came, AllocError> {
+    let mut end = Txt::from_slice(alloc, b"differs at ")?;
+    write_decimal(at as u64, &mut end)?;
+    Ok(Came {
+        end,
+        sent: Txt::new(alloc),
+    })
+}
+
+fn served(
+    alloc: Global,
+    text: &[u8],
+    first: usize,
+    single: bool,
+    fails: List<u64>,
+) -> Result<Came, AllocError> {
+    let left = Txt::from_slice(alloc, text)?;
+    let link = Pieces {
+        inner: MemLink::new(alloc, left, fails),
+        first,
+        single,
+    };
+    held::<Brand>(alloc, link, Blank::new(1))
+}
+
+fn held<L: Ledger>(alloc: Global, link: Pieces, blank: Blank) -> Result<Came, AllocError>
+    requires name { blank.name ≡ L.name }
+    requires parts { blank.parts ≡ L.parts }
+    requires some { 0 < blank.parts }
+{
+    let mut link = link;
+    let mut service = Small { alloc };
+    let mut steps = Steps::<L>::new(blank);
+    let end = serve_link(alloc, &mut service, &mut link, &mut steps);
+    let sent = link.inner.sent().copy()?;
+    Ok(Came {
+        end: text_of(alloc, &end)?,
+        sent,
+    })
+}
+
+fn text_of(alloc: Global, end: &LinkEnd) -> Result<Txt, AllocError> {
+    match end {
+        LinkEnd::Done => Txt::from_slice(alloc, b"done"),
+        LinkEnd::Cut { left } => cut_text(alloc, left),
+        LinkEnd::Refused { status } => refused_text(alloc, *status),
+        LinkEnd::Asked => Txt::from_slice(alloc, b"asked"),
+        LinkEnd::Spent => Txt::from_slice(alloc, b"spent"),
+        LinkEnd::LinkFailed => Txt::from_slice(alloc, b"failed"),
+        LinkEnd::NoMemory => Err(AllocError),
+    }
+}
+
+fn cut_text(alloc: Global, left: &Txt) -> Result<Txt, AllocError> {
+    let mut text = Txt::from_slice(alloc, b"cut [")?;
+    text.extend_all(&[left.as_bytes(), b"]"])?;
+    Ok(text)
+}
+
+fn refused_text(alloc: Global, status: u16) -> Result<Txt, AllocError> {
+    let mut text = Txt::from_slice(alloc, b"refused ")?;
+    write_decimal(u64::from(status), &mut text)?;
+    Ok(text)
+}

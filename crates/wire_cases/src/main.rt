@@ -1,0 +1,39 @@
+//! The program `wire_cases`: reads cases of the wire, a line each, and prints those that are answered
+//! otherwise than they say.
+//!
+//! `case_lines` says what a case is; each area has a module with its calls.
+#![tactic(auto)]
+
+mod conversations;
+mod messages;
+mod outside;
+mod pieces;
+mod small_service;
+
+use case_lines::{Areas, run_cases};
+use rtb_num::{StdSink, StdSource, Txt};
+use std::alloc::{AllocError, Global};
+use std::io;
+use std::process::ExitCode;
+
+// The report on all cases of standard input, or the status of what stood in the way.
+fn main(rt: HostRuntime) -> ExitCode {
+    let mut source = StdSource::new(rt.reader());
+    let mut sink = StdSink::new(io::writer(&rt));
+    ExitCode::from(run_cases::<Wire, _, _>(rt.alloc(), &mut source, &mut sink))
+}
+
+// The areas of the wire's crates.
+struct Wire;
+
+impl Areas for Wire {
+    fn answer(alloc: Global, call: &[u8], args: &[Txt], out: &mut Txt) -> Result<bool, AllocError> {
+        if messages::answer(alloc, call, args, out)? {
+            return Ok(true);
+        }
+        if conversations::answer(alloc, call, args, out)? {
+            return Ok(true);
+        }
+        outside::answer(alloc, call, args, out)
+    }
+}

@@ -1,0 +1,149 @@
+//! Calls of `http_wire`: what stands at the front of some bytes, and the texts of answers.
+ghost use Rattle.std.specs.Prelude.{◌≡◌, ◌<◌};
+
+use crate::small_service::{no_content, not_allowed, with_body};
+use http_wire::{
+    Allow, Step, at_least, is_blank, memory_text, next_message, store_failed_text, write_answer,
+};
+use rtb_base::Steps;
+use rtb_num::{Txt, write_decimal};
+use std::alloc::{AllocError, Global};
+use std::marker::Brand;
+use std::sync::ledger::{Blank, Ledger};
+
+/// Answers a call of this area, or tells that it is none.
+///
+/// - `message | BYTES`: `METHOD TARGET [BODY] stays` or `closes`, and how many bytes of BYTES stand
+///   behind it; or `refused STATUS WORD`; or `need N`, the least number of bytes that decides more.
+/// - `blank | BYTES`: `yes` where they are empty lines alone.
+/// - `answer | STATUS | ALLOW | BODY | CLOSES`: its text. ALLOW is `POST`, `GET, POST` or nothing, and
+///   CLOSES `closes` or nothing.
+/// - `memory | CLOSES`, `memory_late | CLOSES`, `store_failed | CLOSES`: the text of that answer.
+pub fn answer(alloc: Global, call: &[u8], args: &[Txt], out: &mut Txt) -> Result<bool, AllocError> {
+    if put_message_of::<Brand>(alloc, call, args, out, Blank::new(1))? {
+        return Ok(true);
+    }
+    if put_text(call, args, out)? {
+        return Ok(true);
+    }
+    match args {
+        [status, allow, body, closes] if call == b"answer".as_slice() => {
+            let closes = is_closes(closes.as_bytes());
+            put_answer(
+                alloc,
+                status.as_bytes(),
+                allow.as_bytes(),
+                body,
+                closes,
+                out,
+            )?;
+            Ok(true)
+        }
+        _ => Ok(false),
+    }
+}
+
+fn put_message_of<L: Ledger>(
+    alloc: Global,
+    call: &[u8],
+    args: &[Txt],
+    out: &mut Txt,
+    blank: Blank,
+) -> Result<bool, AllocError>
+    requires name { blank.name ≡ L.name }
+    requires parts { blank.parts ≡ L.parts }
+    requires some { 0 < blank.parts }
+{
+    match args {
+        [text] if call == b"message".as_slice() => {
+            let mut steps = Steps::<L>::new(blank);
+            put_message(alloc, text.as_bytes(), &mut steps, out)?;
+            Ok(true)
+        }
+        _ => Ok(false),
+    }
+}
+
+fn put_text(call: &[u8], args: &[Txt], out: &mut Txt) -> Result<bool, AllocError> {
+    match args {
+        [text] => {
+            let text = text.as_bytes();
+            match call {
+                b"blank" => out.extend(if is_blank(text) { b"yes" } else { b"no" })?,
+                b"memory" => out.extend(memory_text(false, is_closes(text)))?,
+                b"memory_late" => out.extend(memory_text(true, is_closes(text)))?,
+                b"store_failed" => out.extend(store_failed_text(is_closes(text)))?,
+                _ => return Ok(false),
+            }
+            Ok(true)
+        }
+        _ => Ok(false),
+    }
+}
+
+fn is_closes(word: &[u8]) -> bool {
+    word == b"closes".as_slice()
+}
+
+fn put_message<L: Ledger>(
+    alloc: Global,
+    bytes: &[u8],
+    steps: &mut Steps<L>,
+    out: &mut Txt,
+) -> Result<(), AllocError> {
+    match next_message(alloc, bytes, steps)? {
+        Step::Need => {
+            out.extend(b"need ")?;
+            write_decimal(at_least(bytes) as u64, out)
+        }
+        Step::Got { message, used } => {
+            out.extend_all(&[message.method.as_bytes(), b" ", message.target.as_bytes()])?;
+            out.extend_all(&[b" [", message.body.as_bytes(), b"]"])?;
+            out.extend(if message.closes {
+                b" closes "
+            } else {
+                b" stays "
+            })?;
+            write_decimal(bytes.len().saturating_sub(used) as u64, out)
+        }
+        Step::Refused { status, word } => {
+            out.extend(b"refused ")?;
+            write_decimal(u64::from(status), out)?;
+            out.extend_all(&[b" ", word.as_bytes()])
+        }
+    }
+}
+
+fn put_answer(
+    alloc: Global,
+    status: &[u8],
+    allow: &[u8],
+    body: &Txt,
+    closes: bool,
+    out: &mut Txt,
+) -> Result<(), AllocError> {
+    match (status, allow) {
+        (b"204", _) => write_answer(&no_content(alloc), closes, out),
+        (b"405", b"POST") => write_answer(&not_allowed(alloc, Allow::Post), closes, out),
+        (b"405", _) => write_answer(&not_allowed(alloc, Allow::GetPost), closes, out),
+        _ => put_body(status, body.copy()?, closes, out),
+    }
+}
+
+fn put_body(status: &[u8], body: Txt, closes: bool, out: &mut Txt) -> Result<(), AllocError> {
+    match status {
+        b"200" => write_answer(&with_body(200, body), closes, out),
+        b"201" => write_answer(&with_body(201, body), closes, out),
+        b"400" => write_answer(&with_body(400, body), closes, out),
+        b"404" => write_answer(&with_body(404, body), closes, out),
+        b"409" => write_answer(&with_body(409, body), closes, out),
+        b"410" => write_answer(&with_body(410, body), closes, out),
+        b"413" => write_answer(&with_body(413, body), closes, out),
+        b"415" => write_answer(&with_body(415, body), closes, out),
+        b"431" => write_answer(&with_body(431, body), closes, out),
+        b"500" => write_answer(&with_body(500, body), closes, out),
+        b"501" => write_answer(&with_body(501, body), closes, out),
+        b"503" => write_answer(&with_body(503, body), closes, out),
+        _ => out.extend(b"no such status"),
+    }
+}
