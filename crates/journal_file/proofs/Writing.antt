@@ -1,0 +1,155 @@
+-- What the calls of an append leave.
+use Rattle.std.proofs.Common.{◌≡◌, ◌≢◌, inl, inr, ℕ, ◌+◌, ◌<◌, ◌≤◌, List, [], ◌∷◌, ◌++◌, length, take, drop, true, refl, sym, ◌∙◌, ap, subst, arith, append_assoc, length-append, length-drop}
+use Rattle.std.proofs.lemmas.List.{length-take, append-nil}
+use Rattle.std.proofs.lemmas.Bool.{cases_eq}
+use Rattle.rtb_disk.specs.Stores.{Store, Change, write, EachImage, Always, Fails, Torn, changed, settled, overwritten}
+use Rattle.rtb_disk.proofs.Moments.{Keeps, always_changed, always_failed, always_settled, always_then}
+use Rattle.rtb_disk.proofs.Writes.{written_behind, front_kept, byte_kept}
+use Rattle.byte_fields.specs.Encodings.{eight_bytes}
+use Rattle.byte_fields.proofs.Numbers.{length-eight}
+use Rattle.journal_file.specs.Blocks.{HasBlocks, HasBehind, IsName, block_bytes, end_of, front_of, open_blocks}
+use Rattle.journal_file.specs.Standing.{IsBeforeOrAfter}
+
+zero≢one : ◌≡◌ {A = ℕ} 0 1 → ⊥
+zero≢one e = omega (arith, e)
+
+-- where the gate behind a front stands
+pub front_long : (name : List ℕ) (payloads : List (List ℕ)) → length name ≡ 7 → length (front_of name payloads) ≡ end_of payloads
+unfolding front_of end_of
+front_long name payloads seven = omega (arith, length-append name (open_blocks payloads), seven)
+
+-- a write behind the closed gate keeps what stands before it
+pub behind_keeps : (names payloads : List (List ℕ)) (place n : ℕ) → end_of payloads < place → Keeps (HasBlocks names payloads) (write place n)
+behind_keeps names payloads place n lt = λ old new has torn.
+    let front = front_of has.name payloads ++ has.gate ∷ [] in
+    let long : length front ≤ place = omega (arith, length-append (front_of has.name payloads) (has.gate ∷ []), front_long has.name payloads has.named.seven, lt) in
+    let kept = front_kept front old new place n long has.rest (has.file ∙ sym (append_assoc (front_of has.name payloads) (has.gate ∷ []) has.rest)) torn in
+    record { name = has.name; named = has.named; gate = has.gate; rest = kept.0; closed = has.closed; file = kept.1 ∙ append_assoc (front_of has.name payloads) (has.gate ∷ []) kept.0 }
+
+-- the reads of three writes in a row behind a closed gate
+pub three_writes : (names payloads : List (List ℕ)) (block r0 : List ℕ) (gate : ℕ) → gate ≡ end_of payloads → HasBlocks names payloads r0
+    → HasBehind names payloads block (overwritten (overwritten (overwritten r0 (gate + 1) (eight_bytes (length block))) (gate + 9) block) (gate + 9 + length block) (0 ∷ []))
+unfolding block_bytes
+three_writes names payloads block r0 gate is has =
+    let front = front_of has.name payloads ++ has.gate ∷ [] in
+    let size = eight_bytes (length block) in
+    let long : length front ≡ gate + 1 = omega (arith, length-append (front_of has.name payloads) (has.gate ∷ []), front_long has.name payloads has.named.seven, is) in
+    let long2 : length (front ++ size) ≡ gate + 9 = omega (arith, long, length-append front size, length-eight (length block)) in
+    let long3 : length ((front ++ size) ++ block) ≡ gate + 9 + length block = omega (arith, long2, length-append (front ++ size) block) in
+    let r1 = drop (length size) has.rest in
+    let r2 = drop (length block) r1 in
+    let r3 = drop 1 r2 in
+    let one : overwritten r0 (gate + 1) size ≡ (front ++ size) ++ r1 =
+    ap (λ r. overwritten r (gate + 1) size) (has.file ∙ sym (append_assoc (front_of has.name payloads) (has.gate ∷ []) has.rest)) ∙ written_behind front has.rest size (gate + 1) long in
+    let two : overwritten (overwritten r0 (gate + 1) size) (gate + 9) block ≡ ((front ++ size) ++ block) ++ r2 =
+    ap (λ r. overwritten r (gate + 9) block) one ∙ written_behind (front ++ size) r1 block (gate + 9) long2 in
+    let three : overwritten (overwritten (overwritten r0 (gate + 1) size) (gate + 9) block) (gate + 9 + length block) (0 ∷ []) ≡ (((front ++ size) ++ block) ++ 0 ∷ []) ++ r3 =
+    ap (λ r. overwritten r (gate + 9 + length block) (0 ∷ [])) two ∙ written_behind ((front ++ size) ++ block) r2 (0 ∷ []) (gate + 9 + length block) long3 in
+    record {
+      name = has.name;
+      named = has.named;
+      gate = has.gate;
+      rest = r3;
+      file = three
+          ∙ append_assoc ((front ++ size) ++ block) (0 ∷ []) r3
+          ∙ ap (λ l. l ++ 0 ∷ r3) (append_assoc front size block)
+          ∙ append_assoc front (size ++ block) (0 ∷ r3)
+          ∙ append_assoc (front_of has.name payloads) (has.gate ∷ []) ((size ++ block) ++ 0 ∷ r3);
+    }
+
+-- one call more
+pub goes_on : (names payloads : List (List ℕ)) (place n : ℕ) → end_of payloads < place → (s t u : Store) (reads : List ℕ) → Always (HasBlocks names payloads) s t → u ≡ changed (write place n) reads t → Always (HasBlocks names payloads) s u
+goes_on names payloads place n lt s t u reads so_far e =
+    always_then _ s t u so_far (always_changed _ (write place n) t u reads (behind_keeps names payloads place n lt) so_far.last e)
+
+pub fails_there : (names payloads : List (List ℕ)) (place n : ℕ) → end_of payloads < place → (s t u : Store) → Always (HasBlocks names payloads) s t → Fails (write place n) t u → Always (HasBlocks names payloads) s u
+fails_there names payloads place n lt s t u so_far f =
+    always_then _ s t u so_far (always_failed _ (write place n) t u (behind_keeps names payloads place n lt) so_far.last f)
+
+-- how long what is read is
+pub written_long : (old bytes : List ℕ) (place : ℕ) → length old ≤ length (overwritten old place bytes)
+written_long old bytes place =
+    omega (arith, length-append (take place old ++ bytes) (drop (place + length bytes) old), length-append (take place old) bytes, length-take place old, length-drop (place + length bytes) old)
+
+pub written_to : (old bytes : List ℕ) (place : ℕ) → place ≤ length old → place + length bytes ≤ length (overwritten old place bytes)
+written_to old bytes place le =
+    omega (arith, length-append (take place old ++ bytes) (drop (place + length bytes) old), length-append (take place old) bytes, length-take place old, length-drop (place + length bytes) old)
+
+pub changed_longer : (change : Change) (bytes : List ℕ) (place : ℕ) (s t : Store) → t ≡ changed change (overwritten s.reads place bytes) s → length s.reads ≤ length t.reads
+changed_longer change bytes place s t e = omega (arith, ap (λ (u : Store). length u.reads) e, written_long s.reads bytes place)
+
+pub fails_longer : (place n : ℕ) (s t : Store) → Fails (write place n) s t → length s.reads ≤ length t.reads
+fails_longer place n s t (inl e) = omega (arith, ap (λ (u : Store). length u.reads) e)
+fails_longer place n s t (inr done) = omega (arith, ap (λ (u : Store). length u.reads) done.2, done.1.no_shorter)
+
+-- once the three writes are synced, the block stands behind the gate in every image
+pub behind_now : (names payloads : List (List ℕ)) (block size : List ℕ) (gate : ℕ) (w1 w2 w3 : Change) (s0 s1 s2 s3 s4 : Store) → gate ≡ end_of payloads → size ≡ eight_bytes (length block) → HasBlocks names payloads s0.reads
+    → s1 ≡ changed w1 (overwritten s0.reads (gate + 1) size) s0 → s2 ≡ changed w2 (overwritten s1.reads (gate + 9) block) s1 → s3 ≡ changed w3 (overwritten s2.reads (gate + 9 + length block) (0 ∷ [])) s2
+    → s4 ≡ settled s3 → EachImage (HasBehind names payloads block) s4.now
+behind_now names payloads block size gate w1 w2 w3 s0 s1 s2 s3 s4 is size_is has e1 e2 e3 e4 =
+    let b1 = overwritten s0.reads (gate + 1) (eight_bytes (length block)) in
+    let b2 = overwritten b1 (gate + 9) block in
+    let r1 : s1.reads ≡ b1 = ap (λ (u : Store). u.reads) e1 ∙ ap (λ n. overwritten s0.reads (gate + 1) n) size_is in
+    let r2 : s2.reads ≡ b2 = ap (λ (u : Store). u.reads) e2 ∙ ap (λ r. overwritten r (gate + 9) block) r1 in
+    let r3 : s3.reads ≡ overwritten b2 (gate + 9 + length block) (0 ∷ []) = ap (λ (u : Store). u.reads) e3 ∙ ap (λ r. overwritten r (gate + 9 + length block) (0 ∷ [])) r2 in
+    let has3 : HasBehind names payloads block s3.reads = subst (HasBehind names payloads block) (sym r3) (three_writes names payloads block s0.reads gate is has) in
+    subst (λ (u : Store). EachImage (HasBehind names payloads block) u.now) (sym e4) (λ c i. subst (HasBehind names payloads block) (sym i) has3)
+
+-- a write of the gate alone keeps what stands behind it
+pub gate_keeps : (names payloads : List (List ℕ)) (block : List ℕ) (gate : ℕ) → gate ≡ end_of payloads → Keeps (HasBehind names payloads block) (write gate 1)
+gate_keeps names payloads block gate is = λ old new has torn.
+    let kept = byte_kept (front_of has.name payloads) old new gate has.gate (front_long has.name payloads has.named.seven ∙ sym is) (block_bytes block ++ 0 ∷ has.rest) has.file torn in
+    record { name = has.name; named = has.named; gate = kept.0; rest = has.rest; file = kept.1 }
+
+pub blocks_push : (payloads : List (List ℕ)) (block : List ℕ) → open_blocks (payloads ++ block ∷ []) ≡ open_blocks payloads ++ 1 ∷ block_bytes block
+unfolding open_blocks
+blocks_push [] block = ap (λ l. 1 ∷ l) (append-nil (block_bytes block))
+blocks_push (p ∷ payloads) block =
+    ap (λ l. 1 ∷ (block_bytes p ++ l)) (blocks_push payloads block) ∙ ap (λ l. 1 ∷ l) (sym (append_assoc (block_bytes p) (open_blocks payloads) (1 ∷ block_bytes block)))
+
+pub front_push : (name : List ℕ) (payloads : List (List ℕ)) (block rest : List ℕ) → front_of name payloads ++ 1 ∷ (block_bytes block ++ rest) ≡ front_of name (payloads ++ block ∷ []) ++ rest
+unfolding front_of
+front_push name payloads block rest =
+    sym (append_assoc (1 ∷ name ++ open_blocks payloads) (1 ∷ block_bytes block) rest)
+    ∙ ap (λ l. l ++ rest) (append_assoc (1 ∷ name) (open_blocks payloads) (1 ∷ block_bytes block) ∙ ap (λ l. 1 ∷ name ++ l) (sym (blocks_push payloads block)))
+
+-- where the next gate stands
+pub end_push : (payloads : List (List ℕ)) (block : List ℕ) → end_of payloads + 9 + length block ≡ end_of (payloads ++ block ∷ [])
+unfolding end_of block_bytes
+end_push payloads block =
+    omega (arith, ap length (blocks_push payloads block), length-append (open_blocks payloads) (1 ∷ (eight_bytes (length block) ++ block)), length-append (eight_bytes (length block)) block, length-eight (length block))
+
+-- an open gate counts the block, a closed one does not
+pub either : (names payloads : List (List ℕ)) (block image : List ℕ) → HasBehind names payloads block image → IsBeforeOrAfter names payloads block image
+either names payloads block image has = elim (cases_eq has.gate 1) [
+  | inl open_gate ↦ inr (record {
+    name = has.name;
+    named = has.named;
+    gate = 0;
+    rest = has.rest;
+    closed = λ e. zero≢one e;
+    file = has.file ∙ ap (λ g. front_of has.name payloads ++ g ∷ (block_bytes block ++ 0 ∷ has.rest)) open_gate ∙ front_push has.name payloads block (0 ∷ has.rest);
+  })
+  | inr shut ↦ inl (record { name = has.name; named = has.named; gate = has.gate; rest = block_bytes block ++ 0 ∷ has.rest; closed = shut; file = has.file })
+]
+
+opened_reads : (names payloads : List (List ℕ)) (block old : List ℕ) (gate : ℕ) → gate ≡ end_of payloads → HasBehind names payloads block old → HasBlocks names (payloads ++ block ∷ []) (overwritten old gate (1 ∷ []))
+opened_reads names payloads block old gate is has =
+    let behind = block_bytes block ++ 0 ∷ has.rest in
+    record {
+      name = has.name;
+      named = has.named;
+      gate = 0;
+      rest = has.rest;
+      closed = λ e. zero≢one e;
+      file = ap (λ r. overwritten r gate (1 ∷ [])) has.file
+          ∙ written_behind (front_of has.name payloads) (has.gate ∷ behind) (1 ∷ []) gate (front_long has.name payloads has.named.seven ∙ sym is)
+          ∙ append_assoc (front_of has.name payloads) (1 ∷ []) behind
+          ∙ front_push has.name payloads block (0 ∷ has.rest);
+    }
+
+pub opened_now : (names payloads : List (List ℕ)) (block : List ℕ) (gate : ℕ) (w : Change) (s0 s1 s2 : Store) → gate ≡ end_of payloads → HasBehind names payloads block s0.reads
+    → s1 ≡ changed w (overwritten s0.reads gate (1 ∷ [])) s0 → s2 ≡ settled s1 → EachImage (HasBlocks names (payloads ++ block ∷ [])) s2.now
+opened_now names payloads block gate w s0 s1 s2 is has e1 e2 =
+    let has1 : HasBlocks names (payloads ++ block ∷ []) s1.reads = subst (HasBlocks names (payloads ++ block ∷ [])) (sym (ap (λ (u : Store). u.reads) e1)) (opened_reads names payloads block s0.reads gate is has) in
+    subst (λ (u : Store). EachImage (HasBlocks names (payloads ++ block ∷ [])) u.now) (sym e2) (λ c i. subst (HasBlocks names (payloads ++ block ∷ [])) (sym i) has1)

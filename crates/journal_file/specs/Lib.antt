@@ -1,0 +1,10 @@
+pub mod Blocks
+pub mod Compaction
+pub mod Creations
+pub mod Damage
+pub mod Gates
+pub mod Openings
+pub mod Readings
+pub mod Sizes
+pub mod Standing
+pub mod Unfinished

@@ -1,0 +1,51 @@
+ghost use Rattle.std.specs.Prelude.{◌≡◌};
+ghost use Rattle.journal_file.specs.declared.faults.JournalFault.TheVariants as fault;
+
+use rtb_num::Failed;
+use std::alloc::AllocError;
+
+/// Why a journal was not read.
+#[derive(Clone, Copy, Debug, PartialEq, Eq)]
+pub enum JournalFault {
+    /// A call of the disk failed, and its count of faults rose.
+    DiskFailed,
+    /// The file is no journal from this place on.
+    Damaged { at: u64 },
+    /// Memory was refused.
+    Memory,
+}
+
+impl From<Failed> for JournalFault {
+    ghost from_gives = { λ _ e. e ≡ fault.DiskFailed };
+
+    fn from(_: Failed) -> JournalFault {
+        JournalFault::DiskFailed
+    }
+}
+
+impl From<AllocError> for JournalFault {
+    ghost from_gives = { λ _ e. e ≡ fault.Memory };
+
+    fn from(_: AllocError) -> JournalFault {
+        JournalFault::Memory
+    }
+}
+
+/// A call of the disk failed, and its count of faults rose.
+#[derive(Clone, Copy, Debug, PartialEq, Eq)]
+pub struct DiskFailed;
+
+impl From<Failed> for DiskFailed {
+    fn from(_: Failed) -> DiskFailed {
+        DiskFailed
+    }
+}
+
+/// Why a file was not begun to be written whole.
+#[derive(Clone, Copy, Debug, PartialEq, Eq)]
+pub enum CompactFault {
+    /// A call of the disk failed, and its count of faults rose.
+    DiskFailed,
+    /// The file is neither short nor one whose writing was not finished.
+    NotEmpty,
+}

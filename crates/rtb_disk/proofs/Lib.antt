@@ -1,0 +1,4 @@
+pub mod Writes
+pub mod Moments
+pub mod Replayed
+pub mod Crashing

@@ -1,0 +1,5 @@
+pub mod Crashes
+pub mod Images
+pub mod Memory
+pub mod Record
+pub mod Stores
