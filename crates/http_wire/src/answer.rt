@@ -2,8 +2,7 @@
 ghost use Rattle.std.specs.Prelude.{◌≡◌, ◌++◌, List, ℕ, length, take, OnOk, OnErr};
 ghost use Rattle.http_wire.specs.Answers.{IsWritable, allow_line, answer_text, close_line, length_line, memory_answer, status_line, store_failed_answer, type_line};
 
-use itoa::Buffer;
-use rtb_num::Txt;
+use rtb_num::{Txt, write_decimal};
 use std::alloc::AllocError;
 
 /// The methods that an answer of 405 lists (RFC 9110, section 10.2.1).
@@ -94,7 +93,7 @@ fn push_length(status: u16, body: &[u8], out: &mut Txt) -> Result<(), AllocError
         return Ok(());
     }
     out.extend(b"Content-Length: ")?;
-    out.extend(Buffer::new().format(body.len()).as_bytes())?;
+    write_decimal(body.len() as u64, out)?;
     out.extend(b"\r\n")?;
     Ok(())
 }

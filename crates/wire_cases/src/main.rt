@@ -20,7 +20,7 @@ use std::process::ExitCode;
 fn main(rt: HostRuntime) -> ExitCode {
     let mut source = StdSource::new(rt.reader());
     let mut sink = StdSink::new(io::writer(&rt));
-    ExitCode::from(run_cases::<Wire, _, _>(rt.alloc(), &mut source, &mut sink))
+    ExitCode::from(run_cases::<Wire, _, _>(rt.alloc(), &mut source, &mut sink).code())
 }
 
 // The areas of the wire's crates.
