@@ -1,0 +1,245 @@
+//! Crashes at each call of the journal, with each of eight picks of the changes.
+use crate::errands::{hand_out, write_out};
+use crate::journals::{Written, calls_to_open, done, write_whole};
+use crate::numbers::number_in;
+use crate::opened::{Opened, disk_behind, disk_of, open, put_content};
+use journal_file::Journal;
+use rtb_disk::{Disk, MemDisk};
+use rtb_num::{List, Txt};
+use std::alloc::{AllocError, Global};
+
+/// Answers a call of this area, or tells that it is none. Each stops the disk at each call in turn, and last
+/// not at all, and opens what a crash leaves by the picks 0 to 7: a word of eight letters for each stop.
+///
+/// - `append_crash | CONTENT | BLOCK`: `b` where the payloads are those from before, `a` where the block
+///   stands behind them. Stops begin with the append.
+/// - `repair_crash | CONTENT | BLOCK | N`: the same of a repair, behind an append whose call N failed. Stops
+///   begin with the repair.
+/// - `create_crash | CONTENT`: `c` where there is no payload and no journal yet, `j` where there is the
+///   journal without blocks. Stops begin with the opening.
+/// - `compact_crash | CONTENT | BLOCK | .. | BLOCK`: `u` where the file may be written anew, `f` where it is
+///   the journal of all blocks. Stops begin with the first sync.
+pub fn answer(alloc: Global, call: &[u8], args: &[Txt], out: &mut Txt) -> Result<bool, AllocError> {
+    match (call, args) {
+        (b"append_crash", [content, block]) => {
+            done(append_crashes(alloc, content, block.as_bytes(), out))
+        }
+        (b"repair_crash", [content, block, fail]) => {
+            let fail = number_in(fail.as_bytes()).unwrap_or(0);
+            done(repair_crashes(alloc, content, block.as_bytes(), fail, out))
+        }
+        (b"create_crash", [content]) => done(create_crashes(alloc, content, out)),
+        (b"compact_crash", [content, blocks @ ..]) => {
+            done(compact_crashes(alloc, content, blocks, out))
+        }
+        _ => Ok(false),
+    }
+}
+
+// A space before each word but the first.
+fn put_space(call: u64, out: &mut Txt) -> Result<(), AllocError> {
+    if call > 1 {
+        out.push(b' ')?;
+    }
+    Ok(())
+}
+
+// The payloads of the journal on this disk, one after the other, or none where it is not opened.
+fn payloads_on<D: Disk + Drop>(alloc: Global, disk: D) -> Result<Option<Txt>, AllocError> {
+    let mut payloads = Txt::new(alloc);
+    match open(disk, &mut payloads, &mut List::new(alloc))? {
+        Opened::Journal(_) => Ok(Some(payloads)),
+        Opened::Not(..) => Ok(None),
+    }
+}
+
+fn append_crashes(
+    alloc: Global,
+    content: &Txt,
+    block: &[u8],
+    out: &mut Txt,
+) -> Result<(), AllocError> {
+    let before = calls_to_open(alloc, content)? as u64;
+    for call in 1..=7u64 {
+        put_space(call, out)?;
+        let mut disk = disk_of(alloc, content)?;
+        disk.stop_at(before.saturating_add(call));
+        let disk = disk_appended(alloc, disk, block, false)?;
+        tell_appended(alloc, content, block, &disk, out)?;
+    }
+    Ok(())
+}
+
+fn repair_crashes(
+    alloc: Global,
+    content: &Txt,
+    block: &[u8],
+    fail: u64,
+    out: &mut Txt,
+) -> Result<(), AllocError> {
+    let before = (calls_to_open(alloc, content)? as u64).saturating_add(fail);
+    let left = if fail < 5 { 7u64 } else { 3u64 };
+    for call in 1..=left {
+        put_space(call, out)?;
+        let mut fails = List::new(alloc);
+        fails.push(before)?;
+        let mut disk = MemDisk::new(alloc, content.copy()?, fails);
+        disk.stop_at(before.saturating_add(call));
+        let disk = disk_appended(alloc, disk, block, true)?;
+        tell_appended(alloc, content, block, &disk, out)?;
+    }
+    Ok(())
+}
+
+// The disk behind an append of the block, and a repair where that is asked.
+fn disk_appended<D: Disk + Drop>(
+    alloc: Global,
+    disk: D,
+    block: &[u8],
+    repairs: bool,
+) -> Result<D, AllocError> {
+    match open(disk, &mut Txt::new(alloc), &mut List::new(alloc))? {
+        Opened::Journal(journal) => Ok(disk_behind_append(journal, block, repairs)),
+        Opened::Not(disk, _) => Ok(disk),
+    }
+}
+
+fn disk_behind_append<D: Disk + Drop>(journal: Journal<D>, block: &[u8], repairs: bool) -> D {
+    let mut journal = journal;
+    write(&mut journal, block, repairs);
+    journal.into_disk()
+}
+
+fn write<D: Disk + Drop>(journal: &mut Journal<D>, block: &[u8], repairs: bool) -> bool {
+    if journal.broken() {
+        return false;
+    }
+    if repairs {
+        return hand_out(journal, block);
+    }
+    write_out(journal, block)
+}
+
+// A letter for each pick.
+fn tell_appended(
+    alloc: Global,
+    content: &Txt,
+    block: &[u8],
+    disk: &MemDisk,
+    out: &mut Txt,
+) -> Result<(), AllocError> {
+    let old = match payloads_on(alloc, disk_of(alloc, content)?)? {
+        Some(payloads) => payloads,
+        None => Txt::new(alloc),
+    };
+    let mut new = old.copy()?;
+    new.extend(block)?;
+    for pick in 0..8u64 {
+        let found = payloads_on(alloc, disk.after_crash(pick)?)?;
+        out.push(letter_of(found, old.as_bytes(), new.as_bytes()))?;
+    }
+    Ok(())
+}
+
+fn letter_of(found: Option<Txt>, old: &[u8], new: &[u8]) -> u8 {
+    match found {
+        Some(payloads) if payloads.as_bytes() == old => b'b',
+        Some(payloads) if payloads.as_bytes() == new => b'a',
+        _ => b'x',
+    }
+}
+
+fn create_crashes(alloc: Global, content: &Txt, out: &mut Txt) -> Result<(), AllocError> {
+    let calls = calls_to_open(alloc, content)? as u64;
+    for call in 1..=calls.saturating_add(1) {
+        put_space(call, out)?;
+        let mut disk = disk_of(alloc, content)?;
+        disk.stop_at(call);
+        let opened = open(disk, &mut Txt::new(alloc), &mut List::new(alloc))?;
+        tell_created(alloc, &disk_behind(opened), out)?;
+    }
+    Ok(())
+}
+
+fn tell_created(alloc: Global, disk: &MemDisk, out: &mut Txt) -> Result<(), AllocError> {
+    for pick in 0..8u64 {
+        let letter = letter_created(alloc, disk.after_crash(pick)?)?;
+        out.push(letter)?;
+    }
+    Ok(())
+}
+
+fn letter_created<D: Disk + Drop>(alloc: Global, disk: D) -> Result<u8, AllocError> {
+    let mut disk = disk;
+    let mut content = Txt::new(alloc);
+    put_content(&mut disk, &mut content)?;
+    if content.as_bytes() == b"\x01RTBXJ01\0".as_slice() {
+        return Ok(b'j');
+    }
+    match payloads_on(alloc, disk)? {
+        Some(payloads) if payloads.is_empty() => Ok(b'c'),
+        _ => Ok(b'x'),
+    }
+}
+
+fn compact_crashes(
+    alloc: Global,
+    content: &Txt,
+    blocks: &[Txt],
+    out: &mut Txt,
+) -> Result<(), AllocError> {
+    let whole = disk_written(disk_of(alloc, content)?, blocks);
+    let calls = whole.made().len() as u64;
+    let mut all = Txt::new(alloc);
+    for block in blocks {
+        all.extend(block.as_bytes())?;
+    }
+    for call in 1..=calls.saturating_add(1) {
+        put_space(call, out)?;
+        let mut disk = disk_of(alloc, content)?;
+        disk.stop_at(call);
+        tell_written(alloc, &disk_written(disk, blocks), all.as_bytes(), out)?;
+    }
+    Ok(())
+}
+
+fn tell_written(
+    alloc: Global,
+    disk: &MemDisk,
+    all: &[u8],
+    out: &mut Txt,
+) -> Result<(), AllocError> {
+    for pick in 0..8u64 {
+        let image = disk.after_crash(pick)?;
+        let again = disk.after_crash(pick)?;
+        let letter = letter_written(alloc, image, again, all)?;
+        out.push(letter)?;
+    }
+    Ok(())
+}
+
+fn disk_written<D: Disk + Drop>(disk: D, blocks: &[Txt]) -> D {
+    match write_whole(disk, blocks) {
+        Written::Whole(disk) | Written::Refused(disk) | Written::Failed(disk) => disk,
+    }
+}
+
+// Of an image, of which two disks are handed in.
+fn letter_written<D: Disk + Drop>(
+    alloc: Global,
+    image: D,
+    again: D,
+    all: &[u8],
+) -> Result<u8, AllocError> {
+    match write_whole(image, &[]) {
+        Written::Whole(_) => Ok(b'u'),
+        Written::Refused(_) | Written::Failed(_) => letter_finished(alloc, again, all),
+    }
+}
+
+fn letter_finished<D: Disk + Drop>(alloc: Global, disk: D, all: &[u8]) -> Result<u8, AllocError> {
+    match payloads_on(alloc, disk)? {
+        Some(payloads) if payloads.as_bytes() == all => Ok(b'f'),
+        _ => Ok(b'x'),
+    }
+}

@@ -1,0 +1,236 @@
+//! Disks in memory.
+use crate::numbers::{number_in, numbers_in};
+use rtb_disk::{Call, Disk, Made, MemDisk};
+use rtb_num::{Failed, Txt, write_decimal};
+use std::alloc::{AllocError, Global};
+
+/// Answers a call of this area, or tells that it is none.
+///
+/// - `disk | CONTENT | CALLS | STEPS`: what each step gives on a disk with this content whose calls with
+///   these numbers fail, and how many faults it counted. STEPS are words: `length`, `read:PLACE:COUNT`,
+///   `write:PLACE:TEXT`, `cut:COUNT`, `sync`, `stop:CALL`, and `crash:PICK`, which goes on with the disk
+///   after a crash. A write and a cut ask for the length first, which is a call too.
+/// - `record | CONTENT | CALLS | STEPS`: the calls in the disk's record, with `!` at those that failed.
+pub fn answer(alloc: Global, call: &[u8], args: &[Txt], out: &mut Txt) -> Result<bool, AllocError> {
+    match (call, args) {
+        (b"disk", [content, fails, steps]) => {
+            run(
+                alloc,
+                content,
+                fails.as_bytes(),
+                steps.as_bytes(),
+                true,
+                out,
+            )?;
+            Ok(true)
+        }
+        (b"record", [content, fails, steps]) => {
+            run(
+                alloc,
+                content,
+                fails.as_bytes(),
+                steps.as_bytes(),
+                false,
+                out,
+            )?;
+            Ok(true)
+        }
+        _ => Ok(false),
+    }
+}
+
+// Takes the steps, and tells what each gives, or else the record.
+fn run(
+    alloc: Global,
+    content: &Txt,
+    fails: &[u8],
+    steps: &[u8],
+    tells: bool,
+    out: &mut Txt,
+) -> Result<(), AllocError> {
+    let disk = MemDisk::new(alloc, content.copy()?, numbers_in(alloc, fails)?);
+    let mut told = Txt::new(alloc);
+    let disk = take_all(disk, steps, &mut told)?;
+    if tells {
+        return tell_steps(told.as_bytes(), disk.calls().faults(), out);
+    }
+    tell_record(disk.made(), out)
+}
+
+fn tell_steps(told: &[u8], faults: u64, out: &mut Txt) -> Result<(), AllocError> {
+    out.extend_all(&[told, b"faults "])?;
+    write_decimal(faults, out)
+}
+
+fn take_all(disk: MemDisk, steps: &[u8], out: &mut Txt) -> Result<MemDisk, AllocError> {
+    let mut disk = disk;
+    for step in steps.split(|c| *c == b' ') {
+        disk = take(disk, step, out)?;
+        out.push(b' ')?;
+    }
+    Ok(disk)
+}
+
+// One step.
+fn take(disk: MemDisk, step: &[u8], out: &mut Txt) -> Result<MemDisk, AllocError> {
+    let (word, rest) = cut_at_colon(step);
+    match word {
+        b"stop" => stop(disk, rest, out),
+        b"crash" => crash(disk, rest, out),
+        _ => call(disk, word, rest, out),
+    }
+}
+
+fn call(disk: MemDisk, word: &[u8], rest: &[u8], out: &mut Txt) -> Result<MemDisk, AllocError> {
+    let mut disk = disk;
+    ask(&mut disk, word, rest, out)?;
+    Ok(disk)
+}
+
+// A call of the disk.
+fn ask<D: Disk>(disk: &mut D, word: &[u8], rest: &[u8], out: &mut Txt) -> Result<(), AllocError> {
+    match word {
+        b"length" => tell_number(disk.length(), out),
+        b"read" => read(disk, rest, out),
+        b"write" => write(disk, rest, out),
+        b"cut" => cut(disk, rest, out),
+        b"sync" => tell_done(disk.sync(), out),
+        _ => out.extend(b"unreadable"),
+    }
+}
+
+fn cut_at_colon(text: &[u8]) -> (&[u8], &[u8]) {
+    let n = text.iter().take_while(|c| **c != b':').count();
+    (&text[..n], &text[(n + 1).min(text.len())..])
+}
+
+fn tell_number(answer: Result<u64, Failed>, out: &mut Txt) -> Result<(), AllocError> {
+    match answer {
+        Ok(n) => write_decimal(n, out),
+        Err(Failed) => out.extend(b"failed"),
+    }
+}
+
+fn tell_done(answer: Result<(), Failed>, out: &mut Txt) -> Result<(), AllocError> {
+    match answer {
+        Ok(()) => out.extend(b"done"),
+        Err(Failed) => out.extend(b"failed"),
+    }
+}
+
+// `PLACE:COUNT`, of at most 64 bytes
+fn read<D: Disk>(disk: &mut D, rest: &[u8], out: &mut Txt) -> Result<(), AllocError> {
+    let (place, count) = cut_at_colon(rest);
+    match (number_in(place), number_in(count)) {
+        (Some(place), Some(count)) => read_at(disk, place, count.min(64) as usize, out),
+        _ => out.extend(b"unreadable"),
+    }
+}
+
+fn read_at<D: Disk>(
+    disk: &mut D,
+    place: u64,
+    count: usize,
+    out: &mut Txt,
+) -> Result<(), AllocError> {
+    let mut bytes = [0u8; 64];
+    match disk.read(place, &mut bytes[..count.min(64)]) {
+        Ok(n) => out.extend(&bytes[..n.min(64)]),
+        Err(Failed) => out.extend(b"failed"),
+    }
+}
+
+// `PLACE:TEXT`
+fn write<D: Disk>(disk: &mut D, rest: &[u8], out: &mut Txt) -> Result<(), AllocError> {
+    let (place, text) = cut_at_colon(rest);
+    match number_in(place) {
+        Some(place) => write_inside(disk, place, text, out),
+        None => out.extend(b"unreadable"),
+    }
+}
+
+fn write_inside<D: Disk>(
+    disk: &mut D,
+    place: u64,
+    text: &[u8],
+    out: &mut Txt,
+) -> Result<(), AllocError> {
+    match disk.length() {
+        Ok(length) if place <= length => tell_done(disk.write_at(place, text), out),
+        _ => out.extend(b"unreadable"),
+    }
+}
+
+// `COUNT`
+fn cut<D: Disk>(disk: &mut D, rest: &[u8], out: &mut Txt) -> Result<(), AllocError> {
+    match number_in(rest) {
+        Some(count) => cut_inside(disk, count, out),
+        None => out.extend(b"unreadable"),
+    }
+}
+
+fn cut_inside<D: Disk>(disk: &mut D, count: u64, out: &mut Txt) -> Result<(), AllocError> {
+    match disk.length() {
+        Ok(length) if count <= length => tell_done(disk.cut(count), out),
+        _ => out.extend(b"unreadable"),
+    }
+}
+
+// `CALL`
+fn stop(disk: MemDisk, rest: &[u8], out: &mut Txt) -> Result<MemDisk, AllocError> {
+    let mut disk = disk;
+    disk.stop_at(number_in(rest).unwrap_or(0));
+    out.extend(b"done")?;
+    Ok(disk)
+}
+
+// `PICK`
+fn crash(disk: MemDisk, rest: &[u8], out: &mut Txt) -> Result<MemDisk, AllocError> {
+    out.extend(b"crashed")?;
+    disk.after_crash(number_in(rest).unwrap_or(0))
+}
+
+/// Tells the calls of a record, with one space between two.
+pub fn tell_record(made: &[Made], out: &mut Txt) -> Result<(), AllocError> {
+    if let Some((first, rest)) = made.split_first() {
+        tell_made(first, out)?;
+        for one in rest {
+            out.push(b' ')?;
+            tell_made(one, out)?;
+        }
+    }
+    Ok(())
+}
+
+fn tell_made(one: &Made, out: &mut Txt) -> Result<(), AllocError> {
+    tell_call(&one.call, out)?;
+    if one.failed {
+        return out.push(b'!');
+    }
+    Ok(())
+}
+
+fn tell_call(call: &Call, out: &mut Txt) -> Result<(), AllocError> {
+    match call {
+        Call::Length => out.extend(b"length"),
+        Call::Sync => out.extend(b"sync"),
+        Call::Read { place, count } => tell_two(b"read:", *place, *count, out),
+        Call::Cut { count } => {
+            out.extend(b"cut:")?;
+            write_decimal(*count, out)
+        }
+        Call::Write { place, bytes } => {
+            out.extend(b"write:")?;
+            write_decimal(*place, out)?;
+            out.push(b':')?;
+            out.extend(bytes.as_bytes())
+        }
+    }
+}
+
+fn tell_two(word: &[u8], first: u64, second: u64, out: &mut Txt) -> Result<(), AllocError> {
+    out.extend(word)?;
+    write_decimal(first, out)?;
+    out.push(b':')?;
+    write_decimal(second, out)
+}
