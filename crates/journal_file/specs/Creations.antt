@@ -1,4 +1,4 @@
--- The steps of a creation. Private.
+-- The steps of a creation, which the crate's private clauses cite.
 use Rattle.std.specs.Prelude.{◌≡◌, ◌≢◌, ℕ, ◌≤◌, List, [], ◌∷◌, ◌++◌, length}
 use Rattle.journal_file.specs.Blocks.{created_name}
 

@@ -1,4 +1,4 @@
--- Where a reading stands at a gate of the file. Private.
+-- Where a reading stands at a gate of the file, which the crate's private clauses cite.
 use Rattle.std.specs.Prelude.{Bool, true, false}
 use Rattle.journal_file.specs.declared.reading.Found.{Found}
 use Rattle.journal_file.specs.declared.reading.Found.TheVariants as found

@@ -1,4 +1,4 @@
--- What a file begins as. Private.
+-- What a file begins as, which the crate's private clauses cite.
 use Rattle.std.specs.Prelude.{◌≡◌, ℕ, List, ◌∷◌, ◌++◌, Bool, true, false}
 use Rattle.journal_file.specs.Blocks.{IsName, IsTornCreation, journal_names}
 use Rattle.journal_file.specs.Damage.{IsForeign}

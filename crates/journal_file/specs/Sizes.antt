@@ -1,4 +1,4 @@
--- The length of a block, where it is read. Private.
+-- The length of a block, where it is read, which the crate's private clauses cite.
 use Rattle.std.specs.Prelude.{◌≡◌, ℕ, List, ◌++◌, Option, Some, None}
 use Rattle.byte_fields.specs.Encodings.{FitsEight, eight_bytes}
 

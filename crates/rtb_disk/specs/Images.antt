@@ -1,4 +1,4 @@
--- The law of a disk in memory, with its proof: what a read gives is one of the images. Private.
+-- The law of a disk in memory, with its proof: what a read gives is one of the images. No private or public clause cites it.
 use Rattle.std.specs.Prelude.{◌≡◌, ℕ, ◌+◌, ◌-◌, ◌≤◌, ◌<◌, ◌/◌, min, max, List, [], ◌∷◌, ◌++◌, length, take, drop, replicate, Bool, true, false}
 use Rattle.std.proofs.Common.{refl, sym, ◌∙◌, ap, arith, ⊎_elim, append_assoc, length-append, length-drop}
 use Rattle.std.proofs.lemmas.List.{take_at, drop_at, drop-drop, take-take, take_min, take_all, drop_all, length-take, length-replicate, take-append-le, append-nil}
