@@ -45,7 +45,7 @@ fn content_length(head: &[u8], fields: &[HeaderSpan]) -> Option<usize>
         return Some(0);
     };
     if is_digits(first) && are_same_number(head, fields, b"content-length", first) {
-        Some(saturated(first))
+        Some(digits_value(first))
     } else {
         None
     }
@@ -101,7 +101,7 @@ fn without_zeros(value: &[u8]) -> &[u8]
 }
 
 // What the digits spell, or the greatest `usize` where that is less.
-fn saturated(digits: &[u8]) -> usize
+fn digits_value(digits: &[u8]) -> usize
     requires { list_all is_digit digits.now ≡ true }
     ensures { result ≡ min (number_of digits.now) (2 ^ 64 - 1) }
 {
@@ -175,12 +175,12 @@ fn asks_close(value: &[u8]) -> bool
 fn is_close(item: &[u8]) -> bool
     ensures { result ≡ is_close item.now }
 {
-    same_word(trimmed(item), b"close")
+    same_word(trim(item), b"close")
 }
 
 // Without the white space around it.
 #[tactic(auto, unfolding(httparse::specs::Grammar::trim_ows))]
-fn trimmed(value: &[u8]) -> &[u8]
+fn trim(value: &[u8]) -> &[u8]
     ensures { result.now ≡ trim_ows value.now }
 {
     trim_back(trim_front(value))

@@ -47,17 +47,17 @@ pub fn next_message<L: Ledger>(
     steps.tick();
     match open(bytes) {
         Opened::Need => Ok(Step::Need),
-        Opened::Refused(refusal) => refused(alloc, refusal),
+        Opened::Refused(refusal) => refusal_step(alloc, refusal),
         Opened::Begun(begun) => {
             if bytes.len() < begun.to {
                 return Ok(Step::Need);
             }
-            taken(alloc, bytes, &begun)
+            message_step(alloc, bytes, &begun)
         }
     }
 }
 
-fn refused(alloc: Global, refusal: Refusal) -> Result<Step, AllocError>
+fn refusal_step(alloc: Global, refusal: Refusal) -> Result<Step, AllocError>
     ensures { IfOk result (λ s. s ≡ Refused (status_of refusal) (word_of refusal)) }
 {
     let word = Txt::from_slice(alloc, refusal.word())?;
@@ -68,7 +68,7 @@ fn refused(alloc: Global, refusal: Refusal) -> Result<Step, AllocError>
 }
 
 // The message, whose body is there.
-fn taken(alloc: Global, bytes: &[u8], begun: &Begun<'_>) -> Result<Step, AllocError>
+fn message_step(alloc: Global, bytes: &[u8], begun: &Begun<'_>) -> Result<Step, AllocError>
     requires ordered { begun.now.from ≤ begun.now.to }
     requires there { begun.now.to ≤ length bytes.now }
     ensures { IfOk result (λ s. s ≡ Got (record { method = begun.now.method.now; target = begun.now.target.now; body = slice_range bytes.now begun.now.from begun.now.to; closes = begun.now.closes }) begun.now.to) }

@@ -1,21 +1,29 @@
 ghost use Rattle.std.specs.Prelude.{◌≡◌};
 ghost use Rattle.http_wire.specs.Words.{status_of, word_of};
 
+use thiserror::Error;
+
 /// Why bytes are no message. The link ends after the answer.
-#[derive(Clone, Copy, Debug, PartialEq, Eq)]
+#[derive(Clone, Copy, Debug, PartialEq, Eq, Error)]
 pub enum Refusal {
     /// The head, with the empty lines before it, has more than 8,192 bytes, or more than 65 lines
     /// before its empty one.
+    #[error("the head is too large")]
     HeadTooLarge,
     /// The head is none of RFC 9112, section 3, or has a fault in a field (section 5).
+    #[error("the head is malformed")]
     Head,
     /// A field says that the body is coded for its transfer (section 6.1).
+    #[error("transfer codings are not taken")]
     TransferEncoding,
     /// A length of the body is no decimal number, or the lengths differ (section 6.3).
+    #[error("the length of the body is no number, or the lengths differ")]
     ContentLength,
     /// The body has more than 262,144 bytes.
+    #[error("the body is too large")]
     BodyTooLarge,
     /// The body is compressed (RFC 9110, section 8.4).
+    #[error("compressed bodies are not taken")]
     ContentEncoding,
 }
 

@@ -3,15 +3,19 @@ ghost use Rattle.journal_file.specs.declared.faults.JournalFault.TheVariants as 
 
 use rtb_num::Failed;
 use std::alloc::AllocError;
+use thiserror::Error;
 
 /// Why a journal was not read.
-#[derive(Clone, Copy, Debug, PartialEq, Eq)]
+#[derive(Clone, Copy, Debug, PartialEq, Eq, Error)]
 pub enum JournalFault {
     /// A call of the disk failed, and its count of faults rose.
+    #[error("the disk failed")]
     DiskFailed,
     /// The file is no journal from this place on.
+    #[error("damaged at {at}")]
     Damaged { at: u64 },
     /// Memory was refused.
+    #[error("memory ran out")]
     Memory,
 }
 
@@ -32,7 +36,8 @@ impl From<AllocError> for JournalFault {
 }
 
 /// A call of the disk failed, and its count of faults rose.
-#[derive(Clone, Copy, Debug, PartialEq, Eq)]
+#[derive(Clone, Copy, Debug, PartialEq, Eq, Error)]
+#[error("the disk failed")]
 pub struct DiskFailed;
 
 impl From<Failed> for DiskFailed {
@@ -42,10 +47,12 @@ impl From<Failed> for DiskFailed {
 }
 
 /// Why a file was not begun to be written whole.
-#[derive(Clone, Copy, Debug, PartialEq, Eq)]
+#[derive(Clone, Copy, Debug, PartialEq, Eq, Error)]
 pub enum CompactFault {
     /// A call of the disk failed, and its count of faults rose.
+    #[error("the disk failed")]
     DiskFailed,
     /// The file is neither short nor one whose writing was not finished.
+    #[error("the file is not empty")]
     NotEmpty,
 }

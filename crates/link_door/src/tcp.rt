@@ -89,7 +89,7 @@ impl<C: Clock> Door for TcpDoor<C> {
 
     fn next(&mut self) -> Result<Option<TcpLink>, Failed> {
         for _ in 0..MOST_ERRORS {
-            if let Ok(link) = accepted(&self.listener) {
+            if let Ok(link) = accept_link(&self.listener) {
                 return Ok(Some(link));
             }
         }
@@ -116,7 +116,7 @@ fn count_fault(faults: &mut u64) -> Failed
 }
 
 // The next link that comes.
-fn accepted(listener: &TcpListener) -> io::Result<TcpLink>
+fn accept_link(listener: &TcpListener) -> io::Result<TcpLink>
     ensures { IfOk result (λ l. ⟦<TcpLink as Link>⟧.faults l ≡ 0) }
 {
     let (stream, _) = listener.accept()?;

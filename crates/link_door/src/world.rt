@@ -7,13 +7,16 @@ use crate::door::Door;
 use rtb_disk::Disk;
 use rtb_num::{Failed, List, Txt};
 use std::alloc::{AllocError, Global};
+use thiserror::Error;
 
 /// Why doors were not made.
-#[derive(Clone, Copy, Debug, PartialEq, Eq)]
+#[derive(Clone, Copy, Debug, PartialEq, Eq, Error)]
 pub enum WorldFault {
     /// The world failed.
+    #[error("the world failed")]
     Failed,
     /// Memory was refused.
+    #[error("memory ran out")]
     Memory,
 }
 

@@ -68,7 +68,7 @@ impl Log {
     }
 
     // What a crash leaves by the pick.
-    pub(crate) fn picked(&self, pick: u64) -> Result<Txt, AllocError>
+    pub(crate) fn content_after(&self, pick: u64) -> Result<Txt, AllocError>
         ensures { IfOk result (λ t. t ≡ crashed pick self.now.first self.now.made.items) }
     {
         let made = self.made.as_slice();

@@ -65,7 +65,7 @@ impl MemDisk {
         ensures image { IsImage (store_of self.now).now (crashed pick self.now.first self.now.made) }
     {
         let alloc = self.log.allocator();
-        let content = self.log.picked(pick)?;
+        let content = self.log.content_after(pick)?;
         Ok(MemDisk::new(alloc, content, List::new(alloc)))
     }
 

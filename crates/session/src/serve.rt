@@ -60,7 +60,7 @@ fn converse<S: Service, L: Link, G: Ledger>(
             Received::Refused { status, word } => {
                 return refuse(alloc, status, &word, &mut out, link);
             }
-            Received::Ended => return input_ended(alloc, input),
+            Received::Ended => return end_of_input(alloc, input),
             Received::Failed => return LinkEnd::LinkFailed,
             Received::Memory => return out_of_memory(link),
         };
@@ -73,7 +73,7 @@ fn converse<S: Service, L: Link, G: Ledger>(
 }
 
 // How a link ends whose input has ended.
-fn input_ended(alloc: Global, input: &Input) -> LinkEnd
+fn end_of_input(alloc: Global, input: &Input) -> LinkEnd
     ensures { IsEnd input.now result }
 {
     let rest = input.bytes();

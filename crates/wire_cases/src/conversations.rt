@@ -34,7 +34,7 @@ pub fn answer(alloc: Global, call: &[u8], args: &[Txt], out: &mut Txt) -> Result
             Ok(true)
         }
         [times, text, step] if call == b"serve_times".as_slice() => {
-            let all = repeated(alloc, times.as_bytes(), text.as_bytes())?;
+            let all = repeat(alloc, times.as_bytes(), text.as_bytes())?;
             let step = number_in(step.as_bytes());
             let came = cut_everywhere(alloc, all.as_bytes(), step)?;
             out.extend_all(&[came.end.as_bytes(), b": "])?;
@@ -43,7 +43,7 @@ pub fn answer(alloc: Global, call: &[u8], args: &[Txt], out: &mut Txt) -> Result
         }
         [text, calls] if call == b"serve_failing".as_slice() => {
             let fails = numbers_in(alloc, calls.as_bytes())?;
-            let came = served(alloc, text.as_bytes(), 0, false, fails)?;
+            let came = serve(alloc, text.as_bytes(), 0, false, fails)?;
             out.extend_all(&[came.end.as_bytes(), b": ", came.sent.as_bytes()])?;
             Ok(true)
         }
@@ -58,7 +58,7 @@ fn number_in(word: &[u8]) -> usize {
     }
 }
 
-fn repeated(alloc: Global, times: &[u8], text: &[u8]) -> Result<Txt, AllocError> {
+fn repeat(alloc: Global, times: &[u8], text: &[u8]) -> Result<Txt, AllocError> {
     let mut all = Txt::new(alloc);
     for _ in 0..number_in(times) {
         all.extend(text)?;
@@ -75,13 +75,13 @@ struct Came {
 
 // The conversation held with the bytes cut in many ways.
 fn cut_everywhere(alloc: Global, text: &[u8], step: usize) -> Result<Came, AllocError> {
-    let whole = served(alloc, text, 0, false, List::new(alloc))?;
-    let single = served(alloc, text, 0, true, List::new(alloc))?;
+    let whole = serve(alloc, text, 0, false, List::new(alloc))?;
+    let single = serve(alloc, text, 0, true, List::new(alloc))?;
     if !is_same(&whole, &single) {
         return different(alloc, 0);
     }
     for at in (0..text.len()).step_by(step.max(1)) {
-        let cut = served(alloc, text, at, false, List::new(alloc))?;
+        let cut = serve(alloc, text, at, false, List::new(alloc))?;
         if !is_same(&whole, &cut) {
             return different(alloc, at);
         }
@@ -102,7 +102,7 @@ fn different(alloc: Global, at: usize) -> Result<Came, AllocError> {
     })
 }
 
-fn served(
+fn serve(
     alloc: Global,
     text: &[u8],
     first: usize,

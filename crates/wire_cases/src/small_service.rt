@@ -38,7 +38,7 @@ fn given_for(alloc: Global, message: &Message) -> Given
     if target == b"/memory-late".as_slice() {
         return Given::MemoryLate;
     }
-    match routed(alloc, message) {
+    match route(alloc, message) {
         Ok(answer) => Given::Text {
             answer,
             entered: false,
@@ -47,12 +47,12 @@ fn given_for(alloc: Global, message: &Message) -> Given
     }
 }
 
-fn routed(alloc: Global, message: &Message) -> Result<Answer, AllocError>
+fn route(alloc: Global, message: &Message) -> Result<Answer, AllocError>
     ensures { IfOk result IsWritable }
 {
     let method = message.method.as_bytes();
     if method == b"POST".as_slice() {
-        return posted(alloc, message);
+        return answer_post(alloc, message);
     }
     if method == b"GET".as_slice() {
         return got(alloc, message.target.as_bytes());
@@ -72,7 +72,7 @@ fn got(alloc: Global, target: &[u8]) -> Result<Answer, AllocError>
     error(alloc, b"not-found")
 }
 
-fn posted(alloc: Global, message: &Message) -> Result<Answer, AllocError>
+fn answer_post(alloc: Global, message: &Message) -> Result<Answer, AllocError>
     ensures { IfOk result IsWritable }
 {
     let target = message.target.as_bytes();
@@ -102,14 +102,14 @@ fn sold(alloc: Global, body: &[u8]) -> Result<Answer, AllocError>
     match read(alloc, body) {
         Ok(_) => Ok(no_content(alloc)),
         Err(JsonFault::Memory) => Err(AllocError),
-        Err(JsonFault::Utf8 { at }) => refused(alloc, b"json-utf8", at),
-        Err(JsonFault::Syntax { at }) => refused(alloc, b"json-syntax", at),
-        Err(JsonFault::Ended { at }) => refused(alloc, b"json-ended", at),
-        Err(JsonFault::Deep { at }) => refused(alloc, b"json-deep", at),
+        Err(JsonFault::Utf8 { at }) => refuse(alloc, b"json-utf8", at),
+        Err(JsonFault::Syntax { at }) => refuse(alloc, b"json-syntax", at),
+        Err(JsonFault::Ended { at }) => refuse(alloc, b"json-ended", at),
+        Err(JsonFault::Deep { at }) => refuse(alloc, b"json-deep", at),
     }
 }
 
-fn refused(alloc: Global, word: &[u8], at: usize) -> Result<Answer, AllocError>
+fn refuse(alloc: Global, word: &[u8], at: usize) -> Result<Answer, AllocError>
     ensures { IfOk result IsWritable }
 {
     let body = place_text(alloc, word, at)?;

@@ -20,7 +20,7 @@ returns-in-Refused-clause-served g c =
 
 pub returns-in-Ended-clause-served : goal.returns-in-Ended-clause-served
 returns-in-Ended-clause-served g c =
-    over g.S.Service.answers _ _ _ _ _ _ _ _ _ _ _ _ _ _ _ c.messages.invariant.talking c.in-Ended.ensures.received c.receive.ensures.sent c.input_ended.ensures c.messages.invariant.ticks c.receive.ensures.ticks
+    over g.S.Service.answers _ _ _ _ _ _ _ _ _ _ _ _ _ _ _ c.messages.invariant.talking c.in-Ended.ensures.received c.receive.ensures.sent c.end_of_input.ensures c.messages.invariant.ticks c.receive.ensures.ticks
 
 pub returns-in-Failed-clause-served : goal.returns-in-Failed-clause-served
 returns-in-Failed-clause-served g c =
