@@ -6,12 +6,7 @@ use Rattle.std.proofs.lemmas.List.Sorted.{list_any-IsPermutation}
 use Rattle.deal_rules.specs.declared.rule.Rule.{Rule}
 use Rattle.deal_rules.specs.declared.rule.Rule.TheVariants.{Request, NoBanner, Size, Attribute, Secure, SeatNotAllowed, SeatBlocked, Category, Advertiser, Budget, Capped, Private, Currency, Floor}
 use Rattle.deal_rules.specs.Offers.{first_reason, is_excluded}
-use Rattle.deal_rules.specs.Rules.{Opportunity, Tested, common_rules, public_rules}
-use Rattle.deal_rules.specs.Tests.{test_of}
-
--- rules with their tests
-abbrev tested : List Rule → List Tested
-tested rules = map (λ (r : Rule). (r, test_of r)) rules
+use Rattle.deal_rules.specs.Rules.{Opportunity, Tested, common_rules, public_rules, test_of, tested}
 
 abbrev common : List Rule
 common = Request ∷ NoBanner ∷ Size ∷ Attribute ∷ Secure ∷ SeatNotAllowed ∷ SeatBlocked ∷ Category ∷ Advertiser ∷ Budget ∷ Capped ∷ []

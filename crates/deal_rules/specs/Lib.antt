@@ -1,4 +1,4 @@
 pub mod Offers
 pub mod Rules
+pub mod Seen
 pub mod Terms
-pub mod Tests

@@ -1,5 +1,5 @@
 -- The rules that keep a campaign from an impression, as one list (OpenRTB 2.5, sections 3.2.1 to 3.2.12).
-use Rattle.std.specs.Prelude.{ℕ, ◌==◌, ◌&&◌, ◌||◌, not, nat_lt, nat_le, List, [], ◌∷◌, length, Bool, true, false, Option, Some, None, is_none, codes, ℤ}
+use Rattle.std.specs.Prelude.{ℕ, ◌==◌, ◌&&◌, ◌||◌, not, nat_lt, nat_le, List, [], ◌∷◌, length, map, Bool, true, false, Option, Some, None, is_none, codes, ℤ}
 use Rattle.std.specs.List.{list_any}
 use Rattle.std.specs.Option.{option_map_or}
 use Rattle.std.specs.Ordering.{int_eq}
@@ -64,28 +64,34 @@ is_over (Some shown) cap = nat_le cap.count shown
 
 -- ---- the rules
 
+-- whether the rule excludes
+abbrev pub test_of : Rule → Opportunity → Bool
+test_of Request o = o.request.test || not (allows o.request.cur (codes "USD"))
+test_of NoBanner o = is_none o.imp.banner
+test_of Size o = option_map_or (λ p. not (takes_size (sizes_of o.imp) p)) (size_of o.facts) false
+test_of Attribute o = list_any (λ a. list_any (λ b. int_eq b a) (blocked_attributes_of o.imp)) o.facts.attr
+test_of Secure o = o.imp.secure && not o.facts.secure
+test_of SeatNotAllowed o = not (allows o.request.wseat o.facts.seat)
+test_of SeatBlocked o = has_text o.request.bseat o.facts.seat
+test_of Category o = list_any (has_text o.request.bcat) o.facts.cat
+test_of Advertiser o = has_text o.request.badv o.facts.adomain
+test_of Budget o = nat_lt o.free o.facts.bid
+test_of Capped o = option_map_or (is_over o.shown) o.facts.cap false
+test_of Private o = o.imp.pmp.private_auction
+test_of Currency o = not (is_usd o.imp.currency)
+test_of Floor o = nat_lt o.facts.bid o.imp.floor
+
 -- a rule, and whether it excludes
 abbrev pub Tested : Type 0
 Tested = Rule × (Opportunity → Bool)
 
--- for each pool
+abbrev pub tested : List Rule → List Tested
+tested rules = map (λ (r : Rule). (r, test_of r)) rules
+
+-- for each pool, in their order
 unfoldable pub common_rules : List Tested
-common_rules = (Request, (λ o. o.request.test || not (allows o.request.cur (codes "USD"))))
-    ∷ (NoBanner, (λ o. is_none o.imp.banner))
-    ∷ (Size, (λ o. option_map_or (λ p. not (takes_size (sizes_of o.imp) p)) (size_of o.facts) false))
-    ∷ (Attribute, (λ o. list_any (λ a. list_any (λ b. int_eq b a) (blocked_attributes_of o.imp)) o.facts.attr))
-    ∷ (Secure, (λ o. o.imp.secure && not o.facts.secure))
-    ∷ (SeatNotAllowed, (λ o. not (allows o.request.wseat o.facts.seat)))
-    ∷ (SeatBlocked, (λ o. has_text o.request.bseat o.facts.seat))
-    ∷ (Category, (λ o. list_any (has_text o.request.bcat) o.facts.cat))
-    ∷ (Advertiser, (λ o. has_text o.request.badv o.facts.adomain))
-    ∷ (Budget, (λ o. nat_lt o.free o.facts.bid))
-    ∷ (Capped, (λ o. option_map_or (is_over o.shown) o.facts.cap false))
-    ∷ []
+common_rules = tested (Request ∷ NoBanner ∷ Size ∷ Attribute ∷ Secure ∷ SeatNotAllowed ∷ SeatBlocked ∷ Category ∷ Advertiser ∷ Budget ∷ Capped ∷ [])
 
 -- for the public pool alone
 unfoldable pub public_rules : List Tested
-public_rules = (Private, (λ o. o.imp.pmp.private_auction))
-    ∷ (Currency, (λ o. not (is_usd o.imp.currency)))
-    ∷ (Floor, (λ o. nat_lt o.facts.bid o.imp.floor))
-    ∷ []
+public_rules = tested (Private ∷ Currency ∷ Floor ∷ [])

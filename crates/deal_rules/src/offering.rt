@@ -3,8 +3,8 @@ ghost use Rattle.std.specs.List.{list_all, list_any};
 ghost use Rattle.clearing.specs.Clearing.{is_fit};
 ghost use Rattle.deal_rules.specs.Offers.{deal_offer, deal_offers, is_open_to, offer_in, offers_of, public_offers, why_not_of};
 ghost use Rattle.deal_rules.specs.Rules.{opportunity_of};
+ghost use Rattle.deal_rules.specs.Seen.{opportunity_seen};
 ghost use Rattle.deal_rules.specs.Terms.{terms_of};
-ghost use Rattle.deal_rules.specs.Tests.{opportunity_seen};
 ghost use Rattle.rtb_types.specs.declared.request.Imp.{Imp as Impression};
 
 use crate::lists::{allows, has_text, is_usd};

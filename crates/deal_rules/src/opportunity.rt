@@ -5,8 +5,8 @@ ghost use Rattle.std.specs.Option.{option_map_or};
 ghost use Rattle.std.specs.Ordering.{int_eq};
 ghost use Rattle.campaign.specs.Kept.{size_of};
 ghost use Rattle.deal_rules.specs.Offers.{first_reason, is_excluded};
-ghost use Rattle.deal_rules.specs.Rules.{allows, blocked_attributes_of, common_rules, is_over, public_rules, sizes_of, takes_size};
-ghost use Rattle.deal_rules.specs.Tests.{opportunity_seen, test_of};
+ghost use Rattle.deal_rules.specs.Rules.{allows, blocked_attributes_of, common_rules, is_over, public_rules, sizes_of, takes_size, test_of};
+ghost use Rattle.deal_rules.specs.Seen.{opportunity_seen};
 
 use crate::lists::{allows, allows_usd, has_number_of, has_one_of, has_text, is_usd, takes_size};
 use crate::rule::Rule;

@@ -1,5 +1,5 @@
 use Rattle.std.proofs.Common.{◌∙◌}
-use Rattle.deal_rules.specs.Tests.{opportunity_seen}
+use Rattle.deal_rules.specs.Seen.{opportunity_seen}
 use Rattle.deal_rules.proofs.Ordered.{common_excludes}
 use Rattle.deal_rules.proofs.opportunity.Opportunity.is_excluded.Goals as goal
 
