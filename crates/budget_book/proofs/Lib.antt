@@ -1,0 +1,10 @@
+pub mod Chained
+pub mod Expiring
+pub mod Joining
+pub mod Looking
+pub mod Moving
+pub mod Oldest
+pub mod Ordered
+pub mod Placed
+pub mod Standing
+pub mod Waiting

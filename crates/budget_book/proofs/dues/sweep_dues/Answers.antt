@@ -1,0 +1,33 @@
+use Rattle.std.proofs.Common.{◌≡◌, length, sym, ◌∙◌, subst, arith}
+use Rattle.budget_book.specs.Dues.{AreDues}
+use Rattle.budget_book.specs.Sales.{due_count}
+use Rattle.budget_book.proofs.Expiring.{expiry_then}
+use Rattle.budget_book.proofs.Waiting.{all_expired, none_due}
+use Rattle.budget_book.proofs.dues.sweep_dues.Goals as goal
+
+pub expire-count-requires-clause-known : goal.expire-count-requires-clause-known
+expire-count-requires-clause-known c = λ k d w.
+    let h = c.loop-entry.invariant.expiry.known (length c.args.accounts.now) c.requires.known k d w in
+    (omega (arith, h), omega (arith, h))
+
+pub loop-entry-preserved : goal.loop-entry-preserved
+loop-entry-preserved c = record {
+  expiry = expiry_then c.args.moment c.args.rows.now c.loop-entry.rows c.expire-count.new.rows c.loop-entry.count c.expire-count.result c.loop-entry.invariant.expiry c.expire-count.ensures.expiry;
+  summed = c.expire-count.ensures.summed;
+  campaigns = c.expire-count.ensures.campaigns ∙ c.loop-entry.invariant.campaigns;
+  dues = c.expire-count.ensures.dues c.take_due.new.dues.items (subst (λ dues. AreDues c.args.forgotten c.loop-entry.rows dues) c.in-Some.ensures.first.0 c.loop-entry.invariant.dues);
+  capacity = c.take_due.ensures.capacity ∙ c.loop-entry.invariant.capacity;
+  len = omega arith;
+}
+
+pub returns-clause-rows : goal.returns-clause-rows
+returns-clause-rows c =
+    let nothing : due_count c.args.moment c.loop-entry.rows ≡ 0 = none_due c.args.forgotten c.args.moment c.loop-entry.rows c.loop-entry.dues.items
+    (λ k d w. let first = c.in_default.ensures.first.1 d (omega (arith, w)) in let up = c.loop-entry.invariant.dues.rising 0 k d (omega arith) w in omega (arith, first, up)) c.loop-entry.invariant.dues in
+    sym (all_expired c.args.moment c.loop-entry.rows nothing) ∙ c.loop-entry.invariant.expiry.same
+
+pub returns-clause-count : goal.returns-clause-count
+returns-clause-count c =
+    let nothing : due_count c.args.moment c.loop-entry.rows ≡ 0 = none_due c.args.forgotten c.args.moment c.loop-entry.rows c.loop-entry.dues.items
+    (λ k d w. let first = c.in_default.ensures.first.1 d (omega (arith, w)) in let up = c.loop-entry.invariant.dues.rising 0 k d (omega arith) w in omega (arith, first, up)) c.loop-entry.invariant.dues in
+    omega (arith, nothing, c.loop-entry.invariant.expiry.counted)

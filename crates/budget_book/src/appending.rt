@@ -1,0 +1,59 @@
+ghost use Rattle.std.specs.Prelude.{◌≡◌, ℕ, List, ◌+◌, ◌-◌, ◌<◌, ◌≤◌, ◌∷◌, [], ◌++◌, length, option_map};
+ghost use Rattle.std.proofs.Common.{get_or};
+ghost use Rattle.budget_book.specs.declared.account.Account.{Account};
+ghost use Rattle.budget_book.specs.Accounts.{charge};
+ghost use Rattle.budget_book.specs.Book.{IsBook, funds_of_all};
+ghost use Rattle.budget_book.specs.Users.{IsLinked, pair_with};
+
+use crate::account::Account;
+use crate::dues::{Due, await_sale};
+use crate::last_sales::LastSales;
+use crate::sales::SaleRow;
+use crate::user_key::Spare;
+use std::collections::VecDeque;
+
+// Adds a sale, which its campaign can pay. There is room in all lists.
+pub(crate) fn append(
+    accounts: &mut [Account],
+    rows: &mut Vec<SaleRow>,
+    links: &mut Vec<u64>,
+    dues: &mut VecDeque<Due>,
+    lasts: &mut LastSales,
+    forgotten: u64,
+    row: SaleRow,
+    spare: Option<Spare>,
+)
+    requires book { IsBook forgotten accounts.old rows.old.items links.old.items dues.old.items lasts.old }
+    requires there { (1 ≤ row.campaign) × (row.campaign ≤ length accounts.old) }
+    requires user { spare ≡ row.user }
+    requires free { (d : Account) → (get_or accounts.old (row.campaign - 1) d).reserved + (get_or accounts.old (row.campaign - 1) d).spent + charge row.state row.price ≤ (get_or accounts.old (row.campaign - 1) d).budget }
+    requires few { length rows.old.items < 4194304 }
+    requires row_room { rows.old.len < rows.old.cap }
+    requires link_room { links.old.len < links.old.cap }
+    requires due_room { dues.old.len < dues.old.cap }
+    ensures book { IsBook forgotten accounts.new rows.new.items links.new.items dues.new.items lasts.new }
+    ensures rows { rows.new.items ≡ rows.old.items ++ row ∷ [] }
+    ensures campaigns { funds_of_all accounts.new ≡ funds_of_all accounts.old }
+    ensures row_room { (rows.new.cap ≡ rows.old.cap) × (rows.new.len ≡ rows.old.len + 1) }
+    ensures link_room { (links.new.cap ≡ links.old.cap) × (links.new.len ≡ links.old.len + 1) }
+    ensures due_room { (dues.old.cap ≤ dues.new.cap) × (dues.new.len ≤ dues.old.len + 1) }
+{
+    let number = forgotten + rows.len() as u64 + 1;
+    let before = link(lasts, row.campaign, spare, number);
+    links.push_reserved(before);
+    await_sale(dues, &row, number);
+    let account = &mut accounts[row.campaign as usize - 1];
+    account.add(row.state, row.price.get());
+    rows.push_reserved(row);
+}
+
+// Makes the sale of that number the last of its campaign and user, where it has one, and answers which
+// was before it.
+fn link(lasts: &mut LastSales, campaign: u32, spare: Option<Spare>, number: u64) -> u64
+    ensures { IsLinked lasts.old lasts.new (option_map (pair_with campaign) spare) number result }
+{
+    match spare {
+        None => 0,
+        Some(spare) => lasts.put(campaign, spare, number),
+    }
+}
