@@ -1,0 +1,19 @@
+/// What an exchange holds no more of.
+#[derive(Clone, Copy, Debug, PartialEq, Eq)]
+pub enum Limit {
+    /// Sales in the list.
+    Sales,
+    Campaigns,
+    /// Conjunctions of all campaigns.
+    Conjunctions,
+    /// Values that the expressions of all campaigns list.
+    Values,
+    /// Bytes of the texts of all campaigns, of facts and expressions together.
+    TextBytes,
+}
+
+/// A limit would be passed.
+#[derive(Clone, Copy, Debug, PartialEq, Eq)]
+pub struct Full {
+    pub limit: Limit,
+}
