@@ -1,0 +1,17 @@
+pub mod Answering
+pub mod Applying
+pub mod Cases
+pub mod Compacting
+pub mod Each
+pub mod Forgetting
+pub mod Keeping
+pub mod Longest
+pub mod Money
+pub mod Paying
+pub mod Places
+pub mod Pricing
+pub mod Replaying
+pub mod Samples
+pub mod Selling
+pub mod Telling
+pub mod Timing
