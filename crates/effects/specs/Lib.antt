@@ -1,0 +1,4 @@
+pub mod Bodies
+pub mod Bytes
+pub mod Examples
+pub mod Tags

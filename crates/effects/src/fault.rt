@@ -1,0 +1,23 @@
+ghost use Rattle.std.specs.Prelude.{◌≡◌};
+ghost use Rattle.effects.specs.declared.fault.EffectFault.TheVariants.{Memory as memory};
+
+use std::alloc::AllocError;
+use thiserror::Error;
+
+/// Why bytes are no effects.
+#[derive(Clone, Copy, Debug, PartialEq, Eq, Error)]
+pub enum EffectFault {
+    /// What begins at this place is no effect.
+    #[error("what begins at byte {at} is no effect")]
+    Torn { at: usize },
+    #[error("memory ran out")]
+    Memory,
+}
+
+impl From<AllocError> for EffectFault {
+    ghost from_gives = { λ _ f. f ≡ memory };
+
+    fn from(_: AllocError) -> EffectFault {
+        EffectFault::Memory
+    }
+}
