@@ -1,9 +1,5 @@
 -- Which status has the number of a sink that failed, and how lines are put together.
 use Rattle.std.proofs.Common.{◌≡◌, ◌≢◌, ◌⊎◌, true, inl, inr, sym, ℕ, ◌<◌, List, [], ◌∷◌, ◌++◌, length, ap, ◌∙◌, append_assoc, refl, arith}
-use Rattle.json_out.specs.Inside.{in_object, put_member}
-use Rattle.json_out.specs.Texts.{Member, object_text}
-use Rattle.json_out.specs.Writer.{Written, blank, can_end, end, is_whole}
-use Rattle.json_out.proofs.Objects.{member_more, object_ends, object_whole}
 use Rattle.rtb_io.specs.Statuses.{code_of}
 use Rattle.rtb_io.specs.declared.status.Status.{Status}
 use Rattle.rtb_io.specs.declared.status.Status.TheVariants.{Done, Refused, Usage, NotWritten, Memory, NotRead}
@@ -53,24 +49,3 @@ no_input s t (inr d) e u = let f : Refused ≡ NotRead = sym d ∙ sym e ∙ u i
 pub other : (s : Status) → (s ≡ Usage) ⊎ (s ≡ NotRead) → s ≢ NotWritten
 other s (inl u) e = let f : Usage ≡ NotWritten = sym u ∙ e in cc
 other s (inr u) e = let f : NotRead ≡ NotWritten = sym u ∙ e in cc
-
--- of an object with these members, once it ends, the text is whole
-abbrev pub Closes : Written → List Member → Type 0
-Closes w ms = (can_end w ≡ true) × (is_whole (end w) ≡ true) × ((end w).text ≡ object_text ms)
-
-pub closes : (w : Written) (ms : List Member) → w ≡ in_object blank ms → Closes w ms
-closes w ms e = (
-  ap can_end e,
-  ap (λ v. is_whole (end v)) e ∙ ap is_whole (object_ends blank ms) ∙ object_whole ms,
-  ap (λ v. (end v).text) e ∙ ap (λ v. v.text) (object_ends blank ms),
-)
-
-pub closes_alone : (e : Member) (w : Written) → w ≡ in_object blank (e ∷ []) → Closes w (e ∷ [])
-closes_alone e w a = closes w (e ∷ []) a
-
-pub closes_one : (e m : Member) (w v : Written) → w ≡ in_object blank (e ∷ []) → v ≡ put_member w m → Closes v (e ∷ m ∷ [])
-closes_one e m w v a b = closes v (e ∷ m ∷ []) (b ∙ ap (λ u. put_member u m) a ∙ member_more blank (e ∷ []) m)
-
-pub closes_two : (e m n : Member) (w v u : Written) → w ≡ in_object blank (e ∷ []) → v ≡ put_member w m → u ≡ put_member v n → Closes u (e ∷ m ∷ n ∷ [])
-closes_two e m n w v u a b d =
-    closes u (e ∷ m ∷ n ∷ []) (d ∙ ap (λ t. put_member t n) (b ∙ ap (λ t. put_member t m) a ∙ member_more blank (e ∷ []) m) ∙ member_more blank (e ∷ m ∷ []) n)

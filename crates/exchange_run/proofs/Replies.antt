@@ -11,7 +11,7 @@ use Rattle.rtb_read.specs.declared.fault.ReqFault.{ReqFault}
 use Rattle.rtb_read.specs.declared.fault.ReqFault.TheVariants.{Memory as Unread}
 use Rattle.json_fields.specs.Answers.{IsFirst}
 use Rattle.exchange_run.specs.Words.{Campaign, campaign_of, campaigns_of}
-use Rattle.exchange_run.specs.Refusals.{json_fault_text, request_fault_text}
+use Rattle.refusal_text.specs.Refusals.{json_fault_text, request_fault_text}
 use Rattle.exchange_run.specs.Answer.{IsReply, faulty, max_input, refusal_of, reply_by, reply_to, said, too_large, tree_reply}
 use Rattle.exchange_run.specs.Unbuilt.{is_unbuilt}
 use Rattle.rtb_io.specs.declared.status.Status.TheVariants.{Done, Refused}

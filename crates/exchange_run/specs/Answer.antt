@@ -16,7 +16,7 @@ use Rattle.rtb_read.specs.Request.{request_faults, request_from}
 use Rattle.rtb_read.specs.declared.fault.ReqFault.{ReqFault}
 use Rattle.exchange_run.specs.Words.{Campaign, command_of}
 use Rattle.exchange_run.specs.Auction.{Sale, sales_of}
-use Rattle.exchange_run.specs.Refusals.{error_text, json_fault_text, request_fault_text}
+use Rattle.refusal_text.specs.Refusals.{error_text, json_fault_text, request_fault_text}
 use Rattle.exchange_run.specs.Unbuilt.{is_unbuilt}
 use Rattle.exchange_run.specs.declared.try_command.Reply.{Reply}
 use Rattle.exchange_run.specs.Response.{response_text}

@@ -4,7 +4,6 @@ pub mod Words
 pub mod Auction
 pub mod Numbered
 pub mod Response
-pub mod Refusals
 pub mod Unbuilt
 pub mod Answer
 pub mod View

@@ -4,7 +4,6 @@
 mod auction;
 mod members;
 mod numbered;
-mod refusals;
 mod response;
 mod status_lines;
 mod try_command;

@@ -4,7 +4,7 @@ ghost use Rattle.rtb_io.specs.Fronts.{TakesAtMost};
 ghost use Rattle.rtb_io.specs.Statuses.{code_of};
 ghost use Rattle.rtb_io.specs.declared.status.Status.TheVariants.{Done, NotRead, NotWritten, Refused, Usage};
 ghost use Rattle.exchange_run.specs.Answer.{HalfTold, IsOutcome, IsReply, Replies, Told, line_of, refusal_of, reply_to, sold_line, tree_reply};
-ghost use Rattle.exchange_run.specs.Refusals.{error_text, json_fault_text, request_fault_text};
+ghost use Rattle.refusal_text.specs.Refusals.{error_text, json_fault_text, request_fault_text};
 ghost use Rattle.exact_json.specs.Docs.{doc_tree};
 ghost use Rattle.exchange_run.specs.Words.{campaigns_of, command_of};
 ghost use Rattle.exchange_run.specs.View.{sale_view};
@@ -12,12 +12,12 @@ ghost use Rattle.exchange_run.specs.Numbered.{AreNumbered, campaigns_only};
 
 use crate::auction::{SoldImp, sell};
 use crate::numbered::NumberedCampaign;
-use crate::refusals::{error, json_fault, request_fault};
 use crate::response::bid_response;
 use crate::status_lines::{end_with, tell};
 use crate::unbuilt::is_unbuilt;
 use crate::words::{campaigns_in, command_in};
 use exact_json::{Doc, JsonFault, read};
+use refusal_text::{error_text, json_fault_text, request_fault_text};
 use rtb_io::{ReadFault, Status, read_all};
 use rtb_num::{Sink, Source, Txt};
 use rtb_read::{ReqFault, read_request};
@@ -127,7 +127,7 @@ fn bytes_reply(
 fn refusal(alloc: Global, word: &[u8]) -> Result<Reply, AllocError>
     ensures { IfOk result (λ r. r ≡ refusal_of (error_text word.now)) }
 {
-    let line = error(alloc, word)?;
+    let line = error_text(alloc, word)?;
     Ok(Reply {
         status: Status::Refused,
         line,
@@ -184,7 +184,7 @@ fn request_refusal(alloc: Global, fault: &ReqFault) -> Result<Reply, AllocError>
     if matches!(fault, ReqFault::Memory) {
         return Err(AllocError);
     }
-    let line = request_fault(alloc, fault)?;
+    let line = request_fault_text(alloc, fault)?;
     Ok(Reply {
         status: Status::Refused,
         line,
@@ -199,7 +199,7 @@ fn json_refusal(alloc: Global, fault: JsonFault) -> Result<Reply, AllocError>
     if fault == JsonFault::Memory {
         return Err(AllocError);
     }
-    let line = json_fault(alloc, fault)?;
+    let line = json_fault_text(alloc, fault)?;
     Ok(Reply {
         status: Status::Refused,
         line,

@@ -1,5 +1,5 @@
 -- Members and elements, written one after the other, are those of an object and of an array.
-use Rattle.std.proofs.Common.{◌≡◌, ℕ, ◌==◌, List, [], ◌∷◌, ◌++◌, length, map, Bool, true, false, not, cond, IsTrue, refl, sym, ap, ◌∙◌, arith, append_assoc, append-nil}
+use Rattle.std.proofs.Common.{◌≡◌, ℕ, ◌==◌, List, [], ◌∷◌, ◌++◌, length, map, Bool, true, false, not, cond, refl, sym, ap, ◌∙◌, arith, append_assoc, append-nil}
 use Rattle.std.specs.List.{join_with_byte}
 use Rattle.std.proofs.lemmas.Bool.Decides.{nat_tests}
 use Rattle.std.proofs.lemmas.List.{length-map, map_push}
@@ -7,7 +7,7 @@ use Rattle.json_out.specs.declared.places.Place.{Place}
 use Rattle.json_out.specs.declared.places.Place.TheVariants.{Array, Object}
 use Rattle.json_out.specs.Strings.{string_text}
 use Rattle.json_out.specs.Texts.{Member, array_text, member_text, object_text}
-use Rattle.json_out.specs.Writer.{Written, begin, end, fill, put_name, blank, is_whole, name_in, put_value, separator, takes_name, takes_value, wants_name}
+use Rattle.json_out.specs.Writer.{Written, end, fill, put_name, blank, can_end, is_whole, name_in, put_value, separator, takes_name, takes_value, wants_name}
 use Rattle.json_out.specs.Inside.{in_array, in_object, put_member, put_members}
 
 same_written : (t u : List ℕ) (p q : List Place) → t ≡ u → p ≡ q → ◌≡◌ {A = Written} (record { text = t; places = p }) (record { text = u; places = q })
@@ -111,3 +111,19 @@ name_next w m h = by w.places h
 -- an object alone is a whole text
 pub object_whole : (ms : List Member) → is_whole (put_value blank (object_text ms)) ≡ true
 object_whole ms = ap (λ b. not b) (some_there 123 (join_with_byte 44 (map member_text ms) ++ 125 ∷ []))
+
+-- members behind members
+pub put_members-append : (w : Written) (ms ns : List Member) → put_members w (ms ++ ns) ≡ put_members (put_members w ms) ns
+put_members-append w [] ns = refl
+put_members-append w (m ∷ ms) ns = put_members-append (put_member w m) ms ns
+
+-- of an object with these members, once it ends, the text is whole
+abbrev pub Closes : Written → List Member → Type 0
+Closes w ms = (can_end w ≡ true) × (is_whole (end w) ≡ true) × ((end w).text ≡ object_text ms)
+
+pub closes : (w : Written) (ms : List Member) → w ≡ in_object blank ms → Closes w ms
+closes w ms e = (
+  ap can_end e,
+  ap (λ v. is_whole (end v)) e ∙ ap is_whole (object_ends blank ms) ∙ object_whole ms,
+  ap (λ v. (end v).text) e ∙ ap (λ v. v.text) (object_ends blank ms),
+)

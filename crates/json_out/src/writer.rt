@@ -1,4 +1,5 @@
 ghost use Rattle.std.specs.Prelude.{◌≡◌, ◌++◌, ◌∷◌, [], ℕ, List, length, take, decimal, false, IsTrue, IfOk, OnOk, OnErr};
+ghost use Rattle.std.specs.Fmt.{signed_decimal};
 ghost use Rattle.rtb_num.specs.Amounts.{micros_text, nanos_text};
 ghost use Rattle.json_out.specs.Strings.{string_text};
 ghost use Rattle.json_out.specs.Writer.{Written, begin, beginning, blank, can_end, end, ending, is_whole, put_name, put_value, separator, takes_name, takes_value};
@@ -6,7 +7,7 @@ ghost use Rattle.json_out.specs.declared.places.Place.TheVariants.{Array, Object
 
 use crate::places::{Place, Places};
 use crate::strings::{push_name, push_string};
-use rtb_num::{Micros, Nanos, Txt, write_decimal, write_micros, write_nanos};
+use rtb_num::{Micros, Nanos, Txt, write_decimal, write_micros, write_nanos, write_signed};
 use std::alloc::{AllocError, Global};
 use std::marker::Model;
 
@@ -140,6 +141,19 @@ impl Writer {
     {
         let before = self.separate()?;
         let written = write_decimal(n, &mut self.text);
+        self.settle(before, written)?;
+        self.places.fill();
+        Ok(())
+    }
+
+    /// Writes a whole number that may be negative (section 6).
+    pub fn signed(&mut self, n: i32) -> Result<(), AllocError>
+        requires { IsTrue (takes_value self.old) }
+        ensures ok { OnOk result (self.new ≡ put_value self.old (signed_decimal n)) }
+        ensures err { OnErr result (self.new ≡ self.old) }
+    {
+        let before = self.separate()?;
+        let written = write_signed(n, &mut self.text);
         self.settle(before, written)?;
         self.places.fill();
         Ok(())

@@ -8,7 +8,7 @@ use Rattle.json_out.specs.Writer.{Written, begin, blank, is_whole, put_name, put
 use Rattle.json_out.proofs.Objects.{members_are}
 use Rattle.exchange_run.specs.Response.{seat_text}
 use Rattle.exchange_run.specs.View.{sale_view}
-use Rattle.exchange_run.proofs.Endings.{closes}
+use Rattle.json_out.proofs.Objects.{closes}
 use Rattle.exchange_run.proofs.Texts.{numbers}
 use Rattle.exchange_run.proofs.response.bid_response.Goals as goal
 
