@@ -54,7 +54,7 @@ pub(crate) fn with_texts(
     first: (&[u8], &[u8]),
     second: (&[u8], &[u8]),
 ) -> Result<Txt, AllocError>
-    ensures { IfOk result (λ t. t ≡ error_with word.now ((first.0.now, string_text first.1.now) ∷ (second.0.now, string_text second.1.now) ∷ [])) }
+    ensures { IfOk result (λ t. t ≡ error_with word.now ((first.entry.0.now, string_text first.entry.1.now) ∷ (second.entry.0.now, string_text second.entry.1.now) ∷ [])) }
 {
     let mut writer = error(alloc, word)?;
     writer.put_text(first.0, first.1)?;
@@ -70,7 +70,7 @@ pub(crate) fn with_numbers(
     first: (&[u8], usize),
     second: (&[u8], usize),
 ) -> Result<Txt, AllocError>
-    ensures { IfOk result (λ t. t ≡ error_with word.now ((first.0.now, decimal first.1) ∷ (second.0.now, decimal second.1) ∷ [])) }
+    ensures { IfOk result (λ t. t ≡ error_with word.now ((first.entry.0.now, decimal first.entry.1) ∷ (second.entry.0.now, decimal second.entry.1) ∷ [])) }
 {
     let mut writer = error(alloc, word)?;
     writer.put_number(first.0, first.1 as u64)?;
