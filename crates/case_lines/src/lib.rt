@@ -8,5 +8,7 @@
 
 mod notation;
 mod report;
+mod words;
 
 pub use report::{Areas, run_cases};
+pub use words::{done, number_in, numbers_in, put_comma, say};

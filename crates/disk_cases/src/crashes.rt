@@ -1,8 +1,8 @@
 //! Crashes at each call of the journal, with each of eight picks of the changes.
 use crate::errands::{hand_out, write_out};
-use crate::journals::{Written, calls_to_open, done, write_whole};
-use crate::numbers::number_in;
+use crate::journals::{Written, calls_to_open, write_whole};
 use crate::opened::{Opened, disk_behind, disk_of, open, put_content};
+use case_lines::{done, number_in};
 use journal_file::Journal;
 use rtb_disk::{Disk, MemDisk};
 use rtb_num::{List, Txt};
@@ -20,16 +20,18 @@ use std::alloc::{AllocError, Global};
 /// - `compact_crash | CONTENT | BLOCK | .. | BLOCK`: `u` where the file may be written anew, `f` where it is
 ///   the journal of all blocks. Stops begin with the first sync.
 pub fn answer(alloc: Global, call: &[u8], args: &[Txt], out: &mut Txt) -> Result<bool, AllocError> {
-    match (call, args) {
-        (b"append_crash", [content, block]) => {
+    match args {
+        [content, block] if call == b"append_crash".as_slice() => {
             done(append_crashes(alloc, content, block.as_bytes(), out))
         }
-        (b"repair_crash", [content, block, fail]) => {
+        [content, block, fail] if call == b"repair_crash".as_slice() => {
             let fail = number_in(fail.as_bytes()).unwrap_or(0);
             done(repair_crashes(alloc, content, block.as_bytes(), fail, out))
         }
-        (b"create_crash", [content]) => done(create_crashes(alloc, content, out)),
-        (b"compact_crash", [content, blocks @ ..]) => {
+        [content] if call == b"create_crash".as_slice() => done(create_crashes(
+            alloc, content, out,
+        )),
+        [content, blocks @ ..] if call == b"compact_crash".as_slice() => {
             done(compact_crashes(alloc, content, blocks, out))
         }
         _ => Ok(false),
@@ -64,7 +66,7 @@ fn append_crashes(
         put_space(call, out)?;
         let mut disk = disk_of(alloc, content)?;
         disk.stop_at(before.saturating_add(call));
-        let disk = disk_appended(alloc, disk, block, false)?;
+        let disk = disk_with_block(alloc, disk, block, false)?;
         tell_appended(alloc, content, block, &disk, out)?;
     }
     Ok(())
@@ -85,14 +87,14 @@ fn repair_crashes(
         fails.push(before)?;
         let mut disk = MemDisk::new(alloc, content.copy()?, fails);
         disk.stop_at(before.saturating_add(call));
-        let disk = disk_appended(alloc, disk, block, true)?;
+        let disk = disk_with_block(alloc, disk, block, true)?;
         tell_appended(alloc, content, block, &disk, out)?;
     }
     Ok(())
 }
 
 // The disk behind an append of the block, and a repair where that is asked.
-fn disk_appended<D: Disk + Drop>(
+fn disk_with_block<D: Disk + Drop>(
     alloc: Global,
     disk: D,
     block: &[u8],
@@ -163,13 +165,13 @@ fn create_crashes(alloc: Global, content: &Txt, out: &mut Txt) -> Result<(), All
 
 fn tell_created(alloc: Global, disk: &MemDisk, out: &mut Txt) -> Result<(), AllocError> {
     for pick in 0..8u64 {
-        let letter = letter_created(alloc, disk.after_crash(pick)?)?;
+        let letter = letter_of_creation(alloc, disk.after_crash(pick)?)?;
         out.push(letter)?;
     }
     Ok(())
 }
 
-fn letter_created<D: Disk + Drop>(alloc: Global, disk: D) -> Result<u8, AllocError> {
+fn letter_of_creation<D: Disk + Drop>(alloc: Global, disk: D) -> Result<u8, AllocError> {
     let mut disk = disk;
     let mut content = Txt::new(alloc);
     put_content(&mut disk, &mut content)?;
@@ -188,7 +190,7 @@ fn compact_crashes(
     blocks: &[Txt],
     out: &mut Txt,
 ) -> Result<(), AllocError> {
-    let whole = disk_written(disk_of(alloc, content)?, blocks);
+    let whole = disk_with_blocks(disk_of(alloc, content)?, blocks);
     let calls = whole.made().len() as u64;
     let mut all = Txt::new(alloc);
     for block in blocks {
@@ -198,7 +200,7 @@ fn compact_crashes(
         put_space(call, out)?;
         let mut disk = disk_of(alloc, content)?;
         disk.stop_at(call);
-        tell_written(alloc, &disk_written(disk, blocks), all.as_bytes(), out)?;
+        tell_written(alloc, &disk_with_blocks(disk, blocks), all.as_bytes(), out)?;
     }
     Ok(())
 }
@@ -212,20 +214,20 @@ fn tell_written(
     for pick in 0..8u64 {
         let image = disk.after_crash(pick)?;
         let again = disk.after_crash(pick)?;
-        let letter = letter_written(alloc, image, again, all)?;
+        let letter = letter_of_writing(alloc, image, again, all)?;
         out.push(letter)?;
     }
     Ok(())
 }
 
-fn disk_written<D: Disk + Drop>(disk: D, blocks: &[Txt]) -> D {
+fn disk_with_blocks<D: Disk + Drop>(disk: D, blocks: &[Txt]) -> D {
     match write_whole(disk, blocks) {
         Written::Whole(disk) | Written::Refused(disk) | Written::Failed(disk) => disk,
     }
 }
 
 // Of an image, of which two disks are handed in.
-fn letter_written<D: Disk + Drop>(
+fn letter_of_writing<D: Disk + Drop>(
     alloc: Global,
     image: D,
     again: D,
@@ -233,11 +235,11 @@ fn letter_written<D: Disk + Drop>(
 ) -> Result<u8, AllocError> {
     match write_whole(image, &[]) {
         Written::Whole(_) => Ok(b'u'),
-        Written::Refused(_) | Written::Failed(_) => letter_finished(alloc, again, all),
+        Written::Refused(_) | Written::Failed(_) => letter_of_finish(alloc, again, all),
     }
 }
 
-fn letter_finished<D: Disk + Drop>(alloc: Global, disk: D, all: &[u8]) -> Result<u8, AllocError> {
+fn letter_of_finish<D: Disk + Drop>(alloc: Global, disk: D, all: &[u8]) -> Result<u8, AllocError> {
     match payloads_on(alloc, disk)? {
         Some(payloads) if payloads.as_bytes() == all => Ok(b'f'),
         _ => Ok(b'x'),

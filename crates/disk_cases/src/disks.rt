@@ -1,5 +1,5 @@
 //! Disks in memory.
-use crate::numbers::{number_in, numbers_in};
+use case_lines::{done, number_in, numbers_in};
 use rtb_disk::{Call, Disk, Made, MemDisk};
 use rtb_num::{Failed, Txt, write_decimal};
 use std::alloc::{AllocError, Global};
@@ -12,54 +12,52 @@ use std::alloc::{AllocError, Global};
 ///   after a crash. A write and a cut ask for the length first, which is a call too.
 /// - `record | CONTENT | CALLS | STEPS`: the calls in the disk's record, with `!` at those that failed.
 pub fn answer(alloc: Global, call: &[u8], args: &[Txt], out: &mut Txt) -> Result<bool, AllocError> {
-    match (call, args) {
-        (b"disk", [content, fails, steps]) => {
-            run(
-                alloc,
-                content,
-                fails.as_bytes(),
-                steps.as_bytes(),
-                true,
-                out,
-            )?;
-            Ok(true)
+    match args {
+        [content, fails, steps] if call == b"disk".as_slice() => {
+            done(tell_steps(alloc, content, fails.as_bytes(), steps.as_bytes(), out))
         }
-        (b"record", [content, fails, steps]) => {
-            run(
-                alloc,
-                content,
-                fails.as_bytes(),
-                steps.as_bytes(),
-                false,
-                out,
-            )?;
-            Ok(true)
+        [content, fails, steps] if call == b"record".as_slice() => {
+            done(tell_calls(alloc, content, fails.as_bytes(), steps.as_bytes(), out))
         }
         _ => Ok(false),
     }
 }
 
-// Takes the steps, and tells what each gives, or else the record.
+// Takes the steps, and tells what each gives.
+fn tell_steps(
+    alloc: Global,
+    content: &Txt,
+    fails: &[u8],
+    steps: &[u8],
+    out: &mut Txt,
+) -> Result<(), AllocError> {
+    let mut told = Txt::new(alloc);
+    let disk = run(alloc, content, fails, steps, &mut told)?;
+    out.extend_all(&[told.as_bytes(), b"faults "])?;
+    write_decimal(disk.calls().faults(), out)
+}
+
+// Takes the steps, and tells the record.
+fn tell_calls(
+    alloc: Global,
+    content: &Txt,
+    fails: &[u8],
+    steps: &[u8],
+    out: &mut Txt,
+) -> Result<(), AllocError> {
+    let disk = run(alloc, content, fails, steps, &mut Txt::new(alloc))?;
+    tell_record(disk.made(), out)
+}
+
 fn run(
     alloc: Global,
     content: &Txt,
     fails: &[u8],
     steps: &[u8],
-    tells: bool,
-    out: &mut Txt,
-) -> Result<(), AllocError> {
+    told: &mut Txt,
+) -> Result<MemDisk, AllocError> {
     let disk = MemDisk::new(alloc, content.copy()?, numbers_in(alloc, fails)?);
-    let mut told = Txt::new(alloc);
-    let disk = take_all(disk, steps, &mut told)?;
-    if tells {
-        return tell_steps(told.as_bytes(), disk.calls().faults(), out);
-    }
-    tell_record(disk.made(), out)
-}
-
-fn tell_steps(told: &[u8], faults: u64, out: &mut Txt) -> Result<(), AllocError> {
-    out.extend_all(&[told, b"faults "])?;
-    write_decimal(faults, out)
+    take_all(disk, steps, told)
 }
 
 fn take_all(disk: MemDisk, steps: &[u8], out: &mut Txt) -> Result<MemDisk, AllocError> {
@@ -74,11 +72,13 @@ fn take_all(disk: MemDisk, steps: &[u8], out: &mut Txt) -> Result<MemDisk, Alloc
 // One step.
 fn take(disk: MemDisk, step: &[u8], out: &mut Txt) -> Result<MemDisk, AllocError> {
     let (word, rest) = cut_at_colon(step);
-    match word {
-        b"stop" => stop(disk, rest, out),
-        b"crash" => crash(disk, rest, out),
-        _ => call(disk, word, rest, out),
+    if word == b"stop".as_slice() {
+        return stop(disk, rest, out);
     }
+    if word == b"crash".as_slice() {
+        return crash(disk, rest, out);
+    }
+    call(disk, word, rest, out)
 }
 
 fn call(disk: MemDisk, word: &[u8], rest: &[u8], out: &mut Txt) -> Result<MemDisk, AllocError> {
@@ -89,14 +89,22 @@ fn call(disk: MemDisk, word: &[u8], rest: &[u8], out: &mut Txt) -> Result<MemDis
 
 // A call of the disk.
 fn ask<D: Disk>(disk: &mut D, word: &[u8], rest: &[u8], out: &mut Txt) -> Result<(), AllocError> {
-    match word {
-        b"length" => tell_number(disk.length(), out),
-        b"read" => read(disk, rest, out),
-        b"write" => write(disk, rest, out),
-        b"cut" => cut(disk, rest, out),
-        b"sync" => tell_done(disk.sync(), out),
-        _ => out.extend(b"unreadable"),
+    if word == b"length".as_slice() {
+        return tell_number(disk.length(), out);
     }
+    if word == b"read".as_slice() {
+        return read(disk, rest, out);
+    }
+    if word == b"write".as_slice() {
+        return write(disk, rest, out);
+    }
+    if word == b"cut".as_slice() {
+        return cut(disk, rest, out);
+    }
+    if word == b"sync".as_slice() {
+        return tell_done(disk.sync(), out);
+    }
+    out.extend(b"unreadable")
 }
 
 fn cut_at_colon(text: &[u8]) -> (&[u8], &[u8]) {
@@ -215,22 +223,20 @@ fn tell_call(call: &Call, out: &mut Txt) -> Result<(), AllocError> {
         Call::Length => out.extend(b"length"),
         Call::Sync => out.extend(b"sync"),
         Call::Read { place, count } => tell_two(b"read:", *place, *count, out),
-        Call::Cut { count } => {
-            out.extend(b"cut:")?;
-            write_decimal(*count, out)
-        }
+        Call::Cut { count } => tell_one(b"cut:", *count, out),
         Call::Write { place, bytes } => {
-            out.extend(b"write:")?;
-            write_decimal(*place, out)?;
-            out.push(b':')?;
-            out.extend(bytes.as_bytes())
+            tell_one(b"write:", *place, out)?;
+            out.extend_all(&[b":", bytes.as_bytes()])
         }
     }
 }
 
-fn tell_two(word: &[u8], first: u64, second: u64, out: &mut Txt) -> Result<(), AllocError> {
+fn tell_one(word: &[u8], number: u64, out: &mut Txt) -> Result<(), AllocError> {
     out.extend(word)?;
-    write_decimal(first, out)?;
-    out.push(b':')?;
-    write_decimal(second, out)
+    write_decimal(number, out)
+}
+
+fn tell_two(word: &[u8], first: u64, second: u64, out: &mut Txt) -> Result<(), AllocError> {
+    tell_one(word, first, out)?;
+    tell_one(b":", second, out)
 }

@@ -3,8 +3,8 @@ ghost use Rattle.std.specs.Prelude.{◌≡◌, false};
 ghost use Rattle.journal_file.specs.Compaction.{has_failed};
 
 use crate::disks::tell_record;
-use crate::numbers::{number_in, numbers_in};
 use crate::opened::{Opened, append_to, disk_behind, disk_of, open, put_content, repair_with};
+use case_lines::{done, number_in, numbers_in};
 use journal_file::{Compact, CompactFault, Journal, JournalFault, block_at};
 use rtb_disk::{Disk, MemDisk};
 use rtb_num::{List, Txt, write_decimal};
@@ -21,22 +21,27 @@ use std::alloc::{AllocError, Global};
 /// - `compact | CONTENT | BLOCK | .. | BLOCK`: what the file is where it is written whole with these blocks,
 ///   or in brackets what it still is where it is not taken.
 pub fn answer(alloc: Global, call: &[u8], args: &[Txt], out: &mut Txt) -> Result<bool, AllocError> {
-    match (call, args) {
-        (b"open", [content, fails]) => done(tell_reading(alloc, content, fails.as_bytes(), out)),
-        (b"append", [content, blocks @ ..]) => done(append(alloc, content, blocks, out)),
-        (b"calls", [content, fails, block]) => {
+    match args {
+        [content, fails] if call == b"open".as_slice() => done(tell_reading(
+            alloc,
+            content,
+            fails.as_bytes(),
+            out,
+        )),
+        [content, blocks @ ..] if call == b"append".as_slice() => done(append(
+            alloc, content, blocks, out,
+        )),
+        [content, fails, block] if call == b"calls".as_slice() => {
             done(calls(alloc, content, fails.as_bytes(), block.as_bytes(), out))
         }
-        (b"block_at", [content, gate]) => { done(find_block(alloc, content, gate.as_bytes(), out)) }
-        (b"compact", [content, blocks @ ..]) => done(compact(alloc, content, blocks, out)),
+        [content, gate] if call == b"block_at".as_slice() => {
+            done(find_block(alloc, content, gate.as_bytes(), out))
+        }
+        [content, blocks @ ..] if call == b"compact".as_slice() => done(compact(
+            alloc, content, blocks, out,
+        )),
         _ => Ok(false),
     }
-}
-
-/// A call that was answered.
-pub fn done(answer: Result<(), AllocError>) -> Result<bool, AllocError> {
-    answer?;
-    Ok(true)
 }
 
 fn tell_reading(

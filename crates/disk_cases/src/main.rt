@@ -8,7 +8,6 @@ mod crashes;
 mod disks;
 mod errands;
 mod journals;
-mod numbers;
 mod opened;
 
 use case_lines::{Areas, run_cases};

@@ -6,7 +6,7 @@ ghost use Rattle.deal_rules.specs.Terms.{terms_of};
 ghost use Rattle.rtb_types.specs.declared.request.Imp.{Imp as Impression};
 
 use crate::market::{Market, market_of};
-use case_lines::Areas;
+use case_lines::{Areas, done};
 use clearing::{Offer, PriceKind, clear};
 use deal_rules::{Rule, offers, terms, user_of, why_not};
 use rtb_num::Txt;
@@ -26,14 +26,9 @@ impl Areas for Rules {
     fn answer(alloc: Global, call: &[u8], args: &[Txt], out: &mut Txt) -> Result<bool, AllocError> {
         match market_of(alloc, args)? {
             Some(market) => answer_in(alloc, call, &market, out),
-            None => unreadable(out),
+            None => done(out.extend(b"unreadable")),
         }
     }
-}
-
-fn unreadable(out: &mut Txt) -> Result<bool, AllocError> {
-    out.extend(b"unreadable")?;
-    Ok(true)
 }
 
 fn answer_in(
@@ -42,15 +37,22 @@ fn answer_in(
     market: &Market,
     out: &mut Txt,
 ) -> Result<bool, AllocError> {
-    match call {
-        b"offers" => put_offers(alloc, market, out)?,
-        b"why_not" => put_reasons(market, out)?,
-        b"terms" => put_terms(alloc, market, out)?,
-        b"sold" => put_sale(alloc, market, out)?,
-        b"user_of" => put_user(market, out)?,
-        _ => return Ok(false),
+    if call == b"offers".as_slice() {
+        return done(put_offers(alloc, market, out));
     }
-    Ok(true)
+    if call == b"why_not".as_slice() {
+        return done(put_reasons(market, out));
+    }
+    if call == b"terms".as_slice() {
+        return done(put_terms(alloc, market, out));
+    }
+    if call == b"sold".as_slice() {
+        return done(put_sale(alloc, market, out));
+    }
+    if call == b"user_of".as_slice() {
+        return done(put_user(market, out));
+    }
+    Ok(false)
 }
 
 // ---- offers

@@ -3,6 +3,7 @@ ghost use Rattle.std.specs.Prelude.{◌<◌, length};
 
 use campaign::Facts;
 use campaign_read::{CampFault, read_campaign};
+use case_lines::{done, number_in};
 use deal_rules::user_of;
 use rtb_num::{Nanos, Txt};
 use rtb_read::{ReqFault, read_request};
@@ -79,14 +80,27 @@ struct Words {
 impl Words {
     // One more, or tells that it cannot be read.
     fn take(&mut self, alloc: Global, word: &[u8], rest: &[u8]) -> Result<bool, AllocError> {
-        match word {
-            b"request" => put_all(rest, &mut self.request),
-            b"imp" => put_all(rest, &mut self.imp),
-            b"campaign" => self.add(alloc, rest),
-            b"free" => Ok(self.set_free(rest)),
-            b"shown" => Ok(self.set_shown(rest)),
-            _ => Ok(false),
+        if word == b"request".as_slice() {
+            return done(self.request.extend(rest));
         }
+        if word == b"imp".as_slice() {
+            return done(self.imp.extend(rest));
+        }
+        if word == b"campaign".as_slice() {
+            return self.add(alloc, rest);
+        }
+        Ok(self.set(word, rest))
+    }
+
+    // Sets what the last campaign has left or was shown, or tells that the word is of neither.
+    fn set(&mut self, word: &[u8], rest: &[u8]) -> bool {
+        if word == b"free".as_slice() {
+            return self.set_free(rest);
+        }
+        if word == b"shown".as_slice() {
+            return self.set_shown(rest);
+        }
+        false
     }
 
     fn add(&mut self, alloc: Global, members: &[u8]) -> Result<bool, AllocError> {
@@ -140,11 +154,6 @@ fn with_bidders(request: BidRequest, bidders: Vec<Bidder>) -> Option<Market> {
         return None;
     }
     Some(Market { request, bidders })
-}
-
-fn put_all(bytes: &[u8], out: &mut Txt) -> Result<bool, AllocError> {
-    out.extend(bytes)?;
-    Ok(true)
 }
 
 // ---- texts
@@ -209,9 +218,4 @@ fn request_of(alloc: Global, text: &[u8]) -> Result<Option<BidRequest>, AllocErr
 
 fn amount_in(text: &[u8]) -> Option<Nanos> {
     Nanos::new(number_in(text)?)
-}
-
-// A whole number of 64 bits.
-fn number_in(text: &[u8]) -> Option<u64> {
-    str::from_utf8(text).ok()?.parse::<u64>().ok()
 }

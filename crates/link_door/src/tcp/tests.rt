@@ -53,6 +53,39 @@ fn sent(link: &mut TcpLink, bytes: &[u8]) -> usize {
     }
 }
 
+fn carries_to_the_link(
+    rt: &impl Abort,
+    peer: &mut TcpStream,
+    link: &mut TcpLink,
+) -> io::Result<()> {
+    let mut piece = [0u8; 8];
+    peer.write_all(b"hello")?;
+    assert_eq!(rt; received(link, &mut piece), 5);
+    assert_eq!(rt; &piece[..5], b"hello".as_slice());
+    Ok(())
+}
+
+fn carries_to_the_peer(
+    rt: &impl Abort,
+    peer: &mut TcpStream,
+    link: &mut TcpLink,
+) -> io::Result<()> {
+    let mut piece = [0u8; 8];
+    assert_eq!(rt; sent(link, b"answer"), 6);
+    assert_eq!(rt; peer.read(&mut piece)?, 6);
+    assert_eq!(rt; &piece[..6], b"answer".as_slice());
+    Ok(())
+}
+
+// A link of this door, whose peer leaves, ends.
+fn ends_with_its_peer<C: Clock>(rt: &impl Abort, door: &mut TcpDoor<C>, peer: TcpStream) {
+    let mut link = next_link(rt, door);
+    let mut piece = [0u8; 8];
+    drop(peer);
+    assert_eq!(rt; received(&mut link, &mut piece), 0, "the peer is gone");
+    door.done(link);
+}
+
 #[test]
 fn two_doors_share_an_address_and_their_links_carry_bytes_both_ways(
     rt: HostRuntime,
@@ -61,24 +94,21 @@ fn two_doors_share_an_address_and_their_links_carry_bytes_both_ways(
     let address = listener.local_addr()?;
     let mut second = TcpDoor::new(listener.try_clone()?, &rt);
     let mut first = TcpDoor::new(listener, &rt);
-    let mut one = TcpStream::connect(&rt, address)?;
+    let mut peer = TcpStream::connect(&rt, address)?;
     let mut link = next_link(&rt, &mut first);
-    let other = TcpStream::connect(&rt, address)?;
-    let mut last = next_link(&rt, &mut second);
-    let mut piece = [0u8; 8];
-    one.write_all(b"hello")?;
-    assert_eq!(rt; received(&mut link, &mut piece), 5);
-    assert_eq!(rt; &piece[..5], b"hello".as_slice());
-    assert_eq!(rt; sent(&mut link, b"answer"), 6);
-    assert_eq!(rt; one.read(&mut piece)?, 6);
-    assert_eq!(rt; &piece[..6], b"answer".as_slice());
+    ends_with_its_peer(&rt, &mut second, TcpStream::connect(&rt, address)?);
+    carries_to_the_link(&rt, &mut peer, &mut link)?;
+    carries_to_the_peer(&rt, &mut peer, &mut link)?;
     assert!(rt; link.stream.nodelay()?);
-    drop(other);
-    assert_eq!(rt; received(&mut last, &mut piece), 0, "the peer is gone");
     assert_eq!(rt; link.faults, 0);
     first.done(link);
-    second.done(last);
     Ok(())
+}
+
+fn repeats_its_last_moment<C: Clock>(rt: &impl Abort, door: &mut TcpDoor<C>) {
+    assert_eq!(rt; door.moment(), 4998);
+    assert_eq!(rt; door.moment(), 4999);
+    assert_eq!(rt; door.moment(), 4999, "the clock cannot be read");
 }
 
 #[test]
@@ -89,8 +119,6 @@ fn a_door_that_cannot_accept_fails_and_its_clock_repeats(rt: HostRuntime) -> io:
     let mut door = TcpDoor::new(listener, clock);
     assert!(rt; door.next().is_err());
     assert_eq!(rt; door.faults, 1);
-    assert_eq!(rt; door.moment(), 4998);
-    assert_eq!(rt; door.moment(), 4999);
-    assert_eq!(rt; door.moment(), 4999, "the clock cannot be read");
+    repeats_its_last_moment(&rt, &mut door);
     Ok(())
 }

@@ -1,0 +1,163 @@
+//! Calls that count their steps: of `conj_index`, an index of campaigns and what is found in it, and those
+//! of `matching`.
+//!
+//! A campaign is written as its expression, as `case_exprs` says, and the campaigns are numbered from 1.
+ghost use Rattle.std.specs.Prelude.{◌≡◌, ◌≤◌, ◌<◌, ◌+◌, All, IfOk};
+ghost use Rattle.conj_index.specs.Campaigns.{conjunctions_in};
+
+use crate::matching::{answer_with, put_numbers};
+use case_exprs::{assignment_in, make_expr};
+use case_lines::done;
+use conj_index::{Builder, Index, IndexFault, Part, scan};
+use rtb_base::Steps;
+use rtb_num::{Txt, write_decimal};
+use std::alloc::{AllocError, Global};
+use std::marker::Brand;
+use std::sync::ledger::{Blank, Ledger};
+use target_expr::{Expr, ExprFault};
+
+/// Answers a call of this area or of `matching`, or tells that it is none.
+///
+/// - `find | ASSIGNMENT | CAMPAIGN | .. | CAMPAIGN`: the numbers of the campaigns that the index of these
+///   finds, or `none`, and `, but ` and what asking each gives where that is something else.
+/// - `index_build | CAMPAIGN | .. | CAMPAIGN`: the owners of the conjunctions, and of each part how many
+///   keys and lists it has, as `1 1, 0 keys 1 lists, 2 keys 2 lists`.
+pub fn answer(alloc: Global, call: &[u8], args: &[Txt], out: &mut Txt) -> Result<bool, AllocError> {
+    answer_by::<Brand>(alloc, call, args, out, Blank::new(1))
+}
+
+fn answer_by<L: Ledger>(
+    alloc: Global,
+    call: &[u8],
+    args: &[Txt],
+    out: &mut Txt,
+    blank: Blank,
+) -> Result<bool, AllocError>
+    requires name { blank.name ≡ L.name }
+    requires parts { blank.parts ≡ L.parts }
+    requires some { 0 < blank.parts }
+{
+    let mut steps = Steps::<L>::new(blank);
+    match args {
+        [assigned, campaigns @ ..] if call == b"find".as_slice() => {
+            done(find(alloc, assigned.as_bytes(), campaigns, &mut steps, out))
+        }
+        campaigns if call == b"index_build".as_slice() => done(build(
+            alloc, campaigns, &mut steps, out,
+        )),
+        _ => answer_with(alloc, call, args, &mut steps, out),
+    }
+}
+
+fn find<L: Ledger>(
+    alloc: Global,
+    assigned: &[u8],
+    texts: &[Txt],
+    steps: &mut Steps<L>,
+    out: &mut Txt,
+) -> Result<(), AllocError> {
+    let Some(campaigns) = campaigns_in(alloc, texts)? else {
+        return out.extend(b"unreadable");
+    };
+    let assignment = assignment_in(alloc, assigned)?;
+    let index = index_of(alloc, &campaigns, steps)?;
+    let found = index.find(alloc, &assignment, steps)?;
+    let asked = scan(alloc, &campaigns, &assignment, steps)?;
+    tell_both(found.as_slice(), asked.as_slice(), out)
+}
+
+// What is found, and what asking each gives where that is something else.
+fn tell_both(found: &[u32], asked: &[u32], out: &mut Txt) -> Result<(), AllocError> {
+    put_numbers(found, out)?;
+    if found == asked {
+        return Ok(());
+    }
+    out.extend(b", but ")?;
+    put_numbers(asked, out)
+}
+
+// The campaigns of these expressions, or none where one is none.
+fn campaigns_in(alloc: Global, texts: &[Txt]) -> Result<Option<Vec<(u32, Expr)>>, AllocError> {
+    let mut all = Vec::new(alloc);
+    let mut number: u32 = 0;
+    for text in texts {
+        number = number.saturating_add(1);
+        match make_expr(alloc, text.as_bytes())? {
+            Ok(expr) => all.push((number, expr))?,
+            Err(ExprFault::Memory) => return Err(AllocError),
+            Err(_) => return Ok(None),
+        }
+    }
+    Ok(Some(all))
+}
+
+fn index_of<L: Ledger>(
+    alloc: Global,
+    campaigns: &[(u32, Expr)],
+    steps: &mut Steps<L>,
+) -> Result<Index, AllocError> {
+    let mut builder = Builder::new(alloc);
+    let mut last = 0;
+    let mut count = 0;
+    for (number, expr) in campaigns {
+        count = add_above(&mut builder, last, count, *number, expr, steps)?;
+        last = *number;
+    }
+    match Index::build(alloc, builder, steps) {
+        Ok(index) => Ok(index),
+        Err(IndexFault::Memory) => Err(AllocError),
+    }
+}
+
+// Adds a campaign, where its number is above the last and there is room, and gives how many conjunctions
+// there are.
+fn add_above<L: Ledger>(
+    builder: &mut Builder,
+    last: u32,
+    count: usize,
+    number: u32,
+    expr: &Expr,
+    steps: &mut Steps<L>,
+) -> Result<usize, AllocError>
+    requires last { All (λ p. p.0 ≤ last) builder.old }
+    requires count { conjunctions_in builder.old ≡ count }
+    ensures last { IfOk result (λ _. All (λ p. p.0 ≤ number) builder.new) }
+    ensures count { IfOk result (λ n. conjunctions_in builder.new ≡ n) }
+{
+    let total = count.saturating_add(expr.conjunctions());
+    if number <= last || total > 1_000_000 {
+        return Err(AllocError);
+    }
+    builder.add(number, expr, steps)?;
+    Ok(total)
+}
+
+// An index and a part have the fields that are named here, and no others.
+fn build<L: Ledger>(
+    alloc: Global,
+    texts: &[Txt],
+    steps: &mut Steps<L>,
+    out: &mut Txt,
+) -> Result<(), AllocError> {
+    let Some(campaigns) = campaigns_in(alloc, texts)? else {
+        return out.extend(b"unreadable");
+    };
+    let Index { owners, parts } = index_of(alloc, &campaigns, steps)?;
+    put_numbers(owners.as_slice(), out)?;
+    for part in parts.into_vec() {
+        put_part(part, out)?;
+    }
+    Ok(())
+}
+
+fn put_part(part: Part, out: &mut Txt) -> Result<(), AllocError> {
+    let Part { keys, lists } = part;
+    put_count(b", ", keys.len(), out)?;
+    put_count(b" keys ", lists.len(), out)?;
+    out.extend(b" lists")
+}
+
+fn put_count(words: &[u8], n: usize, out: &mut Txt) -> Result<(), AllocError> {
+    out.extend(words)?;
+    write_decimal(n as u64, out)
+}

@@ -1,4 +1,0 @@
-use Rattle.rtb_cases.proofs.targeting.pairs.Given as goal
-
-abbrev pub ghosts-pairs_by : goal.ghosts-pairs_by
-ghosts-pairs_by a = record { name = a.blank.name; parts = a.blank.parts }

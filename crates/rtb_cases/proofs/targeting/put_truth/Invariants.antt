@@ -1,4 +1,0 @@
-use Rattle.rtb_cases.proofs.targeting.put_truth.Given as goal
-
-abbrev pub ghosts-holds_by : goal.ghosts-holds_by
-ghosts-holds_by a = record { name = a.blank.name; parts = a.blank.parts }

@@ -1,0 +1,37 @@
+//! The program `sale_cases`: reads cases of clearing, markup and commands, a line each, and prints those that
+//! are answered otherwise than they say.
+//!
+//! `case_lines` says what a case is; each area has a module with its calls.
+#![tactic(auto)]
+
+mod commands;
+mod markup;
+mod sales;
+
+use case_lines::{Areas, run_cases};
+use rtb_num::{StdSink, StdSource, Txt};
+use std::alloc::{AllocError, Global};
+use std::io;
+use std::process::ExitCode;
+
+// The report on all cases of standard input, or the status of what stood in the way.
+fn main(rt: HostRuntime) -> ExitCode {
+    let mut source = StdSource::new(rt.reader());
+    let mut sink = StdSink::new(io::writer(&rt));
+    ExitCode::from(run_cases::<Sale, _, _>(rt.alloc(), &mut source, &mut sink).code())
+}
+
+// The areas of a sale.
+struct Sale;
+
+impl Areas for Sale {
+    fn answer(alloc: Global, call: &[u8], args: &[Txt], out: &mut Txt) -> Result<bool, AllocError> {
+        if markup::answer(alloc, call, args, out)? {
+            return Ok(true);
+        }
+        if sales::answer(alloc, call, args, out)? {
+            return Ok(true);
+        }
+        commands::answer(alloc, call, args, out)
+    }
+}
