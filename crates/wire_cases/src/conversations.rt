@@ -1,9 +1,9 @@
 //! Calls of `session`: conversations of the small service.
 ghost use Rattle.std.specs.Prelude.{◌≡◌, ◌<◌};
 
-use crate::outside::numbers_in;
 use crate::pieces::Pieces;
 use crate::small_service::Small;
+use case_lines::{done, numbers_in};
 use link_door::MemLink;
 use rtb_base::Steps;
 use rtb_num::{List, Txt, write_decimal};
@@ -24,31 +24,33 @@ use std::sync::ledger::{Blank, Ledger};
 pub fn answer(alloc: Global, call: &[u8], args: &[Txt], out: &mut Txt) -> Result<bool, AllocError> {
     match args {
         [text] if call == b"serve".as_slice() => {
-            let came = cut_everywhere(alloc, text.as_bytes(), 1)?;
-            out.extend_all(&[came.end.as_bytes(), b": ", came.sent.as_bytes()])?;
-            Ok(true)
+            done(tell_whole(cut_everywhere(alloc, text.as_bytes(), 1)?, out))
         }
         [text] if call == b"serve_whole".as_slice() => {
-            let came = cut_everywhere(alloc, text.as_bytes(), usize::MAX)?;
-            out.extend_all(&[came.end.as_bytes(), b": ", came.sent.as_bytes()])?;
-            Ok(true)
+            done(tell_whole(cut_everywhere(alloc, text.as_bytes(), usize::MAX)?, out))
         }
         [times, text, step] if call == b"serve_times".as_slice() => {
             let all = repeat(alloc, times.as_bytes(), text.as_bytes())?;
             let step = number_in(step.as_bytes());
-            let came = cut_everywhere(alloc, all.as_bytes(), step)?;
-            out.extend_all(&[came.end.as_bytes(), b": "])?;
-            write_decimal(came.sent.len() as u64, out)?;
-            Ok(true)
+            done(tell_length(cut_everywhere(alloc, all.as_bytes(), step)?, out))
         }
         [text, calls] if call == b"serve_failing".as_slice() => {
             let fails = numbers_in(alloc, calls.as_bytes())?;
-            let came = serve(alloc, text.as_bytes(), 0, false, fails)?;
-            out.extend_all(&[came.end.as_bytes(), b": ", came.sent.as_bytes()])?;
-            Ok(true)
+            done(tell_whole(serve(alloc, text.as_bytes(), 0, false, fails)?, out))
         }
         _ => Ok(false),
     }
+}
+
+// Why the link ended, and what was sent.
+fn tell_whole(came: Came, out: &mut Txt) -> Result<(), AllocError> {
+    out.extend_all(&[came.end.as_bytes(), b": ", came.sent.as_bytes()])
+}
+
+// Why the link ended, and how many bytes were sent.
+fn tell_length(came: Came, out: &mut Txt) -> Result<(), AllocError> {
+    out.extend_all(&[came.end.as_bytes(), b": "])?;
+    write_decimal(came.sent.len() as u64, out)
 }
 
 fn number_in(word: &[u8]) -> usize {

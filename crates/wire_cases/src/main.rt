@@ -4,10 +4,12 @@
 //! `case_lines` says what a case is; each area has a module with its calls.
 #![tactic(auto)]
 
+mod commands;
 mod conversations;
 mod messages;
 mod outside;
 mod pieces;
+mod sales;
 mod small_service;
 
 use case_lines::{Areas, run_cases};
@@ -29,6 +31,12 @@ struct Wire;
 impl Areas for Wire {
     fn answer(alloc: Global, call: &[u8], args: &[Txt], out: &mut Txt) -> Result<bool, AllocError> {
         if messages::answer(alloc, call, args, out)? {
+            return Ok(true);
+        }
+        if commands::answer(alloc, call, args, out)? {
+            return Ok(true);
+        }
+        if sales::answer(alloc, call, args, out)? {
             return Ok(true);
         }
         if conversations::answer(alloc, call, args, out)? {

@@ -2,8 +2,10 @@
 ghost use Rattle.std.specs.Prelude.{◌≡◌, ◌<◌};
 
 use crate::small_service::{no_content, not_allowed, with_body};
+use case_lines::{done, say};
 use http_wire::{
-    Allow, Step, at_least, is_blank, memory_text, next_message, store_failed_text, write_answer,
+    Allow, Message, Step, at_least, is_blank, memory_text, next_message, store_failed_text,
+    write_answer,
 };
 use rtb_base::Steps;
 use rtb_num::{Txt, write_decimal};
@@ -29,15 +31,14 @@ pub fn answer(alloc: Global, call: &[u8], args: &[Txt], out: &mut Txt) -> Result
     match args {
         [status, allow, body, closes] if call == b"answer".as_slice() => {
             let closes = is_closes(closes.as_bytes());
-            put_answer(
+            done(put_answer(
                 alloc,
                 status.as_bytes(),
                 allow.as_bytes(),
                 body,
                 closes,
                 out,
-            )?;
-            Ok(true)
+            ))
         }
         _ => Ok(false),
     }
@@ -57,8 +58,7 @@ fn put_message_of<L: Ledger>(
     match args {
         [text] if call == b"message".as_slice() => {
             let mut steps = Steps::<L>::new(blank);
-            put_message(alloc, text.as_bytes(), &mut steps, out)?;
-            Ok(true)
+            done(put_message(alloc, text.as_bytes(), &mut steps, out))
         }
         _ => Ok(false),
     }
@@ -66,19 +66,26 @@ fn put_message_of<L: Ledger>(
 
 fn put_text(call: &[u8], args: &[Txt], out: &mut Txt) -> Result<bool, AllocError> {
     match args {
-        [text] => {
-            let text = text.as_bytes();
-            match call {
-                b"blank" => out.extend(if is_blank(text) { b"yes" } else { b"no" })?,
-                b"memory" => out.extend(memory_text(false, is_closes(text)))?,
-                b"memory_late" => out.extend(memory_text(true, is_closes(text)))?,
-                b"store_failed" => out.extend(store_failed_text(is_closes(text)))?,
-                _ => return Ok(false),
-            }
-            Ok(true)
-        }
+        [text] => put_text_of(call, text.as_bytes(), out),
         _ => Ok(false),
     }
+}
+
+fn put_text_of(call: &[u8], text: &[u8], out: &mut Txt) -> Result<bool, AllocError> {
+    if call == b"blank".as_slice() {
+        return done(say(is_blank(text), out));
+    }
+    let closes = is_closes(text);
+    if call == b"memory".as_slice() {
+        return done(out.extend(memory_text(false, closes)));
+    }
+    if call == b"memory_late".as_slice() {
+        return done(out.extend(memory_text(true, closes)));
+    }
+    if call == b"store_failed".as_slice() {
+        return done(out.extend(store_failed_text(closes)));
+    }
+    Ok(false)
 }
 
 fn is_closes(word: &[u8]) -> bool {
@@ -97,14 +104,7 @@ fn put_message<L: Ledger>(
             write_decimal(at_least(bytes) as u64, out)
         }
         Step::Got { message, used } => {
-            out.extend_all(&[message.method.as_bytes(), b" ", message.target.as_bytes()])?;
-            out.extend_all(&[b" [", message.body.as_bytes(), b"]"])?;
-            out.extend(if message.closes {
-                b" closes "
-            } else {
-                b" stays "
-            })?;
-            write_decimal(bytes.len().saturating_sub(used) as u64, out)
+            tell_message(&message, bytes.len().saturating_sub(used), out)
         }
         Step::Refused { status, word } => {
             out.extend(b"refused ")?;
@@ -112,6 +112,18 @@ fn put_message<L: Ledger>(
             out.extend_all(&[b" ", word.as_bytes()])
         }
     }
+}
+
+// The message, and how many bytes stand behind it.
+fn tell_message(message: &Message, rest: usize, out: &mut Txt) -> Result<(), AllocError> {
+    out.extend_all(&[message.method.as_bytes(), b" ", message.target.as_bytes()])?;
+    out.extend_all(&[b" [", message.body.as_bytes(), b"]"])?;
+    out.extend(if message.closes {
+        b" closes "
+    } else {
+        b" stays "
+    })?;
+    write_decimal(rest as u64, out)
 }
 
 fn put_answer(
@@ -122,28 +134,54 @@ fn put_answer(
     closes: bool,
     out: &mut Txt,
 ) -> Result<(), AllocError> {
-    match (status, allow) {
-        (b"204", _) => write_answer(&no_content(alloc), closes, out),
-        (b"405", b"POST") => write_answer(&not_allowed(alloc, Allow::Post), closes, out),
-        (b"405", _) => write_answer(&not_allowed(alloc, Allow::GetPost), closes, out),
-        _ => put_body(status, body.copy()?, closes, out),
+    if status == b"204".as_slice() {
+        return write_answer(&no_content(alloc), closes, out);
     }
+    if status != b"405".as_slice() {
+        return put_body(status, body.copy()?, closes, out);
+    }
+    if allow == b"POST".as_slice() {
+        return write_answer(&not_allowed(alloc, Allow::Post), closes, out);
+    }
+    write_answer(&not_allowed(alloc, Allow::GetPost), closes, out)
 }
 
 fn put_body(status: &[u8], body: Txt, closes: bool, out: &mut Txt) -> Result<(), AllocError> {
-    match status {
-        b"200" => write_answer(&with_body(200, body), closes, out),
-        b"201" => write_answer(&with_body(201, body), closes, out),
-        b"400" => write_answer(&with_body(400, body), closes, out),
-        b"404" => write_answer(&with_body(404, body), closes, out),
-        b"409" => write_answer(&with_body(409, body), closes, out),
-        b"410" => write_answer(&with_body(410, body), closes, out),
-        b"413" => write_answer(&with_body(413, body), closes, out),
-        b"415" => write_answer(&with_body(415, body), closes, out),
-        b"431" => write_answer(&with_body(431, body), closes, out),
-        b"500" => write_answer(&with_body(500, body), closes, out),
-        b"501" => write_answer(&with_body(501, body), closes, out),
-        b"503" => write_answer(&with_body(503, body), closes, out),
-        _ => out.extend(b"no such status"),
+    if status == b"200".as_slice() {
+        return write_answer(&with_body(200, body), closes, out);
     }
+    if status == b"201".as_slice() {
+        return write_answer(&with_body(201, body), closes, out);
+    }
+    if status == b"400".as_slice() {
+        return write_answer(&with_body(400, body), closes, out);
+    }
+    if status == b"404".as_slice() {
+        return write_answer(&with_body(404, body), closes, out);
+    }
+    if status == b"409".as_slice() {
+        return write_answer(&with_body(409, body), closes, out);
+    }
+    if status == b"410".as_slice() {
+        return write_answer(&with_body(410, body), closes, out);
+    }
+    if status == b"413".as_slice() {
+        return write_answer(&with_body(413, body), closes, out);
+    }
+    if status == b"415".as_slice() {
+        return write_answer(&with_body(415, body), closes, out);
+    }
+    if status == b"431".as_slice() {
+        return write_answer(&with_body(431, body), closes, out);
+    }
+    if status == b"500".as_slice() {
+        return write_answer(&with_body(500, body), closes, out);
+    }
+    if status == b"501".as_slice() {
+        return write_answer(&with_body(501, body), closes, out);
+    }
+    if status == b"503".as_slice() {
+        return write_answer(&with_body(503, body), closes, out);
+    }
+    out.extend(b"no such status")
 }

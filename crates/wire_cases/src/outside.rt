@@ -1,4 +1,5 @@
 //! Calls of `link_door`: links and doors in memory.
+use case_lines::{done, numbers_in};
 use link_door::{Door, Link, MemDoor, MemLink};
 use rtb_num::{Failed, List, Txt, write_decimal};
 use std::alloc::{AllocError, Global};
@@ -14,14 +15,13 @@ use std::alloc::{AllocError, Global};
 ///   LINKS have one space between two.
 pub fn answer(alloc: Global, call: &[u8], args: &[Txt], out: &mut Txt) -> Result<bool, AllocError> {
     match args {
-        [first, second, calls] => {
+        [bytes, pieces, calls] if call == b"link".as_slice() => {
             let fails = numbers_in(alloc, calls.as_bytes())?;
-            match call {
-                b"link" => use_link(alloc, first.copy()?, second.as_bytes(), fails, out)?,
-                b"door" => use_door(alloc, first.as_bytes(), second.as_bytes(), fails, out)?,
-                _ => return Ok(false),
-            }
-            Ok(true)
+            done(use_link(alloc, bytes.copy()?, pieces.as_bytes(), fails, out))
+        }
+        [links, moments, calls] if call == b"door".as_slice() => {
+            let fails = numbers_in(alloc, calls.as_bytes())?;
+            done(use_door(alloc, links.as_bytes(), moments.as_bytes(), fails, out))
         }
         _ => Ok(false),
     }
@@ -37,24 +37,29 @@ fn use_link(
     let mut link = MemLink::new(alloc, left, fails);
     for piece in pieces.split(|c| *c == b' ') {
         read_three(&mut link, out)?;
-        match link.write(piece) {
-            Ok(n) => write_decimal(n as u64, out)?,
-            Err(Failed) => out.extend(b"failed")?,
-        }
-        out.push(b' ')?;
+        write_piece(&mut link, piece, out)?;
     }
     out.extend_all(&[b"[", link.sent().as_bytes(), b"]"])?;
     tell_faults(link.calls().faults(), out)
 }
 
-fn read_three(link: &mut MemLink, out: &mut Txt) -> Result<(), AllocError> {
+fn write_piece<L: Link>(link: &mut L, piece: &[u8], out: &mut Txt) -> Result<(), AllocError> {
+    match link.write(piece) {
+        Ok(n) => {
+            write_decimal(n as u64, out)?;
+            out.push(b' ')
+        }
+        Err(Failed) => out.extend(b"failed "),
+    }
+}
+
+fn read_three<L: Link>(link: &mut L, out: &mut Txt) -> Result<(), AllocError> {
     let mut piece = [0u8; 3];
     match link.read(&mut piece) {
-        Ok(0) => out.extend(b"end")?,
-        Ok(n) => out.extend(&piece[..n])?,
-        Err(Failed) => out.extend(b"failed")?,
+        Ok(0) => out.extend(b"end "),
+        Ok(n) => out.extend_all(&[&piece[..n], b" "]),
+        Err(Failed) => out.extend(b"failed "),
     }
-    out.push(b' ')
 }
 
 fn use_door(
@@ -82,23 +87,21 @@ fn use_door(
 // Whether there was a link, or a fault in its place.
 fn pass_one(door: &mut MemDoor, out: &mut Txt) -> Result<bool, AllocError> {
     match door.next() {
-        Ok(Some(link)) => {
-            let mut link = link;
-            read_three(&mut link, out)?;
-            write_decimal(door.moment(), out)?;
-            out.push(b' ')?;
-            door.done(link);
-            Ok(true)
-        }
+        Ok(Some(link)) => done(serve(door, link, out)),
         Ok(None) => {
             out.extend(b"none ")?;
             Ok(false)
         }
-        Err(Failed) => {
-            out.extend(b"failed ")?;
-            Ok(true)
-        }
+        Err(Failed) => done(out.extend(b"failed ")),
     }
+}
+
+fn serve(door: &mut MemDoor, link: MemLink, out: &mut Txt) -> Result<(), AllocError> {
+    let mut link = link;
+    read_three(&mut link, out)?;
+    write_decimal(door.moment(), out)?;
+    door.done(link);
+    out.push(b' ')
 }
 
 fn links_in(alloc: Global, line: &[u8]) -> Result<List<MemLink>, AllocError> {
@@ -113,19 +116,4 @@ fn links_in(alloc: Global, line: &[u8]) -> Result<List<MemLink>, AllocError> {
 fn tell_faults(faults: u64, out: &mut Txt) -> Result<(), AllocError> {
     out.extend(b", faults ")?;
     write_decimal(faults, out)
-}
-
-/// The numbers of a line; what is no number is passed over.
-pub fn numbers_in(alloc: Global, line: &[u8]) -> Result<List<u64>, AllocError> {
-    let mut numbers = List::new(alloc);
-    for word in line.split(|c| *c == b' ') {
-        if let Some(number) = number_in(word) {
-            numbers.push(number)?;
-        }
-    }
-    Ok(numbers)
-}
-
-fn number_in(word: &[u8]) -> Option<u64> {
-    str::from_utf8(word).ok()?.parse::<u64>().ok()
 }

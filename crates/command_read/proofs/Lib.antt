@@ -1,0 +1,5 @@
+pub mod Cases
+pub mod Once
+pub mod Readings
+pub mod Refused
+pub mod Valid

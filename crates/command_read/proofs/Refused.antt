@@ -1,0 +1,77 @@
+-- Each refusal can be written: its status has a reason, and it lists methods exactly at 405.
+use Rattle.std.proofs.Common.{ℕ, List, [], ◌∷◌, Result, Ok, Err, IfErr, refl, arith}
+use Rattle.campaign.specs.declared.parts.FactParts.{FactParts}
+use Rattle.campaign_read.specs.Campaign.{campaign_faults, campaign_from}
+use Rattle.campaign_read.specs.declared.fault.CampFault.{CampFault}
+use Rattle.command_read.specs.Commands.{IsCommandOf, bad_body, campaign_by, not_allowed, not_found, request_by}
+use Rattle.command_read.specs.Memory.{IfRefused, UnlessMemory}
+use Rattle.command_read.specs.Paths.{methods_of}
+use Rattle.command_read.specs.declared.fault.CommandFault.{CommandFault}
+use Rattle.command_read.specs.declared.fault.CommandFault.TheVariants as fault
+use Rattle.command_read.specs.declared.paths.Route.{Route}
+use Rattle.command_read.specs.declared.paths.Route.TheVariants as route
+use Rattle.command_read.proofs.Cases.{HoldsOfEach, holds_of_reading}
+use Rattle.http_wire.specs.Answers.{IsWritable}
+use Rattle.http_wire.specs.declared.answer.Allow.TheVariants as allow
+use Rattle.http_wire.specs.declared.answer.Answer.{Answer}
+use Rattle.http_wire.specs.declared.message.Message.{Message}
+use Rattle.plain_exchange.specs.declared.commands.Command.{Command}
+use Rattle.plain_exchange.specs.declared.commands.Command.TheVariants as command
+use Rattle.rtb_read.specs.Request.{request_faults, request_from}
+use Rattle.rtb_read.specs.declared.fault.ReqFault.{ReqFault}
+use Rattle.rtb_types.specs.declared.request.BidRequest.{BidRequest}
+use Rattle.target_expr.specs.declared.pred.Pred.{Pred}
+
+-- what is a refusal can be written
+abbrev Writes : Result Command Answer → Type 0
+Writes found = IfErr found IsWritable
+
+only_post : IsWritable (not_allowed allow.Post)
+only_post = record { status = refl; allow = refl; no_content = λ e. absurd (omega (arith, e)); not_allowed = λ e. refl }
+
+both_methods : IsWritable (not_allowed allow.GetPost)
+both_methods = record { status = refl; allow = refl; no_content = λ e. absurd (omega (arith, e)); not_allowed = λ e. refl }
+
+no_path : IsWritable not_found
+no_path = record { status = refl; allow = refl; no_content = λ e. absurd (omega (arith, e)); not_allowed = λ e. absurd (omega (arith, e)) }
+
+of_body : (body : List ℕ) → IsWritable (bad_body body)
+of_body body = record { status = refl; allow = refl; no_content = λ e. absurd (omega (arith, e)); not_allowed = λ e. absurd (omega (arith, e)) }
+
+of_methods : (r : Route) → IsWritable (not_allowed (methods_of r))
+of_methods route.Auction = only_post
+of_methods route.Campaigns = only_post
+of_methods (route.Campaign n) = both_methods
+of_methods (route.Pause n) = only_post
+of_methods (route.Resume n) = only_post
+of_methods (route.Bill n) = both_methods
+of_methods (route.Lose n) = both_methods
+
+by_request : (faults : List ReqFault) (r : BidRequest) → Writes (request_by faults r)
+by_request [] r = tt
+by_request (f ∷ faults) r = of_body _
+
+by_campaign : (make : FactParts → List (List Pred) → Command) (faults : List CampFault) (c : FactParts × List (List Pred)) → Writes (campaign_by make faults c)
+by_campaign make [] c = tt
+by_campaign make (f ∷ faults) c = of_body _
+
+each_writes : HoldsOfEach Writes
+each_writes = record {
+  any_method = both_methods;
+  method = of_methods;
+  path = no_path;
+  body = of_body;
+  auction = λ t. by_request (request_faults t) (request_from t);
+  add = λ t. by_campaign command.Add (campaign_faults t) (campaign_from t);
+  change = λ n t. by_campaign (command.Change n) (campaign_faults t) (campaign_from t);
+  report = λ n. tt;
+  pause = λ n. tt;
+  resume = λ n. tt;
+  bill = λ n. tt;
+  lose = λ n. tt;
+}
+
+pub refusals_are_writable : (message : Message) (found : Result Command CommandFault) → UnlessMemory (IsCommandOf message) found → IfErr found (IfRefused IsWritable)
+refusals_are_writable message (Ok c) h = tt
+refusals_are_writable message (Err (fault.Refused a)) h = holds_of_reading Writes each_writes message (Err a) h
+refusals_are_writable message (Err fault.Memory) h = tt

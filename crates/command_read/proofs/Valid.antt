@@ -1,0 +1,61 @@
+-- The request of an auction is valid.
+use Rattle.std.proofs.Common.{◌≡◌, List, [], ◌∷◌, true, Result, Ok, Err, refl, subst}
+use Rattle.campaign.specs.declared.parts.FactParts.{FactParts}
+use Rattle.campaign_read.specs.Campaign.{campaign_faults, campaign_from}
+use Rattle.campaign_read.specs.declared.fault.CampFault.{CampFault}
+use Rattle.command_read.specs.Commands.{IsCommandOf, campaign_by, request_by}
+use Rattle.command_read.specs.Memory.{UnlessMemory}
+use Rattle.command_read.specs.declared.fault.CommandFault.{CommandFault}
+use Rattle.command_read.proofs.Cases.{HoldsOfEach, holds_of_reading}
+use Rattle.exact_json.specs.Tree.{Tree}
+use Rattle.http_wire.specs.declared.answer.Answer.{Answer}
+use Rattle.http_wire.specs.declared.message.Message.{Message}
+use Rattle.plain_exchange.specs.declared.commands.Command.{Command}
+use Rattle.plain_exchange.specs.declared.commands.Command.TheVariants as command
+use Rattle.rtb_read.specs.Request.{request_faults, request_from}
+use Rattle.rtb_read.specs.declared.fault.ReqFault.{ReqFault}
+use Rattle.rtb_read.proofs.Validity.{valid_answer}
+use Rattle.rtb_types.specs.Valid.{is_valid}
+use Rattle.rtb_types.specs.declared.request.BidRequest.{BidRequest}
+use Rattle.target_expr.specs.declared.pred.Pred.{Pred}
+
+-- what is an auction has a valid request
+abbrev IsFine : Result Command Answer → Type 0
+IsFine (Ok (command.Auction r)) = is_valid r ≡ true
+IsFine (Ok (command.Add facts expr)) = Unit {0}
+IsFine (Ok (command.Change n facts expr)) = Unit {0}
+IsFine (Ok (command.Pause n)) = Unit {0}
+IsFine (Ok (command.Resume n)) = Unit {0}
+IsFine (Ok (command.Report n)) = Unit {0}
+IsFine (Ok (command.Bill n)) = Unit {0}
+IsFine (Ok (command.Lose n)) = Unit {0}
+IsFine (Err a) = Unit {0}
+
+by_request : (t : Tree) (faults : List ReqFault) → request_faults t ≡ faults → IsFine (request_by faults (request_from t))
+by_request t [] e = valid_answer t (Ok (request_from t)) (e, refl)
+by_request t (f ∷ faults) e = tt
+
+by_campaign : (make : FactParts → List (List Pred) → Command) → ((facts : FactParts) (expr : List (List Pred)) → IsFine (Ok (make facts expr)))
+    → (faults : List CampFault) (c : FactParts × List (List Pred)) → IsFine (campaign_by make faults c)
+by_campaign make fine [] c = fine c.0 c.1
+by_campaign make fine (f ∷ faults) c = tt
+
+each_is_fine : HoldsOfEach IsFine
+each_is_fine = record {
+  any_method = tt;
+  method = λ r. tt;
+  path = tt;
+  body = λ text. tt;
+  auction = λ t. by_request t (request_faults t) refl;
+  add = λ t. by_campaign command.Add (λ facts expr. tt) (campaign_faults t) (campaign_from t);
+  change = λ n t. by_campaign (command.Change n) (λ facts expr. tt) (campaign_faults t) (campaign_from t);
+  report = λ n. tt;
+  pause = λ n. tt;
+  resume = λ n. tt;
+  bill = λ n. tt;
+  lose = λ n. tt;
+}
+
+pub requests_are_valid : (message : Message) (found : Result Command CommandFault) → UnlessMemory (IsCommandOf message) found
+    → (r : BidRequest) → found ≡ Ok (command.Auction r) → is_valid r ≡ true
+requests_are_valid message found h r e = holds_of_reading IsFine each_is_fine message (Ok (command.Auction r)) (subst (UnlessMemory (IsCommandOf message)) e h)

@@ -1,0 +1,67 @@
+ghost use Rattle.std.specs.Prelude.{◌≡◌};
+ghost use Rattle.command_read.specs.Commands.{IsOfBody, campaign_command, request_command};
+ghost use Rattle.command_read.specs.Memory.{UnlessMemory};
+ghost use Rattle.command_read.specs.Posted.{add_or_change};
+ghost use Rattle.exact_json.specs.Docs.{doc_tree};
+
+use crate::fault::CommandFault;
+use crate::refusals::{campaign_refusal, json_refusal, refuse, request_refusal};
+use campaign::Facts;
+use campaign_read::read_campaign;
+use exact_json::{Doc, read};
+use plain_exchange::Command;
+use rtb_read::read_request;
+use std::alloc::Global;
+use target_expr::Expr;
+
+/// The auction that the body asks for, or the first fault of the body.
+pub(crate) fn request_command(alloc: Global, body: &[u8]) -> Result<Command, CommandFault>
+    ensures { UnlessMemory (IsOfBody request_command body.now) result }
+{
+    match read(alloc, body) {
+        Ok(doc) => request_in(alloc, &doc),
+        Err(fault) => refuse(json_refusal(alloc, fault)),
+    }
+}
+
+fn request_in(alloc: Global, doc: &Doc) -> Result<Command, CommandFault>
+    ensures { UnlessMemory (λ found. found ≡ request_command (doc_tree doc.now)) result }
+{
+    match read_request(alloc, doc) {
+        Ok(request) => Ok(Command::Auction(request)),
+        Err(fault) => refuse(request_refusal(alloc, &fault)),
+    }
+}
+
+/// The campaign that the body states, to be added or to stand in place of that of a number, or the first fault of
+/// the body.
+pub(crate) fn campaign_command(
+    alloc: Global,
+    changed: Option<u64>,
+    body: &[u8],
+) -> Result<Command, CommandFault>
+    ensures { UnlessMemory (IsOfBody (campaign_command (add_or_change changed)) body.now) result }
+{
+    match read(alloc, body) {
+        Ok(doc) => campaign_in(alloc, changed, &doc),
+        Err(fault) => refuse(json_refusal(alloc, fault)),
+    }
+}
+
+fn campaign_in(alloc: Global, changed: Option<u64>, doc: &Doc) -> Result<Command, CommandFault>
+    ensures { UnlessMemory (λ found. found ≡ campaign_command (add_or_change changed) (doc_tree doc.now)) result }
+{
+    match read_campaign(alloc, doc) {
+        Ok((facts, expr)) => Ok(add_or_change(changed, facts, expr)),
+        Err(fault) => refuse(campaign_refusal(alloc, &fault)),
+    }
+}
+
+fn add_or_change(changed: Option<u64>, facts: Facts, expr: Expr) -> Command
+    ensures { result ≡ add_or_change changed facts expr }
+{
+    match changed {
+        None => Command::Add(facts, expr),
+        Some(n) => Command::Change(n, facts, expr),
+    }
+}

@@ -1,0 +1,15 @@
+//! A message as a command to the exchange, or the answer that refuses it.
+//!
+//! `specs/Paths.antt` has the paths with their methods, `specs/Commands.antt` what a message asks for.
+#![tactic(auto)]
+
+mod bodies;
+mod fault;
+mod methods;
+mod numbers;
+mod paths;
+mod read;
+mod refusals;
+
+pub use fault::CommandFault;
+pub use read::{message_has_one_reading, read_command};

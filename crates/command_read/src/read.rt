@@ -1,0 +1,98 @@
+ghost use Rattle.command_read.specs.Commands.{IsCommandOf, IsOfPath, IsOfRoute};
+ghost use Rattle.command_read.specs.Memory.{IfRefused, UnlessMemory};
+ghost use Rattle.http_wire.specs.Answers.{IsWritable};
+ghost use Rattle.http_wire.specs.declared.answer.Answer.{Answer};
+ghost use Rattle.plain_exchange.specs.declared.commands.Command.{Command};
+ghost use Rattle.plain_exchange.specs.declared.commands.Command.TheVariants as command;
+ghost use Rattle.rtb_types.specs.Valid.{is_valid};
+ghost use Rattle.rtb_types.specs.declared.request.BidRequest.{BidRequest};
+ghost use Rattle.std.specs.Prelude.{◌≡◌, IfErr, IsTrue, Ok, Result};
+
+use crate::bodies::{campaign_command, request_command};
+use crate::fault::CommandFault;
+use crate::methods::{Method, method_of, takes};
+use crate::paths::{Route, path_of, route_of};
+use crate::refusals::{not_allowed, not_found, refuse};
+use exact_json::{bytes_have_one_fault, text_has_one_tree};
+use http_wire::{Allow, Message};
+use plain_exchange::Command;
+use std::alloc::Global;
+
+/// The command that the message asks for, or the answer that refuses it: 405 for a method that is neither `GET`
+/// nor `POST`, 404 for a path that is not listed, 405 for a method that the path does not take, and 400 for the
+/// first fault of the body.
+///
+/// A number in a path is from 1 to 2^64 - 1 and has no zero in front. What stands behind the first `?` plays no
+/// part, and neither does the body of a message whose command has none.
+#[tactic(auto, using(crate::proofs::Refused::refusals_are_writable, crate::proofs::Valid::requests_are_valid))]
+pub fn read_command(alloc: Global, message: &Message) -> Result<Command, CommandFault>
+    ensures read { UnlessMemory (IsCommandOf message.now) result }
+    ensures valid { (request : BidRequest) → result ≡ Ok (command.Auction request) → IsTrue (is_valid request) }
+    ensures writable { IfErr result (IfRefused IsWritable) }
+{
+    command_in(alloc, message)
+}
+
+fn command_in(alloc: Global, message: &Message) -> Result<Command, CommandFault>
+    ensures { UnlessMemory (IsCommandOf message.now) result }
+{
+    match method_of(message.method.as_bytes()) {
+        None => refuse(Ok(not_allowed(alloc, Allow::GetPost))),
+        Some(method) => path_command(
+            alloc,
+            route_of(path_of(message.target.as_bytes())),
+            method,
+            message.body.as_bytes(),
+        ),
+    }
+}
+
+// What is asked for at a path, where it is listed.
+fn path_command(
+    alloc: Global,
+    route: Option<Route>,
+    method: Method,
+    body: &[u8],
+) -> Result<Command, CommandFault>
+    ensures { UnlessMemory (IsOfPath route method body.now) result }
+{
+    let Some(route) = route else {
+        return refuse(not_found(alloc));
+    };
+    if !takes(route.methods(), method) {
+        return refuse(Ok(not_allowed(alloc, route.methods())));
+    }
+    route_command(alloc, route, method, body)
+}
+
+fn route_command(
+    alloc: Global,
+    route: Route,
+    method: Method,
+    body: &[u8],
+) -> Result<Command, CommandFault>
+    ensures { UnlessMemory (IsOfRoute route method body.now) result }
+{
+    match route {
+        Route::Auction => request_command(alloc, body),
+        Route::Campaigns => campaign_command(alloc, None, body),
+        Route::Campaign(n) => match method {
+            Method::Get => Ok(Command::Report(n)),
+            Method::Post => campaign_command(alloc, Some(n), body),
+        },
+        Route::Pause(n) => Ok(Command::Pause(n)),
+        Route::Resume(n) => Ok(Command::Resume(n)),
+        Route::Bill(n) => Ok(Command::Bill(n)),
+        Route::Lose(n) => Ok(Command::Lose(n)),
+    }
+}
+
+/// A message is read in one way: there are no two commands, no two refusals, and no refusal beside a command, that
+/// it asks for.
+pub fn message_has_one_reading(message: &Message)
+    ensures { (a b : Result Command Answer) → IsCommandOf message.now a → IsCommandOf message.now b → a ≡ b }
+{
+    let body = message.body.as_bytes();
+    text_has_one_tree(body);
+    bytes_have_one_fault(body);
+}

@@ -1,0 +1,229 @@
+//! Calls of `command_read` and `rtb_response`: what a message asks for, and the answer to a reply.
+use budget_book::Totals;
+use campaign::Facts;
+use campaign_store::Limit;
+use command_read::{CommandFault, read_command};
+use http_wire::{Allow, Answer, Message};
+use plain_exchange::{Command, Reply};
+use rtb_num::{Micros, Nanos, Txt, write_decimal};
+use rtb_response::write_reply;
+use std::alloc::{AllocError, Global};
+
+/// Answers a call of this area, or tells that it is none.
+///
+/// - `command | METHOD | TARGET | BODY`: the command that the message asks for: `auction REQUEST`, `add SEAT BID`,
+///   `change CAMPAIGN SEAT BID`, `pause N`, `resume N`, `report N`, `bill N` or `lose N`, the bid in micro-dollars;
+///   or the refusal: its status, its methods if it has any, and its body.
+/// - `reply | NAME | NUMBER`: the answer to the reply of that name, with status and body. The number is that of a
+///   campaign or of a sale, and the committed sum in nano-dollars for `below-committed`; other replies have none.
+/// - `report | STATE | AMOUNT`: the answer to the report on campaign 1, `live` or `paused`. Its bid is of so many
+///   micro-dollars and its budget of 1000 times as many nano-dollars. Half of it was spent and a tenth is reserved,
+///   in 3 held sales, 2 billed, 1 lost and 4 expired.
+/// - `full | LIMIT`: the answer where that limit would be passed.
+pub fn answer(alloc: Global, call: &[u8], args: &[Txt], out: &mut Txt) -> Result<bool, AllocError> {
+    match args {
+        [method, target, body] if call == b"command".as_slice() => {
+            let message = Message {
+                method: method.copy()?,
+                target: target.copy()?,
+                body: body.copy()?,
+                closes: false,
+            };
+            put_reading(alloc, &message, out)?;
+            Ok(true)
+        }
+        [name, number] if call == b"reply".as_slice() => {
+            put_reply(alloc, name.as_bytes(), number.as_bytes(), out)?;
+            Ok(true)
+        }
+        [state, amount] if call == b"report".as_slice() => {
+            put_report(alloc, state.as_bytes(), number_of(amount.as_bytes()), out)?;
+            Ok(true)
+        }
+        [limit] if call == b"full".as_slice() => {
+            put_full(alloc, limit.as_bytes(), out)?;
+            Ok(true)
+        }
+        _ => Ok(false),
+    }
+}
+
+fn put_reading(alloc: Global, message: &Message, out: &mut Txt) -> Result<(), AllocError> {
+    match read_command(alloc, message) {
+        Ok(command) => put_command(&command, out),
+        Err(CommandFault::Refused { refusal }) => put_answer(&refusal, out),
+        Err(CommandFault::Memory) => Err(AllocError),
+    }
+}
+
+fn put_command(command: &Command, out: &mut Txt) -> Result<(), AllocError> {
+    match command {
+        Command::Auction(request) => out.extend_all(&[b"auction ", request.id.as_bytes()]),
+        Command::Add(facts, _) => put_facts(b"add", facts, out),
+        Command::Change(n, facts, _) => {
+            put_number(b"change ", *n, out)?;
+            put_facts(b"", facts, out)
+        }
+        Command::Pause(n) => put_number(b"pause ", *n, out),
+        Command::Resume(n) => put_number(b"resume ", *n, out),
+        Command::Report(n) => put_number(b"report ", *n, out),
+        Command::Bill(n) => put_number(b"bill ", *n, out),
+        Command::Lose(n) => put_number(b"lose ", *n, out),
+    }
+}
+
+fn put_facts(word: &[u8], facts: &Facts, out: &mut Txt) -> Result<(), AllocError> {
+    out.extend_all(&[word, b" ", facts.seat().as_bytes()])?;
+    put_number(b" ", facts.bid().get(), out)
+}
+
+fn put_number(word: &[u8], n: u64, out: &mut Txt) -> Result<(), AllocError> {
+    out.extend(word)?;
+    write_decimal(n, out)
+}
+
+// The status, the methods if there are any, and the body.
+pub(crate) fn put_answer(answer: &Answer, out: &mut Txt) -> Result<(), AllocError> {
+    write_decimal(u64::from(answer.status), out)?;
+    match answer.allow {
+        Allow::None => {}
+        Allow::Post => out.extend(b" POST")?,
+        Allow::GetPost => out.extend(b" GET, POST")?,
+    }
+    if answer.body.is_empty() {
+        return Ok(());
+    }
+    out.extend_all(&[b" ", answer.body.as_bytes()])
+}
+
+fn put_reply(alloc: Global, name: &[u8], number: &[u8], out: &mut Txt) -> Result<(), AllocError> {
+    match reply_of(name, number_of(number)) {
+        Some(reply) => put_answer_to(alloc, &reply, out),
+        None => out.extend(b"no such reply"),
+    }
+}
+
+fn put_answer_to(alloc: Global, reply: &Reply, out: &mut Txt) -> Result<(), AllocError> {
+    let answer = write_reply(alloc, None, reply, None)?;
+    put_answer(&answer, out)
+}
+
+// The number that the digits spell, and 0 where there is none.
+fn number_of(digits: &[u8]) -> u64 {
+    match str::from_utf8(digits) {
+        Ok(text) => text.parse::<u64>().unwrap_or(0),
+        Err(_) => 0,
+    }
+}
+
+fn reply_of(name: &[u8], number: u64) -> Option<Reply> {
+    if let Some(reply) = reply_of_campaign(name, u32::try_from(number).unwrap_or(0)) {
+        return Some(reply);
+    }
+    if let Some(reply) = reply_of_sale(name, number) {
+        return Some(reply);
+    }
+    if name == b"no-bid".as_slice() {
+        return Some(Reply::NoBid);
+    }
+    if name == b"below-committed".as_slice() {
+        return Some(Reply::BelowCommitted {
+            committed: Nanos::new(number)?,
+        });
+    }
+    None
+}
+
+fn reply_of_campaign(name: &[u8], n: u32) -> Option<Reply> {
+    if name == b"added".as_slice() {
+        return Some(Reply::Added { n });
+    }
+    if name == b"changed".as_slice() {
+        return Some(Reply::Changed { n });
+    }
+    if name == b"paused".as_slice() {
+        return Some(Reply::Paused { n });
+    }
+    if name == b"resumed".as_slice() {
+        return Some(Reply::Resumed { n });
+    }
+    if name == b"no-such-campaign".as_slice() {
+        return Some(Reply::NoSuchCampaign);
+    }
+    None
+}
+
+fn reply_of_sale(name: &[u8], sale: u64) -> Option<Reply> {
+    if name == b"billed".as_slice() {
+        return Some(Reply::Billed { sale });
+    }
+    if name == b"lost".as_slice() {
+        return Some(Reply::Lost { sale });
+    }
+    if name == b"no-such-sale".as_slice() {
+        return Some(Reply::NoSuchSale);
+    }
+    if name == b"was-lost".as_slice() {
+        return Some(Reply::WasLost);
+    }
+    if name == b"was-billed".as_slice() {
+        return Some(Reply::WasBilled);
+    }
+    if name == b"was-expired".as_slice() {
+        return Some(Reply::WasExpired);
+    }
+    if name == b"forgotten".as_slice() {
+        return Some(Reply::Forgotten);
+    }
+    None
+}
+
+fn put_report(alloc: Global, state: &[u8], micros: u64, out: &mut Txt) -> Result<(), AllocError> {
+    match report_of(state == b"live".as_slice(), micros) {
+        Some(reply) => put_answer_to(alloc, &reply, out),
+        None => out.extend(b"no such amount"),
+    }
+}
+
+fn report_of(live: bool, micros: u64) -> Option<Reply> {
+    Some(Reply::Reported {
+        n: 1,
+        live,
+        bid: Micros::new(micros)?,
+        budget: Nanos::new(micros.checked_mul(1000)?)?,
+        totals: Totals {
+            reserved: Nanos::new(micros.checked_mul(100)?)?,
+            spent: Nanos::new(micros.checked_mul(500)?)?,
+            held: 3,
+            billed: 2,
+            lost: 1,
+            expired: 4,
+        },
+    })
+}
+
+fn put_full(alloc: Global, limit: &[u8], out: &mut Txt) -> Result<(), AllocError> {
+    match limit_of(limit) {
+        Some(limit) => put_answer_to(alloc, &Reply::Full { limit }, out),
+        None => out.extend(b"no such limit"),
+    }
+}
+
+fn limit_of(name: &[u8]) -> Option<Limit> {
+    if name == b"sales".as_slice() {
+        return Some(Limit::Sales);
+    }
+    if name == b"campaigns".as_slice() {
+        return Some(Limit::Campaigns);
+    }
+    if name == b"conjunctions".as_slice() {
+        return Some(Limit::Conjunctions);
+    }
+    if name == b"values".as_slice() {
+        return Some(Limit::Values);
+    }
+    if name == b"text-bytes".as_slice() {
+        return Some(Limit::TextBytes);
+    }
+    None
+}

@@ -1,0 +1,175 @@
+//! Calls of `rtb_response` for impressions that were sold.
+use crate::commands::put_answer;
+use campaign_read::read_campaign;
+use campaign_store::{SharedRecord, make_record};
+use command_read::read_command;
+use exact_json::{Doc, read};
+use http_wire::Message;
+use plain_exchange::{Command, Reply, Sold};
+use rtb_num::{List, Micros, Txt};
+use rtb_response::write_reply;
+use std::alloc::{AllocError, Global};
+
+/// Answers a call of this area, or tells that it is none.
+///
+/// - `sold | PUBLIC | REQUEST | SALE | ..`: the answer to a request of which impression after impression was sold,
+///   where the addresses of notices begin with PUBLIC; without it there are none. A SALE is
+///   `PRICE NUMBER DEAL CAMPAIGN`: the price in micro-dollars, the number of the campaign, `-` or the id of a deal,
+///   and the campaign's body.
+pub fn answer(alloc: Global, call: &[u8], args: &[Txt], out: &mut Txt) -> Result<bool, AllocError> {
+    match args {
+        [public, request, sales @ ..] if call == b"sold".as_slice() => {
+            put_sold(alloc, public, request, sales, out)?;
+            Ok(true)
+        }
+        _ => Ok(false),
+    }
+}
+
+fn put_sold(
+    alloc: Global,
+    public: &Txt,
+    request: &Txt,
+    sales: &[Txt],
+    out: &mut Txt,
+) -> Result<(), AllocError> {
+    let mut sold = List::new(alloc);
+    for sale in sales {
+        push_sale(alloc, sale.as_bytes(), &mut sold)?;
+    }
+    let message = posted(alloc, request)?;
+    let reply = Reply::Sold(sold);
+    if public.is_empty() {
+        return put_response(alloc, &message, &reply, None, out);
+    }
+    put_response(alloc, &message, &reply, Some(public), out)
+}
+
+// The answer to the request that the message holds.
+fn put_response(
+    alloc: Global,
+    message: &Message,
+    reply: &Reply,
+    public: Option<&Txt>,
+    out: &mut Txt,
+) -> Result<(), AllocError> {
+    match read_command(alloc, message) {
+        Ok(command) => put_response_to(alloc, &command, reply, public, out),
+        Err(_) => out.extend(b"no request"),
+    }
+}
+
+fn put_response_to(
+    alloc: Global,
+    command: &Command,
+    reply: &Reply,
+    public: Option<&Txt>,
+    out: &mut Txt,
+) -> Result<(), AllocError> {
+    match command {
+        Command::Auction(request) => {
+            let answer = write_reply(alloc, Some(request), reply, public)?;
+            put_answer(&answer, out)
+        }
+        _ => out.extend(b"no request"),
+    }
+}
+
+// The message that asks for an auction with this body.
+fn posted(alloc: Global, body: &Txt) -> Result<Message, AllocError> {
+    Ok(Message {
+        method: Txt::from_slice(alloc, b"POST")?,
+        target: Txt::from_slice(alloc, b"/openrtb2/auction")?,
+        body: body.copy()?,
+        closes: false,
+    })
+}
+
+// Appends the sale; none where the text is no sale.
+fn push_sale(alloc: Global, sale: &[u8], sold: &mut List<Sold>) -> Result<(), AllocError> {
+    let Ok(text) = str::from_utf8(sale) else {
+        return Ok(());
+    };
+    let Some((price, rest)) = text.split_once(" ") else {
+        return Ok(());
+    };
+    let Some((campaign, rest)) = rest.split_once(" ") else {
+        return Ok(());
+    };
+    let Some((deal, body)) = rest.split_once(" ") else {
+        return Ok(());
+    };
+    let Some(price) = price_of(price) else {
+        return Ok(());
+    };
+    let deal = deal_of(alloc, deal)?;
+    push_sold(
+        alloc,
+        body.as_bytes(),
+        price,
+        campaign.parse::<u32>().unwrap_or(0),
+        deal,
+        sold,
+    )
+}
+
+fn price_of(digits: &str) -> Option<Micros> {
+    Micros::new(digits.parse::<u64>().ok()?)
+}
+
+fn deal_of(alloc: Global, id: &str) -> Result<Option<Txt>, AllocError> {
+    if id.as_bytes() == b"-".as_slice() {
+        return Ok(None);
+    }
+    let id = Txt::from_slice(alloc, id.as_bytes())?;
+    Ok(Some(id))
+}
+
+// Appends the sale of the next impression to the campaign of this body.
+fn push_sold(
+    alloc: Global,
+    body: &[u8],
+    price: Micros,
+    campaign: u32,
+    deal: Option<Txt>,
+    sold: &mut List<Sold>,
+) -> Result<(), AllocError> {
+    match record_in(alloc, body) {
+        Ok(record) => push_record(record, price, campaign, deal, sold),
+        Err(AllocError) => Err(AllocError),
+    }
+}
+
+// The record of the campaign's body; a body that is none is told as want of memory.
+fn record_in(alloc: Global, body: &[u8]) -> Result<SharedRecord, AllocError> {
+    match read(alloc, body) {
+        Ok(doc) => record_of(alloc, &doc),
+        Err(_) => Err(AllocError),
+    }
+}
+
+fn record_of(alloc: Global, doc: &Doc) -> Result<SharedRecord, AllocError> {
+    match read_campaign(alloc, doc) {
+        Ok((facts, expr)) => make_record(alloc, facts, expr),
+        Err(_) => Err(AllocError),
+    }
+}
+
+fn push_record(
+    record: SharedRecord,
+    price: Micros,
+    campaign: u32,
+    deal: Option<Txt>,
+    sold: &mut List<Sold>,
+) -> Result<(), AllocError> {
+    let imp = u32::try_from(sold.len()).unwrap_or(u32::MAX);
+    let sale = u64::from(imp).wrapping_add(1);
+    sold.push(Sold {
+        imp,
+        sale,
+        price,
+        deal,
+        campaign,
+        record,
+    })
+}
