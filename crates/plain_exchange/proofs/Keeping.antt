@@ -57,14 +57,14 @@ pub swept_kept : (m : ℕ) (s : State) → IsConsistent s → IsConsistent (swep
 swept_kept m s h = with_other_sales s (expired m s.sales) h (length-map s.sales (expired_at m)) (λ n. less_when_expired n m s.sales) (expired_known (length s.campaigns) m s.sales (known_in s h))
 
 -- the place of a sale in the list
-sale_place : (s : State) (n : ℕ) (sale : SaleRow) → sale_numbered s n ≡ Some sale → slice_get s.sales (n - forgotten s - 1) ≡ Some sale
+pub sale_place : (s : State) (n : ℕ) (sale : SaleRow) → sale_numbered s n ≡ Some sale → slice_get s.sales (n - forgotten s - 1) ≡ Some sale
 sale_place s n sale e = unless_gone (nat_le n (forgotten s)) (slice_get s.sales (n - forgotten s - 1)) sale e
   where
     unless_gone : (b : Bool) (o : Option SaleRow) (sale : SaleRow) → cond b None o ≡ Some sale → o ≡ Some sale
     unless_gone true o sale e = absurd (none_some sale e)
     unless_gone false o sale e = e
 
-settled_kept : (to : SaleState) (n : ℕ) (s : State) (sale : SaleRow) → IsConsistent s → sale_numbered s n ≡ Some sale → is_held sale.state ≡ true → IsConsistent (with_sale s n (in_state to sale))
+pub settled_kept : (to : SaleState) (n : ℕ) (s : State) (sale : SaleRow) → IsConsistent s → sale_numbered s n ≡ Some sale → is_held sale.state ≡ true → IsConsistent (with_sale s n (in_state to sale))
 settled_kept to n s sale h there held =
     let place = sale_place s n sale there in
     let known = known_in s h in
@@ -76,13 +76,13 @@ settled_kept to n s sale h there held =
 -- ---- one sale more
 
 -- the campaign of that number is one of so many
-there_known : (s : State) (n : ℕ) (c : Campaign) → campaign_at s n ≡ Some c → (1 ≤ n) × (n ≤ length s.campaigns)
+pub there_known : (s : State) (n : ℕ) (c : Campaign) → campaign_at s n ≡ Some c → (1 ≤ n) × (n ≤ length s.campaigns)
 there_known s n c there =
     let place = at_place s n c there in
     let lt : n - 1 < length s.campaigns = slice_get_within s.campaigns (n - 1) c place.1 in
     (place.0, omega (arith, place.0, lt))
 
-one_campaign : (s : State) (n : ℕ) (c d : Campaign) → campaign_at s n ≡ Some c → campaign_at s n ≡ Some d → c ≡ d
+pub one_campaign : (s : State) (n : ℕ) (c d : Campaign) → campaign_at s n ≡ Some c → campaign_at s n ≡ Some d → c ≡ d
 one_campaign s n c d e k = some_same c d (sym e ∙ k)
 
 pub one_sale_more : (s : State) (sale : SaleRow) (c : Campaign) → IsConsistent s → campaign_at s sale.campaign ≡ Some c → charge_of sale ≤ free s sale.campaign c → length s.sales < most_sales
@@ -159,11 +159,11 @@ campaign_added s c h paid few within = record {
 
 -- ---- what a result says of its tests
 
-fitted : (b : Bool) (t u : State) → only_if b t ≡ Some u → (b ≡ true) × (t ≡ u)
+pub fitted : (b : Bool) (t u : State) → only_if b t ≡ Some u → (b ≡ true) × (t ≡ u)
 fitted true t u e = (refl, some_same t u e)
 fitted false t u e = absurd (none_some u e)
 
-chosen : (b : Bool) (o : Option State) (u : State) → cond b o None ≡ Some u → (b ≡ true) × (o ≡ Some u)
+pub chosen : (b : Bool) (o : Option State) (u : State) → cond b o None ≡ Some u → (b ≡ true) × (o ≡ Some u)
 chosen true o u e = (refl, e)
 chosen false o u e = absurd (none_some u e)
 
@@ -173,7 +173,7 @@ there_is test (Some x) e = (x, refl, e)
 
 -- ---- each change
 
-item_kept : (m : ℕ) (user : Option (List ℕ)) (item : SoldItem) (s : State) → IsConsistent s → can_pay s item.campaign item.price ≡ true → has_room s ≡ true → IsConsistent (with_sales s (sale_by m user item ∷ []))
+pub item_kept : (m : ℕ) (user : Option (List ℕ)) (item : SoldItem) (s : State) → IsConsistent s → can_pay s item.campaign item.price ≡ true → has_room s ≡ true → IsConsistent (with_sales s (sale_by m user item ∷ []))
 item_kept m user item s h pays room =
     let (c, there, test) = there_is (λ (c : Campaign). c.live && nat_le item.price (free s item.campaign c)) (campaign_at s item.campaign) pays in
     let paid : item.price ≤ free s item.campaign c = leb-true item.price (free s item.campaign c) (and_parts c.live (nat_le item.price (free s item.campaign c)) test).1 in
@@ -186,13 +186,13 @@ items_kept m user (item ∷ items) s u h e =
     let parts = and_parts (can_pay s item.campaign item.price) (has_room s) picked.0 in
     items_kept m user items (with_sales s (sale_by m user item ∷ [])) u (item_kept m user item s h parts.0 parts.1) picked.1
 
-added_kept : (facts : FactParts) (expr : List (List Pred)) (s u : State) → IsConsistent s → with_added facts expr s ≡ Some u → IsConsistent u
+pub added_kept : (facts : FactParts) (expr : List (List Pred)) (s u : State) → IsConsistent s → with_added facts expr s ≡ Some u → IsConsistent u
 added_kept facts expr s u h e =
     let c = new_campaign facts expr in
     let fit = fitted (is_within_limits (with_campaigns s (c ∷ []))) (with_campaigns s (c ∷ [])) u e in
     subst IsConsistent fit.1 (campaign_added s c h (omega arith) (omega (arith, h.few_forgotten)) fit.0)
 
-changed_kept : (facts : FactParts) (expr : List (List Pred)) (n : ℕ) (s u : State) (c : Campaign) → IsConsistent s → campaign_at s n ≡ Some c → with_changed facts expr n s c ≡ Some u → IsConsistent u
+pub changed_kept : (facts : FactParts) (expr : List (List Pred)) (n : ℕ) (s u : State) (c : Campaign) → IsConsistent s → campaign_at s n ≡ Some c → with_changed facts expr n s c ≡ Some u → IsConsistent u
 changed_kept facts expr n s u c h there e =
     let after = with_campaign s n (with_record facts expr c) in
     let fit = fitted (nat_le (committed s n c) facts.budget && is_within_limits after) after u e in
@@ -204,12 +204,12 @@ live_kept live n s c h there =
     campaign_changed s n c (with_live live c) h there refl (h.solvent n c there)
     (ap (λ rs. is_none (passed_limit rs)) (map_kept record_of s.campaigns (n - 1) c (with_live live c) (at_place s n c there).1 refl) ∙ h.within)
 
-settled_once : (to : SaleState) (n : ℕ) (s u : State) → IsConsistent s → on_sale n (with_settled to n) s ≡ Some u → IsConsistent u
+pub settled_once : (to : SaleState) (n : ℕ) (s u : State) → IsConsistent s → on_sale n (with_settled to n) s ≡ Some u → IsConsistent u
 settled_once to n s u h e = option_and_then_some (with_settled to n s) (sale_numbered s n) u e (λ sale there k.
     let fit = fitted (is_held sale.state) (with_sale s n (in_state to sale)) u k in
     subst IsConsistent fit.1 (settled_kept to n s sale h there fit.0))
 
-kept_kept : (k : KeptCampaign) (s u : State) → IsConsistent s → with_kept k s ≡ Some u → IsConsistent u
+pub kept_kept : (k : KeptCampaign) (s u : State) → IsConsistent s → with_kept k s ≡ Some u → IsConsistent u
 kept_kept k s u h e =
     let c = campaign_of k in
     let after = with_campaigns s (c ∷ []) in
@@ -219,7 +219,7 @@ kept_kept k s u h e =
     let money = and_parts (nat_le k.gone.spent k.facts.budget) (nat_le (forgotten s + gone_count k.gone) most_forgotten) tests.1 in
     subst IsConsistent fit.1 (campaign_added s c h (leb-true k.gone.spent k.facts.budget money.0) (leb-true (forgotten s + gone_count k.gone) most_forgotten money.1) tests.0)
 
-kept_sale_kept : (sale : SaleRow) (s u : State) → IsConsistent s → with_kept_sale sale s ≡ Some u → IsConsistent u
+pub kept_sale_kept : (sale : SaleRow) (s u : State) → IsConsistent s → with_kept_sale sale s ≡ Some u → IsConsistent u
 kept_sale_kept sale s u h e =
     let fit = fitted (can_keep_sale s sale) (with_sales s (sale ∷ [])) u e in
     let parts = and_parts _ (has_room s) fit.0 in

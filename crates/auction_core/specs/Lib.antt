@@ -1,0 +1,6 @@
+pub mod Applying
+pub mod Auctions
+pub mod Core
+pub mod Draft
+pub mod Outcomes
+pub mod Scan

@@ -1,0 +1,212 @@
+// Effects of a compacted journal are carried out.
+ghost use Rattle.std.specs.Prelude.{◌≡◌, ◌≤◌, ◌<◌, ◌+◌, ◌-◌, ◌^◌, ◌==◌, ◌&&◌, if◌then◌else◌, false, true, [], ◌∷◌, IfOk, IsTrue, None, Some, length, min, nat_le};
+ghost use Rattle.std.specs.Option.{option_copied, option_map_or};
+ghost use Rattle.auction_core.specs.Applying.{Applies};
+ghost use Rattle.plain_exchange.specs.Effects.{campaign_of, can_keep, can_keep_sale, charge_of, edits_of_kept, with_kept, with_kept_sale};
+ghost use Rattle.budget_book.specs.Sales.{gone_count, most_forgotten};
+ghost use Rattle.plain_exchange.specs.State.{Campaign, campaign_at, forgotten, free, with_campaigns, with_sales};
+
+use crate::exchange::Core;
+use crate::fault::ApplyFault;
+use crate::prepare_records::{copy_entry, nanos};
+use crate::sell::key_of;
+use budget_book::{Gone, MOST_SALES, SaleRow, SaleState, UserKey};
+use plain_exchange::{KeptCampaign, SharedRecord};
+use rtb_num::{Nanos, Txt};
+use std::alloc::{AllocError, Global};
+
+// The most sales that are ever forgotten.
+const MOST_FORGOTTEN: u64 = 1 << 62;
+
+impl Core {
+    // A campaign as it was, before any sale.
+    pub(crate) fn apply_kept(
+        &mut self,
+        alloc: Global,
+        kept: &KeptCampaign,
+        moment: u64,
+    ) -> Result<(), ApplyFault>
+        requires few { self.old.edits + edits_of_kept kept.now ≤ 2 ^ 63 }
+        ensures { Applies (if moment == 0 then with_kept kept.now self.old.state else None) (edits_of_kept kept.now) self.old self.new result }
+    {
+        if moment != 0 {
+            return Err(ApplyFault::Unfit);
+        }
+        if !self.can_keep(kept) {
+            return Err(ApplyFault::Unfit);
+        }
+        let entry = copy_entry(alloc, &kept.facts, &kept.expr)?;
+        self.reserve_campaign()?;
+        self.keep(entry, kept.live, kept.gone);
+        Ok(())
+    }
+
+    // Whether there is no sale yet, and the campaign can be added as it was.
+    fn can_keep(&self, kept: &KeptCampaign) -> bool
+        ensures { result ≡ can_keep self.now.state kept.now }
+    {
+        let sales = self.sales();
+        let limit = self.limit_with(&kept.facts, &kept.expr);
+        sales == 0 && (limit.is_none() && self.can_be_gone(kept))
+    }
+
+    // Whether its budget covers what it spent, and no more sales than can be are forgotten with its own.
+    fn can_be_gone(&self, kept: &KeptCampaign) -> bool
+        ensures { result ≡ (nat_le kept.now.gone.spent kept.now.facts.budget && nat_le (forgotten self.now.state + gone_count kept.now.gone) most_forgotten) }
+    {
+        let forgotten = self.forgotten_few().saturating_add(gone_count(kept.gone));
+        kept.gone.spent <= kept.facts.budget() && forgotten <= MOST_FORGOTTEN
+    }
+
+    // Adds the campaign as it was.
+    fn keep(&mut self, entry: SharedRecord, live: bool, gone: Gone)
+        requires fits { IsTrue (can_keep self.old.state (record { live = live; facts = entry.facts; expr = entry.expr; gone = gone })) }
+        requires room { 1 ≤ self.old.campaign_room }
+        requires few { self.old.edits + edits_of_kept (record { live = live; facts = entry.facts; expr = entry.expr; gone = gone }) ≤ 2 ^ 63 }
+        ensures state { self.new.state ≡ with_campaigns self.old.state (campaign_of (record { live = live; facts = entry.facts; expr = entry.expr; gone = gone }) ∷ []) }
+        ensures ttl { self.new.ttl ≡ self.old.ttl }
+        ensures edits { self.new.edits ≡ self.old.edits + edits_of_kept (record { live = live; facts = entry.facts; expr = entry.expr; gone = gone }) }
+    {
+        if live {
+            let _number = self.keep_live(entry, gone);
+        } else {
+            self.keep_paused(entry, gone);
+        }
+    }
+
+    // Adds it paused, which is another edit.
+    fn keep_paused(&mut self, entry: SharedRecord, gone: Gone)
+        requires fits { IsTrue (can_keep self.old.state (record { live = false; facts = entry.facts; expr = entry.expr; gone = gone })) }
+        requires room { 1 ≤ self.old.campaign_room }
+        requires few { self.old.edits + 2 ≤ 2 ^ 63 }
+        ensures state { self.new.state ≡ with_campaigns self.old.state (campaign_of (record { live = false; facts = entry.facts; expr = entry.expr; gone = gone }) ∷ []) }
+        ensures ttl { self.new.ttl ≡ self.old.ttl }
+        ensures edits { self.new.edits ≡ self.old.edits + 2 }
+    {
+        let n = self.keep_live(entry, gone);
+        self.pause(n);
+    }
+
+    // Adds it live. Its number.
+    fn keep_live(&mut self, entry: SharedRecord, gone: Gone) -> u32
+        requires fits { IsTrue (can_keep self.old.state (record { live = true; facts = entry.facts; expr = entry.expr; gone = gone })) }
+        requires room { 1 ≤ self.old.campaign_room }
+        requires few { self.old.edits < 2 ^ 63 }
+        ensures number { result ≡ length self.old.state.campaigns + 1 }
+        ensures state { self.new.state ≡ with_campaigns self.old.state (campaign_of (record { live = true; facts = entry.facts; expr = entry.expr; gone = gone }) ∷ []) }
+        ensures ttl { self.new.ttl ≡ self.old.ttl }
+        ensures edits { self.new.edits ≡ self.old.edits + 1 }
+    {
+        self.book.add_kept(entry.record().facts.budget(), gone);
+        self.table.add(entry)
+    }
+
+    // A sale as it was.
+    pub(crate) fn apply_kept_sale(
+        &mut self,
+        alloc: Global,
+        row: &SaleRow,
+        moment: u64,
+    ) -> Result<(), ApplyFault>
+        ensures { Applies (if moment == 0 then with_kept_sale row.now self.old.state else None) 0 self.old self.new result }
+    {
+        if moment != 0 {
+            return Err(ApplyFault::Unfit);
+        }
+        if !self.can_keep_sale(row) {
+            return Err(ApplyFault::Unfit);
+        }
+        let key = key_of(alloc, row.user.as_ref())?;
+        let row = copy_row(row)?;
+        self.reserve_sales(1)?;
+        self.keep_sale(row, key);
+        Ok(())
+    }
+
+    // Whether the campaign of the sale can pay it, and one more sale can be kept.
+    fn can_keep_sale(&self, row: &SaleRow) -> bool
+        ensures { result ≡ can_keep_sale self.now.state row.now }
+    {
+        let covered = self.can_cover(row);
+        covered && self.sales() < MOST_SALES
+    }
+
+    // Whether so much of its budget is free.
+    fn can_cover(&self, row: &SaleRow) -> bool
+        ensures { result ≡ option_map_or (λ c. nat_le (charge_of row.now) (free self.now.state row.now.campaign c)) (campaign_at self.now.state row.now.campaign) false }
+    {
+        match self.number(u64::from(row.campaign)) {
+            None => false,
+            Some(n) => self.can_cover_there(n, row),
+        }
+    }
+
+    fn can_cover_there(&self, n: u32, row: &SaleRow) -> bool
+        requires there { (1 ≤ n) × (n ≤ length self.now.state.campaigns) }
+        ensures { (c : Campaign) → campaign_at self.now.state n ≡ Some c → result ≡ nat_le (charge_of row.now) (free self.now.state n c) }
+    {
+        charge_of(row) <= self.free_now(n)
+    }
+
+    // What is left of the budget of campaign `n`.
+    fn free_now(&self, n: u32) -> Nanos
+        requires there { (1 ≤ n) × (n ≤ length self.now.state.campaigns) }
+        ensures { (c : Campaign) → campaign_at self.now.state n ≡ Some c → result ≡ free self.now.state n c }
+    {
+        self.book.free(n)
+    }
+
+    // Adds the sale as it was.
+    fn keep_sale(&mut self, row: SaleRow, key: Option<UserKey>)
+        requires fits { IsTrue (can_keep_sale self.old.state row) }
+        requires user { key ≡ row.user }
+        requires room { 1 ≤ self.old.sale_room }
+        ensures state { self.new.state ≡ with_sales self.old.state (row ∷ []) }
+        ensures ttl { self.new.ttl ≡ self.old.ttl }
+        ensures edits { self.new.edits ≡ self.old.edits }
+    {
+        self.book.add_sale(row, key);
+    }
+}
+
+// How many sales are gone, or 2^64 - 1 where that is less.
+fn gone_count(gone: Gone) -> u64
+    ensures { result ≡ min (gone_count gone) (2 ^ 64 - 1) }
+{
+    gone.billed
+        .saturating_add(gone.lost)
+        .saturating_add(gone.expired)
+}
+
+// What the sale takes of the budget.
+fn charge_of(row: &SaleRow) -> Nanos
+    ensures { result ≡ charge_of row.now }
+{
+    match row.state {
+        SaleState::Held | SaleState::Billed => row.price,
+        SaleState::Lost | SaleState::Expired => nanos(0),
+    }
+}
+
+fn copy_row(row: &SaleRow) -> Result<SaleRow, AllocError>
+    ensures { IfOk result (λ r. r ≡ row.now) }
+{
+    let user = copy_user(row.user.as_ref())?;
+    Ok(SaleRow {
+        campaign: row.campaign,
+        price: row.price,
+        moment: row.moment,
+        due: row.due,
+        state: row.state,
+        user,
+    })
+}
+
+fn copy_user(user: Option<&Txt>) -> Result<Option<Txt>, AllocError>
+    ensures { IfOk result (λ u. u ≡ option_copied user.entry) }
+{
+    match user {
+        None => Ok(None),
+        Some(user) => Ok(Some(user.copy()?)),
+    }
+}

@@ -1,0 +1,216 @@
+// Who wins the impressions of a request, each beside the sales of those before it.
+ghost use Rattle.std.specs.Prelude.{◌≡◌, ◌≤◌, ◌<◌, ◌-◌, ◌+◌, ◌^◌, ◌==◌, ◌++◌, if◌then◌else◌, IfOk, IfSome, IsTrue, OnOk, Option, Some, fold, length, map, option_map, slice_get, take};
+ghost use Rattle.std.specs.List.{flat_map, list_all};
+ghost use Rattle.std.specs.Option.{option_map_or, option_to_list};
+ghost use Rattle.auction_core.specs.Auctions.{beside, drawn, offering, reached, times};
+ghost use Rattle.auction_core.specs.Draft.{found_for};
+ghost use Rattle.budget_book.specs.Sales.{shown_of};
+ghost use Rattle.campaign.specs.Caps.{CapTerms};
+ghost use Rattle.clearing.specs.Clearing.{is_fit};
+ghost use Rattle.deal_rules.specs.Offers.{offers_of};
+ghost use Rattle.deal_rules.specs.Terms.{terms_of, user_of};
+ghost use Rattle.plain_exchange.specs.Auction.{awards_of, opportunity, shown_to, win};
+ghost use Rattle.plain_exchange.specs.State.{Campaign, campaign_at, free, swept};
+ghost use Rattle.rtb_types.specs.declared.request.Imp.{Imp as Impression};
+
+use crate::exchange::Core;
+use crate::prepare_records::nanos;
+use campaign::Cap;
+use clearing::{Offer, Win, clear};
+use deal_rules::{offers, terms, user_of};
+use rtb_num::{List, Nanos};
+use rtb_types::BidRequest;
+use std::alloc::{AllocError, Global};
+
+impl Core {
+    // Who wins each impression, where somebody does.
+    pub(crate) fn awards(
+        &self,
+        alloc: Global,
+        request: &BidRequest,
+        moment: u64,
+        found: &[List<u32>],
+    ) -> Result<Vec<(u32, Win)>, AllocError>
+        requires few { length request.now.imps ≤ 64 }
+        requires found { found.now ≡ map (found_for self.now.state request.now) request.now.imps }
+        ensures value { IfOk result (λ awards. awards.items ≡ awards_of self.now.ttl moment request.now (swept moment self.now.state)) }
+        ensures few { IfOk result (λ awards. length awards.items ≤ 64) }
+    {
+        let mut awards = Vec::new(alloc);
+        for imp in 0..request.imps.len() {
+            let win = self.win(alloc, request, imp, moment, &found[imp], awards.as_slice())?;
+            push_award(&mut awards, imp as u32, win)?;
+        }
+        Ok(awards)
+    }
+
+    // Who wins the impression at the place beside these awards.
+    fn win(
+        &self,
+        alloc: Global,
+        request: &BidRequest,
+        imp: usize,
+        moment: u64,
+        found: &List<u32>,
+        awards: &[(u32, Win)],
+    ) -> Result<Option<Win>, AllocError>
+        requires imp { imp < length request.now.imps }
+        requires few { length awards.now ≤ 64 }
+        requires found { (i : Impression) → slice_get request.now.imps imp ≡ Some i → found.now ≡ found_for self.now.state request.now i }
+        ensures { (i : Impression) → slice_get request.now.imps imp ≡ Some i → IfOk result (λ w. w ≡ win (beside self.now.ttl moment request.now self.now.state awards.now) request.now i moment) }
+    {
+        let offers = self.offers(alloc, request, imp, moment, found.as_slice(), awards)?;
+        let terms = terms(alloc, request, imp)?;
+        Ok(clear(offers.as_slice(), terms.as_slice()))
+    }
+
+    // The offers of the campaigns that were found, in their order.
+    fn offers(
+        &self,
+        alloc: Global,
+        request: &BidRequest,
+        imp: usize,
+        moment: u64,
+        found: &[u32],
+        awards: &[(u32, Win)],
+    ) -> Result<Vec<Offer>, AllocError>
+        requires imp { imp < length request.now.imps }
+        requires few { length awards.now ≤ 64 }
+        requires found { (i : Impression) → slice_get request.now.imps imp ≡ Some i → found.now ≡ found_for self.now.state request.now i }
+        ensures value { (i : Impression) → slice_get request.now.imps imp ≡ Some i → IfOk result (λ os. os.items ≡ flat_map (offering (beside self.now.ttl moment request.now self.now.state awards.now) request.now i moment) (reached self.now.state request.now i)) }
+        ensures fit { (i : Impression) → slice_get request.now.imps imp ≡ Some i → IfOk result (λ os. IsTrue (list_all (is_fit (terms_of request.now i)) os.items)) }
+    {
+        let mut all = Vec::new(alloc);
+        for number in found {
+            let more = self.offers_by(alloc, request, imp, moment, *number, awards)?;
+            push_offers(&mut all, more.as_slice())?;
+        }
+        Ok(all)
+    }
+
+    // The offers of campaign `n`, which is live and whose expression is true.
+    fn offers_by(
+        &self,
+        alloc: Global,
+        request: &BidRequest,
+        imp: usize,
+        moment: u64,
+        n: u32,
+        awards: &[(u32, Win)],
+    ) -> Result<List<Offer>, AllocError>
+        requires imp { imp < length request.now.imps }
+        requires few { length awards.now ≤ 64 }
+        requires there { (1 ≤ n) × (n ≤ length self.now.state.campaigns) }
+        ensures value { (i : Impression) (c : Campaign) → slice_get request.now.imps imp ≡ Some i → campaign_at self.now.state n ≡ Some c → IfOk result (λ os. os ≡ offers_of n (opportunity (beside self.now.ttl moment request.now self.now.state awards.now) request.now i moment n c)) }
+        ensures fit { (i : Impression) → slice_get request.now.imps imp ≡ Some i → IfOk result (λ os. IsTrue (list_all (is_fit (terms_of request.now i)) os)) }
+    {
+        let facts = &self.entry(n).record().facts;
+        let free = self.free_beside(n, moment, awards);
+        let shown = self.shown_beside(n, facts.cap(), request, moment, awards);
+        offers(alloc, request, imp, n, facts, free, shown)
+    }
+
+    // What is left of the budget of campaign `n` beside the awards.
+    fn free_beside(&self, n: u32, moment: u64, awards: &[(u32, Win)]) -> Nanos
+        requires few { length awards.now ≤ 64 }
+        requires there { (1 ≤ n) × (n ≤ length self.now.state.campaigns) }
+        ensures { (c : Campaign) → campaign_at self.now.state n ≡ Some c → result ≡ free (swept moment self.now.state) n c - drawn n awards.now }
+    {
+        let free = self.free_at(n, moment).get();
+        nanos(free.saturating_sub(drawn(n, awards)))
+    }
+
+    // How many sales of campaign `n` to the request's user its cap counts beside the awards, where there is a
+    // user.
+    fn shown_beside(
+        &self,
+        n: u32,
+        cap: Option<Cap>,
+        request: &BidRequest,
+        moment: u64,
+        awards: &[(u32, Win)],
+    ) -> Option<u64>
+        requires few { length awards.now ≤ 64 }
+        ensures { (c : Campaign) → c.facts.cap ≡ cap → result ≡ option_map (shown_to (beside self.now.ttl moment request.now self.now.state awards.now) moment n c) (user_of request.now) }
+    {
+        let user = user_of(request)?;
+        Some(self.times_shown(n, cap, user.as_bytes(), moment, awards))
+    }
+
+    // How many sales of campaign `n` to the user, who is that of the awards, the cap counts.
+    fn times_shown(
+        &self,
+        n: u32,
+        cap: Option<Cap>,
+        user: &[u8],
+        moment: u64,
+        awards: &[(u32, Win)],
+    ) -> u64
+        requires few { length awards.now ≤ 64 }
+        ensures value { result ≡ option_map_or (λ (t : CapTerms). shown_of n user.now t.seconds moment (swept moment self.now.state).sales + times n awards.now) cap 0 }
+        ensures some { IfSome cap (λ t. 1 ≤ t.seconds) }
+    {
+        match cap {
+            None => 0,
+            Some(cap) => self.shown_few(n, user, cap.seconds(), moment) + times(n, awards),
+        }
+    }
+
+    fn shown_few(&self, n: u32, user: &[u8], seconds: u32, moment: u64) -> u64
+        ensures value { result ≡ shown_of n user.now seconds moment (swept moment self.now.state).sales }
+        ensures few { result ≤ 4194304 }
+    {
+        self.book.shown(n, user, seconds, moment)
+    }
+}
+
+// What the awards take of the budget of campaign `n`.
+fn drawn(n: u32, awards: &[(u32, Win)]) -> u64
+    requires few { length awards.now ≤ 64 }
+    ensures value { result ≡ drawn n awards.now }
+{
+    let mut sum = 0;
+    for award in awards {
+        sum += price_for(n, &award.1);
+    }
+    sum
+}
+
+// What the winner pays, where it is campaign `n`.
+fn price_for(n: u32, win: &Win) -> u64
+    ensures value { result ≡ if win.now.campaign == n then win.now.price else 0 }
+    ensures bound { result ≤ 10 ^ 12 }
+{
+    if win.campaign == n {
+        win.price.get()
+    } else {
+        0
+    }
+}
+
+// How many of the awards campaign `n` has.
+fn times(n: u32, awards: &[(u32, Win)]) -> u64
+    ensures { result ≡ times n awards.now }
+{
+    awards.iter().filter(|award| award.1.campaign == n).count() as u64
+}
+
+// Appends the award of the impression, where there is one.
+fn push_award(awards: &mut Vec<(u32, Win)>, imp: u32, win: Option<Win>) -> Result<(), AllocError>
+    ensures { OnOk result (awards.new.items ≡ awards.old.items ++ option_to_list (option_map (λ w. (imp, w)) win)) }
+{
+    if let Some(win) = win {
+        awards.push((imp, win))?;
+    }
+    Ok(())
+}
+
+// Appends the offers.
+fn push_offers(all: &mut Vec<Offer>, more: &[Offer]) -> Result<(), AllocError>
+    ensures { OnOk result (all.new.items ≡ all.old.items ++ more.now) }
+{
+    for offer in more {
+        all.push(*offer)?;
+    }
+    Ok(())
+}

@@ -1,0 +1,142 @@
+// Auctions, prepared.
+ghost use Rattle.std.specs.Prelude.{◌≡◌, ◌≤◌, ◌+◌, IfOk, IsTrue, OnOk, length, map, nat_lt};
+ghost use Rattle.auction_core.specs.Auctions.{awarded, selling};
+ghost use Rattle.auction_core.specs.Draft.{IsDraftOf, IsReady, found_for};
+ghost use Rattle.auction_core.specs.Outcomes.{IsOutcome, IsPossible};
+ghost use Rattle.plain_exchange.specs.declared.commands.Command.TheVariants as command;
+ghost use Rattle.plain_exchange.specs.State.{most_sales, swept};
+ghost use Rattle.plain_exchange.specs.Step.{step};
+ghost use Rattle.rtb_types.specs.Valid.{is_valid};
+
+use crate::draft::{Answer, Draft, Plan};
+use crate::exchange::Core;
+use crate::outcome::{Outcome, reply_alone};
+use crate::sell::{holdings, sale_change};
+use budget_book::MOST_SALES;
+use clearing::Win;
+use deal_rules::user_of;
+use plain_exchange::{Limit, Reply};
+use rtb_num::List;
+use rtb_types::BidRequest;
+use std::alloc::{AllocError, Global};
+
+impl Core {
+    // The draft of an auction.
+    pub(crate) fn prepare_auction(
+        &mut self,
+        alloc: Global,
+        request: &BidRequest,
+        found: &[List<u32>],
+        moment: u64,
+    ) -> Result<Draft, AllocError>
+        requires valid { IsTrue (is_valid request.now) }
+        requires found { found.now ≡ map (found_for self.old.state request.now) request.now.imps }
+        ensures draft { IfOk result (λ d. IsDraftOf self.old.ttl self.old.state (command.Auction request.now) moment d) }
+        ensures ready { IfOk result (λ d. IsReady d self.new) }
+        ensures state { self.new.state ≡ self.old.state }
+        ensures ttl { self.new.ttl ≡ self.old.ttl }
+        ensures edits { self.new.edits ≡ self.old.edits }
+        ensures sale_room { self.old.sale_room ≤ self.new.sale_room }
+        ensures campaign_room { self.old.campaign_room ≤ self.new.campaign_room }
+    {
+        let outcome = self.auction_outcome(alloc, request, moment, found)?;
+        Ok(self.draft(outcome, moment))
+    }
+
+    // Sells the impressions of the request.
+    fn auction_outcome(
+        &mut self,
+        alloc: Global,
+        request: &BidRequest,
+        moment: u64,
+        found: &[List<u32>],
+    ) -> Result<Outcome, AllocError>
+        requires valid { IsTrue (is_valid request.now) }
+        requires found { found.now ≡ map (found_for self.old.state request.now) request.now.imps }
+        ensures outcome { IfOk result (λ o. IsOutcome moment (swept moment self.old.state) (step self.old.ttl moment self.old.state (command.Auction request.now)) o) }
+        ensures possible { IfOk result (λ o. IsPossible moment (swept moment self.old.state) self.new.sale_room self.new.campaign_room o) }
+        ensures state { self.new.state ≡ self.old.state }
+        ensures ttl { self.new.ttl ≡ self.old.ttl }
+        ensures edits { self.new.edits ≡ self.old.edits }
+        ensures sale_room { self.old.sale_room ≤ self.new.sale_room }
+        ensures campaign_room { self.old.campaign_room ≤ self.new.campaign_room }
+    {
+        let awards = self.awards(alloc, request, moment, found)?;
+        self.awarded_with_room(alloc, request, moment, awards.as_slice())
+    }
+
+    // What comes of the awards, with room for their sales.
+    fn awarded_with_room(
+        &mut self,
+        alloc: Global,
+        request: &BidRequest,
+        moment: u64,
+        awards: &[(u32, Win)],
+    ) -> Result<Outcome, AllocError>
+        requires few { length awards.now ≤ 64 }
+        ensures outcome { IfOk result (λ o. o ≡ awarded self.old.ttl moment request.now self.old.state awards.now) }
+        ensures room { OnOk result (length awards.now ≤ self.new.sale_room) }
+        ensures state { self.new.state ≡ self.old.state }
+        ensures ttl { self.new.ttl ≡ self.old.ttl }
+        ensures edits { self.new.edits ≡ self.old.edits }
+        ensures sale_room { self.old.sale_room ≤ self.new.sale_room }
+        ensures campaign_room { self.old.campaign_room ≤ self.new.campaign_room }
+    {
+        let outcome = self.awarded(alloc, request, moment, awards)?;
+        self.reserve_sales(awards.len() as u32)?;
+        Ok(outcome)
+    }
+
+    // What comes of the awards.
+    fn awarded(
+        &self,
+        alloc: Global,
+        request: &BidRequest,
+        moment: u64,
+        awards: &[(u32, Win)],
+    ) -> Result<Outcome, AllocError>
+        requires few { length awards.now ≤ 64 }
+        ensures { IfOk result (λ o. o ≡ awarded self.now.ttl moment request.now self.now.state awards.now) }
+    {
+        if awards.is_empty() {
+            return Ok(reply_alone(Reply::NoBid));
+        }
+        if self.is_too_many(awards.len()) {
+            return Ok(reply_alone(Reply::Full {
+                limit: Limit::Sales,
+            }));
+        }
+        self.sale_outcome(alloc, request, moment, awards)
+    }
+
+    // Whether the list has no room for so many sales more.
+    fn is_too_many(&self, count: usize) -> bool
+        requires few { count ≤ 64 }
+        ensures { result ≡ nat_lt most_sales (length self.now.state.sales + count) }
+    {
+        self.sales() + count as u64 > MOST_SALES
+    }
+
+    // Sells the awards.
+    fn sale_outcome(
+        &self,
+        alloc: Global,
+        request: &BidRequest,
+        moment: u64,
+        awards: &[(u32, Win)],
+    ) -> Result<Outcome, AllocError>
+        requires few { length awards.now ≤ 64 }
+        ensures { IfOk result (λ o. o ≡ selling self.now.ttl moment request.now self.now.state awards.now) }
+    {
+        let due = moment.saturating_add(self.ttl);
+        let user = user_of(request);
+        let sold = self.all_sold(alloc, request, awards)?;
+        let change = sale_change(alloc, awards, due, user)?;
+        let holdings = holdings(alloc, awards, due, user)?;
+        Ok(Outcome {
+            plan: Plan::Sell(holdings),
+            answer: Answer::Told(Reply::Sold(sold)),
+            change: Some(change),
+        })
+    }
+}

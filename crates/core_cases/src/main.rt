@@ -1,0 +1,36 @@
+//! The program `core_cases`: reads cases of an exchange of one thread, a line each, and prints those that
+//! are answered otherwise than they say.
+//!
+//! `case_lines` says what a case is, `conversation.rt` what its fields ask for, and `bodies.rt` which bodies go
+//! by short names.
+#![tactic(auto)]
+
+mod bodies;
+mod conversation;
+mod message;
+
+use case_lines::{Areas, run_cases};
+use rtb_num::{StdSink, StdSource, Txt};
+use std::alloc::{AllocError, Global};
+use std::io;
+use std::process::ExitCode;
+
+// The report on all cases of standard input, or the status of what stood in the way.
+fn main(rt: HostRuntime) -> ExitCode {
+    let mut source = StdSource::new(rt.reader());
+    let mut sink = StdSink::new(io::writer(&rt));
+    ExitCode::from(run_cases::<Exchanges, _, _>(rt.alloc(), &mut source, &mut sink).code())
+}
+
+// The one call: `exchange | FIELD | ..`.
+struct Exchanges;
+
+impl Areas for Exchanges {
+    fn answer(alloc: Global, call: &[u8], args: &[Txt], out: &mut Txt) -> Result<bool, AllocError> {
+        if call == b"exchange".as_slice() {
+            conversation::put_answers(alloc, args, out)?;
+            return Ok(true);
+        }
+        Ok(false)
+    }
+}
