@@ -1,6 +1,6 @@
 -- What an impression assigns to the attributes: the fields of the bid request (OpenRTB 2.5, sections
 -- 3.2.4 to 3.2.20) in the order of the table of attributes.
-use Rattle.std.specs.Prelude.{ℕ, ℤ, List, [], ◌∷◌, ◌++◌, Option, find, option_map, option_and_then, option_to_list}
+use Rattle.std.specs.Prelude.{ℕ, ℤ, List, [], ◌∷◌, ◌++◌, Option, None, find, option_map, option_and_then, option_to_list}
 use Rattle.std.specs.Fmt.{signed_decimal}
 use Rattle.std.specs.List.{flat_map}
 use Rattle.std.specs.Option.{option_or}
@@ -49,6 +49,20 @@ device_rows device = (attr.DeviceType, option_and_then (λ (d : Device). number_
     ∷ (attr.Os, option_and_then (λ (d : Device). d.os) device) ∷ (attr.Osv, option_and_then (λ (d : Device). d.osv) device)
     ∷ (attr.Language, option_and_then (λ (d : Device). d.language) device) ∷ (attr.Carrier, option_and_then (λ (d : Device). d.carrier) device)
     ∷ (attr.ConnectionType, option_and_then (λ (d : Device). number_text d.connectiontype) device) ∷ []
+
+-- one of which nothing is told, and so without rows
+abbrev pub blank_device : Device
+blank_device = record {
+  geo = None;
+  devicetype = None;
+  device_make = None;
+  device_model = None;
+  os = None;
+  osv = None;
+  language = None;
+  carrier = None;
+  connectiontype = None;
+}
 
 -- the user (3.2.20)
 unfoldable pub user_rows : Option User → List Row

@@ -16,6 +16,8 @@ use Rattle.rtb_types.specs.declared.request.Device.{Device}
 use Rattle.rtb_types.specs.declared.request.Geo.{Geo}
 use Rattle.rtb_types.specs.declared.request.User.{User}
 use Rattle.rtb_read.specs.Parts.{text_faults, text_from, integer_faults, integer_from, inside_faults, inside_from, object_in}
+use Rattle.rtb_read.specs.declared.context.Machine.{Machine}
+use Rattle.rtb_read.specs.declared.context.Usage.{Usage}
 use Rattle.rtb_read.specs.declared.fault.ReqFault.{ReqFault}
 
 -- `publisher` (section 3.2.15), of which `id` alone is listed
@@ -70,30 +72,55 @@ geo_from t = record {
   zip = text_from (geo_name GeoField.Zip) t;
 }
 
--- section 3.2.18
-unfoldable pub device_faults : Tree → List ReqFault
-device_faults t = inside_faults (Field.Device DeviceField.Geo) geo_faults (object_in (device_name DeviceField.Geo) t)
-    ++ integer_faults (Field.Device DeviceField.Devicetype) t
+-- section 3.2.18: the device's place, what it is, and how it is used
+unfoldable pub machine_faults : Tree → List ReqFault
+machine_faults t = integer_faults (Field.Device DeviceField.Devicetype) t
     ++ text_faults (Field.Device DeviceField.Make) t
     ++ text_faults (Field.Device DeviceField.Model) t
     ++ text_faults (Field.Device DeviceField.Os) t
     ++ text_faults (Field.Device DeviceField.Osv) t
-    ++ text_faults (Field.Device DeviceField.Language) t
-    ++ text_faults (Field.Device DeviceField.Carrier) t
-    ++ integer_faults (Field.Device DeviceField.Connectiontype) t
 
-unfoldable pub device_from : Tree → Device
-device_from t = record {
-  geo = inside_from geo_from (object_in (device_name DeviceField.Geo) t);
+unfoldable pub machine_from : Tree → Machine
+machine_from t = record {
   devicetype = integer_from (device_name DeviceField.Devicetype) t;
   device_make = text_from (device_name DeviceField.Make) t;
   device_model = text_from (device_name DeviceField.Model) t;
   os = text_from (device_name DeviceField.Os) t;
   osv = text_from (device_name DeviceField.Osv) t;
+}
+
+unfoldable pub usage_faults : Tree → List ReqFault
+usage_faults t = text_faults (Field.Device DeviceField.Language) t
+    ++ text_faults (Field.Device DeviceField.Carrier) t
+    ++ integer_faults (Field.Device DeviceField.Connectiontype) t
+
+unfoldable pub usage_from : Tree → Usage
+usage_from t = record {
   language = text_from (device_name DeviceField.Language) t;
   carrier = text_from (device_name DeviceField.Carrier) t;
   connectiontype = integer_from (device_name DeviceField.Connectiontype) t;
 }
+
+unfoldable pub device_faults : Tree → List ReqFault
+device_faults t = inside_faults (Field.Device DeviceField.Geo) geo_faults (object_in (device_name DeviceField.Geo) t)
+    ++ machine_faults t ++ usage_faults t
+
+abbrev pub device_of : Option Geo → Machine → Usage → Device
+device_of geo machine usage = record {
+  geo = geo;
+  devicetype = machine.devicetype;
+  device_make = machine.device_make;
+  device_model = machine.device_model;
+  os = machine.os;
+  osv = machine.osv;
+  language = usage.language;
+  carrier = usage.carrier;
+  connectiontype = usage.connectiontype;
+}
+
+unfoldable pub device_from : Tree → Device
+device_from t = device_of
+    (inside_from geo_from (object_in (device_name DeviceField.Geo) t)) (machine_from t) (usage_from t)
 
 -- section 3.2.20
 unfoldable pub user_faults : Tree → List ReqFault

@@ -1,10 +1,11 @@
-#![tactic(auto, using(json_fields::proofs::First::in_front, json_fields::proofs::First::behind, json_fields::proofs::First::neither), unfolding(crate::specs::Context::publisher_faults, crate::specs::Context::publisher_from, crate::specs::Context::site_faults, crate::specs::Context::site_from, crate::specs::Context::app_faults, crate::specs::Context::app_from, crate::specs::Context::geo_faults, crate::specs::Context::geo_from, crate::specs::Context::device_faults, crate::specs::Context::device_from, crate::specs::Context::user_faults, crate::specs::Context::user_from, crate::specs::Parts::inside_faults, crate::specs::Parts::inside_from))]
+#![tactic(auto, using(json_fields::proofs::First::in_front, json_fields::proofs::First::behind, json_fields::proofs::First::neither), unfolding(crate::specs::Context::publisher_faults, crate::specs::Context::publisher_from, crate::specs::Context::site_faults, crate::specs::Context::site_from, crate::specs::Context::app_faults, crate::specs::Context::app_from, crate::specs::Context::geo_faults, crate::specs::Context::geo_from, crate::specs::Context::machine_faults, crate::specs::Context::machine_from, crate::specs::Context::usage_faults, crate::specs::Context::usage_from, crate::specs::Context::device_faults, crate::specs::Context::device_from, crate::specs::Context::user_faults, crate::specs::Context::user_from, crate::specs::Parts::inside_faults, crate::specs::Parts::inside_from))]
 
+ghost use Rattle.std.specs.Prelude.{◌≡◌};
 ghost use Rattle.exact_json.specs.Forms.{HasForms};
 ghost use Rattle.exact_json.specs.View.{tree_of};
 ghost use Rattle.json_fields.specs.Answers.{Answers};
 ghost use Rattle.rtb_types.specs.Paths.{device_name, request_name};
-ghost use Rattle.rtb_read.specs.Context.{app_faults, app_from, device_faults, device_from, geo_faults, geo_from, publisher_faults, publisher_from, site_faults, site_from, user_faults, user_from};
+ghost use Rattle.rtb_read.specs.Context.{app_faults, app_from, device_faults, device_from, device_of, geo_faults, geo_from, machine_faults, machine_from, publisher_faults, publisher_from, site_faults, site_from, usage_faults, usage_from, user_faults, user_from};
 ghost use Rattle.rtb_read.specs.Parts.{inside_faults, inside_from, object_in};
 
 use crate::fault::ReqFault;
@@ -97,25 +98,9 @@ fn device_in(device: &Value) -> Result<Device, ReqFault>
     ensures { Answers ReqFault.Memory (device_faults (tree_of device.now)) (device_from (tree_of device.now)) result }
 {
     let geo = geo_field(device)?;
-    let devicetype = integer_field(device, Field::Device(DeviceField::Devicetype))?;
-    let device_make = text_field(device, Field::Device(DeviceField::Make))?;
-    let device_model = text_field(device, Field::Device(DeviceField::Model))?;
-    let os = text_field(device, Field::Device(DeviceField::Os))?;
-    let osv = text_field(device, Field::Device(DeviceField::Osv))?;
-    let language = text_field(device, Field::Device(DeviceField::Language))?;
-    let carrier = text_field(device, Field::Device(DeviceField::Carrier))?;
-    let connectiontype = integer_field(device, Field::Device(DeviceField::Connectiontype))?;
-    Ok(Device {
-        geo,
-        devicetype,
-        device_make,
-        device_model,
-        os,
-        osv,
-        language,
-        carrier,
-        connectiontype,
-    })
+    let machine = machine_in(device)?;
+    let usage = usage_in(device)?;
+    Ok(join_device(geo, machine, usage))
 }
 
 fn geo_field(device: &Value) -> Result<Option<Geo>, ReqFault>
@@ -143,6 +128,72 @@ fn geo_in(geo: &Value) -> Result<Geo, ReqFault>
         city,
         zip,
     })
+}
+
+// What the device is.
+#[derive(Drop)]
+struct Machine {
+    devicetype: Option<i32>,
+    device_make: Option<Txt>,
+    device_model: Option<Txt>,
+    os: Option<Txt>,
+    osv: Option<Txt>,
+}
+
+fn machine_in(device: &Value) -> Result<Machine, ReqFault>
+    requires forms { HasForms (tree_of device.now) }
+    ensures { Answers ReqFault.Memory (machine_faults (tree_of device.now)) (machine_from (tree_of device.now)) result }
+{
+    let devicetype = integer_field(device, Field::Device(DeviceField::Devicetype))?;
+    let device_make = text_field(device, Field::Device(DeviceField::Make))?;
+    let device_model = text_field(device, Field::Device(DeviceField::Model))?;
+    let os = text_field(device, Field::Device(DeviceField::Os))?;
+    let osv = text_field(device, Field::Device(DeviceField::Osv))?;
+    Ok(Machine {
+        devicetype,
+        device_make,
+        device_model,
+        os,
+        osv,
+    })
+}
+
+// How the device is used.
+#[derive(Drop)]
+struct Usage {
+    language: Option<Txt>,
+    carrier: Option<Txt>,
+    connectiontype: Option<i32>,
+}
+
+fn usage_in(device: &Value) -> Result<Usage, ReqFault>
+    requires forms { HasForms (tree_of device.now) }
+    ensures { Answers ReqFault.Memory (usage_faults (tree_of device.now)) (usage_from (tree_of device.now)) result }
+{
+    let language = text_field(device, Field::Device(DeviceField::Language))?;
+    let carrier = text_field(device, Field::Device(DeviceField::Carrier))?;
+    let connectiontype = integer_field(device, Field::Device(DeviceField::Connectiontype))?;
+    Ok(Usage {
+        language,
+        carrier,
+        connectiontype,
+    })
+}
+
+fn join_device(geo: Option<Geo>, machine: Machine, usage: Usage) -> Device
+    ensures { result ≡ device_of geo machine usage }
+{
+    Device {
+        geo,
+        devicetype: machine.devicetype,
+        device_make: machine.device_make,
+        device_model: machine.device_model,
+        os: machine.os,
+        osv: machine.osv,
+        language: usage.language,
+        carrier: usage.carrier,
+        connectiontype: usage.connectiontype,
+    }
 }
 
 pub(crate) fn user_field(request: &Value) -> Result<Option<User>, ReqFault>
