@@ -1,18 +1,20 @@
-//! The program `book_bench`: its words are a number of campaigns, a number of sales, and which steps are gone,
-//! from 1 to 5, each behind those before it:
+//! The program `book_bench`: its words are a number of campaigns and a number of sales, and each line of
+//! standard input is a step:
 //!
-//! 1. each sale's user is made, of 16 bytes;
-//! 2. the sales are made, one user each, the campaigns in turn, one a millisecond and each due after a second;
-//! 3. each user is counted for the user's campaign;
-//! 4. every second sale is billed;
-//! 5. the book is swept at each millisecond.
+//! - `make`: each sale's user is made, of 16 bytes, and dropped;
+//! - `sell`: the sales are made, one user each, the campaigns in turn, one a millisecond and each due after a
+//!   second;
+//! - `count`: each user is counted for the user's campaign;
+//! - `bill`: every second sale is billed;
+//! - `sweep`: the book is swept at each millisecond.
 //!
-//! It prints how many sales there are, how many times users were counted, how many sales are billed and how
-//! many expired: the same on every run, and never a time.
+//! After each step it prints the step and how many sales it reached: the same on every run, and never a time.
+//! So a caller that waits for the answer before it writes the next step can tell what each step took.
 #![tactic(auto)]
 
 mod steps;
 
+use crate::steps::Shop;
 use std::process::ExitCode;
 use std::{env, io};
 
@@ -22,26 +24,24 @@ const NO_MEMORY: u8 = 9;
 
 fn main(rt: HostRuntime) -> io::Result<ExitCode> {
     let mut words = env::args(&rt)?.skip(1);
-    let (Some(campaigns), Some(sales), Some(last)) = (words.next(), words.next(), words.next())
-    else {
+    let (Some(campaigns), Some(sales)) = (words.next(), words.next()) else {
         return Ok(ExitCode::from(USAGE));
     };
-    let (Ok(campaigns), Ok(sales), Ok(last)) = (
+    let (Ok(campaigns), Ok(sales)) = (
         campaigns.as_str().parse::<u32>(),
         sales.as_str().parse::<u32>(),
-        last.as_str().parse::<u32>(),
     ) else {
         return Ok(ExitCode::from(USAGE));
     };
-    let Ok(outcome) = steps::go(rt.alloc(), campaigns, sales, last) else {
+    let Ok(mut shop) = Shop::open(rt.alloc(), campaigns, sales) else {
         return Ok(ExitCode::from(NO_MEMORY));
     };
-    let steps::Outcome {
-        sales,
-        shown,
-        billed,
-        expired,
-    } = outcome;
-    println!(rt; "{sales} sales, {shown} shown, {billed} billed, {expired} expired")?;
+    for line in rt.lines(rt.alloc()) {
+        let line = line?;
+        let Ok(reached) = shop.take_step(rt.alloc(), line.as_str()) else {
+            return Ok(ExitCode::from(NO_MEMORY));
+        };
+        println!(rt; "{line} {reached}")?;
+    }
     Ok(ExitCode::SUCCESS)
 }

@@ -17,20 +17,12 @@ const PRICE: u64 = 1_000;
 // Milliseconds for which a sale is held.
 const HELD: u64 = 1_000;
 
-// How many there are of each.
-#[derive(Clone, Copy, Debug)]
-pub struct Outcome {
-    pub sales: u64,
-    pub shown: u64,
-    pub billed: u64,
-    pub expired: u64,
-}
-
-// A book, and how many campaigns it has.
+// A book, how many campaigns it has, and how many sales are to be made.
 #[derive(Drop)]
-struct Shop {
+pub struct Shop {
     book: Book,
     campaigns: u32,
+    sales: u32,
 }
 
 impl Model for Shop {
@@ -42,48 +34,6 @@ impl Model for Shop {
     ghost view = { λ s. s.book };
 
     ghost invariant = { λ s. s.campaigns ≡ length s.book.campaigns };
-}
-
-// The steps up to the last one.
-pub fn go(alloc: Global, campaigns: u32, sales: u32, last: u32) -> Result<Outcome, AllocError> {
-    let mut shop = open(alloc, campaigns, sales)?;
-    if last == 1 {
-        make_users(alloc, sales)?;
-        return Ok(shop.outcome(0, 0, 0));
-    }
-    shop.sell_all(alloc, sales)?;
-    let mut shown = 0;
-    let mut billed = 0;
-    let mut expired = 0;
-    if last > 2 {
-        shown = shop.count_shown(sales);
-    }
-    if last > 3 {
-        billed = shop.bill_half(sales);
-    }
-    if last > 4 {
-        expired = shop.sweep_all(sales);
-    }
-    Ok(shop.outcome(shown, billed, expired))
-}
-
-fn open(alloc: Global, campaigns: u32, sales: u32) -> Result<Shop, AllocError> {
-    let mut shop = Shop {
-        book: Book::new(alloc),
-        campaigns: 0,
-    };
-    shop.book.reserve_room(sales, 0)?;
-    for _ in 0..campaigns {
-        shop.add()?;
-    }
-    Ok(shop)
-}
-
-fn make_users(alloc: Global, count: u32) -> Result<(), AllocError> {
-    for i in 0..count {
-        UserKey::make(alloc, &user_of(i))?;
-    }
-    Ok(())
 }
 
 // The user of the sale at that place, from 0 on: another one for each, in no order.
@@ -100,6 +50,20 @@ fn user_of(i: u32) -> [u8; 16] {
 }
 
 impl Shop {
+    // A book with so many campaigns, and room for so many sales.
+    pub fn open(alloc: Global, campaigns: u32, sales: u32) -> Result<Shop, AllocError> {
+        let mut shop = Shop {
+            book: Book::new(alloc),
+            campaigns: 0,
+            sales,
+        };
+        shop.book.reserve_room(sales, 0)?;
+        for _ in 0..campaigns {
+            shop.add()?;
+        }
+        Ok(shop)
+    }
+
     fn add(&mut self) -> Result<(), AllocError> {
         let Some(budget) = Nanos::new(BUDGET) else {
             return Ok(());
@@ -113,6 +77,25 @@ impl Shop {
         Ok(())
     }
 
+    // Takes the step of that name. How many sales it reached.
+    pub fn take_step(&mut self, alloc: Global, name: &str) -> Result<u64, AllocError> {
+        match name {
+            "make" => self.make_users(alloc),
+            "sell" => self.sell_all(alloc),
+            "count" => Ok(self.count_shown()),
+            "bill" => Ok(self.bill_half()),
+            "sweep" => Ok(self.sweep_all()),
+            _ => Ok(0),
+        }
+    }
+
+    fn make_users(&self, alloc: Global) -> Result<u64, AllocError> {
+        for i in 0..self.sales {
+            UserKey::make(alloc, &user_of(i))?;
+        }
+        Ok(u64::from(self.sales))
+    }
+
     // The campaign of the sale at that place, where there is a campaign.
     fn campaign_of(&self, i: u32) -> Option<u32> {
         i.checked_rem(self.campaigns)?.checked_add(1)
@@ -120,11 +103,11 @@ impl Shop {
 
     // ---- sales
 
-    fn sell_all(&mut self, alloc: Global, count: u32) -> Result<(), AllocError> {
-        for i in 0..count {
+    fn sell_all(&mut self, alloc: Global) -> Result<u64, AllocError> {
+        for i in 0..self.sales {
             self.sell(alloc, i)?;
         }
-        Ok(())
+        Ok(self.book.sales())
     }
 
     // Sells to the user of that place, where the campaign can pay and there is room.
@@ -155,18 +138,18 @@ impl Shop {
     }
 
     // How many sales count for the users, each for the campaign of the user's sale.
-    fn count_shown(&self, count: u32) -> u64 {
+    fn count_shown(&self) -> u64 {
         let mut shown: u64 = 0;
-        for i in 0..count {
+        for i in 0..self.sales {
             let c = self.campaign_of(i).unwrap_or(0);
             shown = shown.saturating_add(self.book.shown(c, &user_of(i), 3_600, 0));
         }
         shown
     }
 
-    fn bill_half(&mut self, count: u32) -> u64 {
+    fn bill_half(&mut self) -> u64 {
         let mut billed: u64 = 0;
-        for i in 0..count / 2 {
+        for i in 0..self.sales / 2 {
             if self.book.bill(2 * u64::from(i) + 1).is_ok() {
                 billed = billed.saturating_add(1);
             }
@@ -174,20 +157,11 @@ impl Shop {
         billed
     }
 
-    fn sweep_all(&mut self, count: u32) -> u64 {
+    fn sweep_all(&mut self) -> u64 {
         let mut expired: u64 = 0;
-        for moment in 0..u64::from(count) + HELD {
+        for moment in 0..u64::from(self.sales) + HELD {
             expired = expired.saturating_add(self.book.sweep(moment));
         }
         expired
-    }
-
-    fn outcome(&self, shown: u64, billed: u64, expired: u64) -> Outcome {
-        Outcome {
-            sales: self.book.sales(),
-            shown,
-            billed,
-            expired,
-        }
     }
 }

@@ -7,7 +7,7 @@ use Rattle.std.proofs.lemmas.Bool.{cases_Bool, eq-eqb, eqb-true, false≢true, c
 use Rattle.std.proofs.lemmas.List.{get_or_append_left, get_or-drop, get_or_push, get_or-map, length-map, take_all, length_push}
 use Rattle.std.proofs.lemmas.List.Sums.{sum_by_more, sum_by-cons}
 use Rattle.budget_book.specs.declared.sales.SaleRow.{SaleRow}
-use Rattle.budget_book.specs.LastSales.{Pair, is_pair, number_of}
+use Rattle.budget_book.specs.LastSales.{Lists, Pair, is_pair, number_of}
 use Rattle.budget_book.specs.Users.{pair_of, pair_with, pairs_of, is_with, last_below, AreChains}
 
 abbrev pub pick : Bool → ℕ → ℕ → ℕ
@@ -90,7 +90,7 @@ counted_up_to_last test g rows h (suc k) d l =
 -- ---- the chains, as sales are made and forgotten
 
 -- a sale without a user
-pub chains_plain : (f : ℕ) (pairs : List (Option Pair)) (links : List ℕ) (lasts : List (Pair × ℕ)) (n : ℕ) → AreChains f pairs links lasts → AreChains f (pairs ++ None ∷ []) (links ++ n ∷ []) lasts
+pub chains_plain : (f : ℕ) (pairs : List (Option Pair)) (links : List ℕ) (lasts : Lists) (n : ℕ) → AreChains f pairs links lasts → AreChains f (pairs ++ None ∷ []) (links ++ n ∷ []) lasts
 chains_plain f pairs links lasts n h = record {
   linked = omega (arith, h.linked, length_push links n, length_push pairs nobody);
   each_link = λ k g l is.
@@ -118,7 +118,7 @@ chains_plain f pairs links lasts n h = record {
     not_some g e = cc
 
 -- a sale to a user, whose number is now the last of its pair
-pub chains_added : (f : ℕ) (pairs : List (Option Pair)) (links : List ℕ) (lasts lasts2 : List (Pair × ℕ)) (g : Pair) (n : ℕ) → n ≡ number_of g lasts
+pub chains_added : (f : ℕ) (pairs : List (Option Pair)) (links : List ℕ) (lasts lasts2 : Lists) (g : Pair) (n : ℕ) → n ≡ number_of g lasts
     → ((q : Pair) → number_of q lasts2 ≡ pick (is_pair q g) (f + length pairs + 1) (number_of q lasts)) → AreChains f pairs links lasts
     → AreChains f (pairs ++ Some g ∷ []) (links ++ n ∷ []) lasts2
 chains_added f pairs links lasts lasts2 g n is put h = record {
@@ -161,7 +161,7 @@ chains_added f pairs links lasts lasts2 g n is put h = record {
     some_same g j e = cc
 
 -- the oldest d are forgotten, and no number changes
-pub chains_dropped : (f d : ℕ) (pairs : List (Option Pair)) (links : List ℕ) (lasts : List (Pair × ℕ)) → d ≤ length pairs → AreChains f pairs links lasts → AreChains (f + d) (drop d pairs) (drop d links) lasts
+pub chains_dropped : (f d : ℕ) (pairs : List (Option Pair)) (links : List ℕ) (lasts : Lists) → d ≤ length pairs → AreChains f pairs links lasts → AreChains (f + d) (drop d pairs) (drop d links) lasts
 chains_dropped f d pairs links lasts l h = record {
   linked = omega (arith, h.linked, length-drop d links, length-drop d pairs);
   each_link = λ k g inside is.
@@ -199,7 +199,7 @@ pair_refl : (p : Pair) → is_pair p p ≡ true
 pair_refl p = ap (λ b. b && bytes_eq p.user p.user) (eq-eqb p.campaign p.campaign refl) ∙ bytes_refl p.user
 
 -- pairs that compare as one are one
-pair_same : (p q : Pair) → is_pair p q ≡ true → p ≡ q
+pub pair_same : (p q : Pair) → is_pair p q ≡ true → p ≡ q
 pair_same p q h =
     let (c, u) = and_parts (eqb p.campaign q.campaign) (bytes_eq p.user q.user) h in
     ap (λ n. pair_with n p.user) (eqb-true p.campaign q.campaign c) ∙ ap (pair_with q.campaign) (bytes_same p.user q.user u)
@@ -232,7 +232,7 @@ counted_expired c user seconds m (s ∷ rows) =
       counted_expired c user seconds m rows,
     )
 
-module _ (c : ℕ) (user : List ℕ) (seconds m : ℕ) (rows : List SaleRow) (links : List ℕ) (lasts : List (Pair × ℕ)) (f : ℕ) (h : AreChains f (pairs_of rows) links lasts) where
+module _ (c : ℕ) (user : List ℕ) (seconds m : ℕ) (rows : List SaleRow) (links : List ℕ) (lasts : Lists) (f : ℕ) (h : AreChains f (pairs_of rows) links lasts) where
   pub many_pairs : length (pairs_of rows) ≡ length rows
   many_pairs = length-map rows pair_of
 

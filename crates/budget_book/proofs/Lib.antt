@@ -6,5 +6,6 @@ pub mod Moving
 pub mod Oldest
 pub mod Ordered
 pub mod Placed
+pub mod Spread
 pub mod Standing
 pub mod Waiting

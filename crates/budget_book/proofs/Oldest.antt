@@ -14,7 +14,7 @@ use Rattle.budget_book.specs.Book.{AreForgotten, AreKnown, Funds, IsBook, NoneHe
 use Rattle.budget_book.specs.declared.sales.Gone.{Gone}
 use Rattle.budget_book.specs.declared.sales.SaleState.{SaleState}
 use Rattle.budget_book.specs.declared.sales.SaleState.TheVariants.{Held, Billed, Lost, Expired}
-use Rattle.budget_book.specs.LastSales.{Pair}
+use Rattle.budget_book.specs.LastSales.{Lists}
 use Rattle.budget_book.specs.Users.{AreChains, pair_of, pairs_of}
 use Rattle.budget_book.proofs.Chained.{chains_dropped}
 use Rattle.budget_book.proofs.Moving.{share, share_is, sum_added}
@@ -249,7 +249,7 @@ dropped_pairs (suc d) (s ∷ rows) = dropped_pairs d rows
 known_dropped : (n d : ℕ) (rows : List SaleRow) → AreKnown n rows → AreKnown n (drop d rows)
 known_dropped n d rows h k e w = subst (λ (s : SaleRow). (0 < s.campaign) × (s.campaign ≤ n)) (sym (get_or-drop d rows k e)) (h (d + k) e (omega (arith, w, length-drop d rows)))
 
-pub book_forgotten : (f d : ℕ) (accounts accounts2 : List Account) (rows : List SaleRow) (links : List ℕ) (dues : List Due) (lasts : List (Pair × ℕ)) (x : SaleRow)
+pub book_forgotten : (f d : ℕ) (accounts accounts2 : List Account) (rows : List SaleRow) (links : List ℕ) (dues : List Due) (lasts : Lists) (x : SaleRow)
     → IsBook f accounts rows links dues lasts → d ≤ length rows → f + d ≤ 2 ^ 62 → NoneHeld d rows → AreAccounts (drop d rows) accounts2
     → forgotten_of (funds_of_all accounts2) ≡ forgotten_of (funds_of_all accounts) + d → AreForgotten (take d rows) (funds_of_all accounts) (funds_of_all accounts2)
     → IsBook (f + d) accounts2 (drop d rows) (drop d links) dues lasts

@@ -10,10 +10,12 @@ use Rattle.std.specs.FinMap.Entries.{below_all, by_order, find, find-put, is_sor
 use Rattle.std.specs.Option.{unwrap_or}
 use Rattle.std.proofs.lemmas.Bool.{and_parts, false≢true}
 use Rattle.std.proofs.lemmas.Map.Text.{is_eq-slice_cmp}
-use Rattle.budget_book.specs.LastSales.{Pair, is_pair, number_of, pair_cmp, pair_text}
+use Rattle.std.specs.Prelude.{◌==◌}
+use Rattle.std.specs.Str.{bytes_eq}
+use Rattle.budget_book.specs.Tree.{Key, key_cmp, key_text, number_at}
 
-pub pairs_total : IsTotalOrder pair_cmp
-pairs_total = on_texts pair_text
+pub keys_total : IsTotalOrder key_cmp
+keys_total = on_texts key_text
 
 less_from : (o : Ordering) → is_lt o ≡ true → o ≡ Less
 less_from Less h = refl
@@ -126,15 +128,15 @@ to_true : (b : Bool) → T b → b ≡ true
 to_true true h = refl
 to_true false h = absurd h
 
-pub sorted_put : (p : Pair) (n : ℕ) (lasts : List (Pair × ℕ)) → is_sorted pair_cmp lasts ≡ true → is_sorted pair_cmp (put pair_cmp p n lasts) ≡ true
-sorted_put p n lasts h = to_true (is_sorted pair_cmp (put pair_cmp p n lasts)) (is_sorted-put pair_cmp pairs_total p n lasts (from_true (is_sorted pair_cmp lasts) h))
+pub sorted_put : (p : Key) (n : ℕ) (numbers : List (Key × ℕ)) → is_sorted key_cmp numbers ≡ true → is_sorted key_cmp (put key_cmp p n numbers) ≡ true
+sorted_put p n numbers h = to_true (is_sorted key_cmp (put key_cmp p n numbers)) (is_sorted-put key_cmp keys_total p n numbers (from_true (is_sorted key_cmp numbers) h))
 
 unwrapped : (b : Bool) (n : ℕ) (o : Option ℕ) → unwrap_or (cond b (Some n) o) 0 ≡ cond b n (unwrap_or o 0)
 unwrapped true n o = refl
 unwrapped false n o = refl
 
-pub number_put : (q p : Pair) (n : ℕ) (lasts : List (Pair × ℕ)) → number_of q (put pair_cmp p n lasts) ≡ cond (is_pair q p) n (number_of q lasts)
-number_put q p n lasts =
-    ap (λ o. unwrap_or o 0) (find-put pair_cmp pairs_total q p n lasts)
-    ∙ unwrapped (is_eq (pair_cmp q p)) n (find pair_cmp q lasts)
-    ∙ ap (λ b. cond b n (number_of q lasts)) (is_eq-slice_cmp (pair_text q) (pair_text p))
+pub number_put : (q p : Key) (n : ℕ) (numbers : List (Key × ℕ)) → number_at q (put key_cmp p n numbers) ≡ cond ((q.word == p.word) && ((q.campaign == p.campaign) && bytes_eq q.user p.user)) n (number_at q numbers)
+number_put q p n numbers =
+    ap (λ o. unwrap_or o 0) (find-put key_cmp keys_total q p n numbers)
+    ∙ unwrapped (is_eq (key_cmp q p)) n (find key_cmp q numbers)
+    ∙ ap (λ b. cond b n (number_at q numbers)) (is_eq-slice_cmp (key_text q) (key_text p))

@@ -21,7 +21,7 @@ use Rattle.budget_book.specs.Accounts.{AreAccounts, IsAccount, charge, fresh, wi
 use Rattle.budget_book.specs.Book.{IsBook, AreGoneFew, AreKnown, Funds, funds_of_all, funds_of, forgotten_of}
 use Rattle.budget_book.specs.Dues.{AreDues}
 use Rattle.budget_book.specs.Expiry.{IsExpiry}
-use Rattle.budget_book.specs.LastSales.{Pair, is_pair, number_of}
+use Rattle.budget_book.specs.LastSales.{Lists, Pair, is_pair, number_of}
 use Rattle.budget_book.specs.Users.{AreChains, IsLinked, pair_of, pairs_of}
 
 -- what stands in a vector after all its elements were lent
@@ -31,7 +31,7 @@ lent_back xs ys n e = take-append-le n ys (drop (length ys) xs) (omega arith) �
 pub many_campaigns : (accounts : List Account) → length (funds_of_all accounts) ≡ length accounts
 many_campaigns accounts = length-map accounts funds_of
 
-pub book_swept : (m n f : ℕ) (accounts accounts2 : List Account) (rows rows2 : List SaleRow) (links : List ℕ) (dues dues2 : List Due) (lasts : List (Pair × ℕ))
+pub book_swept : (m n f : ℕ) (accounts accounts2 : List Account) (rows rows2 : List SaleRow) (links : List ℕ) (dues dues2 : List Due) (lasts : Lists)
     → IsBook f accounts rows links dues lasts → IsExpiry m rows rows2 n → AreAccounts rows2 accounts2 → funds_of_all accounts2 ≡ funds_of_all accounts → AreDues f rows2 dues2
     → IsBook f accounts2 rows2 links dues2 lasts
 book_swept m n f accounts accounts2 rows rows2 links dues dues2 lasts b e h same d =
@@ -45,7 +45,7 @@ book_swept m n f accounts accounts2 rows rows2 links dues dues2 lasts b e h same
       chains = subst (λ pairs. AreChains f pairs links lasts) (sym e.pairs) b.chains;
     }
 
-pub book_gone_few : (f : ℕ) (accounts : List Account) (rows : List SaleRow) (links : List ℕ) (dues : List Due) (lasts : List (Pair × ℕ)) → IsBook f accounts rows links dues lasts → AreGoneFew (funds_of_all accounts)
+pub book_gone_few : (f : ℕ) (accounts : List Account) (rows : List SaleRow) (links : List ℕ) (dues : List Due) (lasts : Lists) → IsBook f accounts rows links dues lasts → AreGoneFew (funds_of_all accounts)
 book_gone_few f accounts rows links dues lasts b k d l =
     let one : gone_count (get_or (funds_of_all accounts) k d).gone ≤ forgotten_of (funds_of_all accounts) = get_or-le-sum_by (λ (p : Funds). gone_count p.gone) (funds_of_all accounts) k d l in
     omega (arith, one, b.counted, b.few_forgotten)
@@ -57,7 +57,7 @@ all_pushed P [] y h p (suc k) d w = absurd (omega arith)
 all_pushed P (x ∷ xs) y h p zero d w = h zero d (omega arith)
 all_pushed P (x ∷ xs) y h p (suc k) d w = all_pushed P xs y (λ j e v. h (suc j) e (omega arith)) p k d (omega arith)
 
-chains_linked : (f : ℕ) (rows : List SaleRow) (links : List ℕ) (lasts lasts2 : List (Pair × ℕ)) (y : SaleRow) (number before : ℕ) → number ≡ f + length rows + 1 → (o : Option Pair) → pair_of y ≡ o → IsLinked lasts lasts2 o number before
+chains_linked : (f : ℕ) (rows : List SaleRow) (links : List ℕ) (lasts lasts2 : Lists) (y : SaleRow) (number before : ℕ) → number ≡ f + length rows + 1 → (o : Option Pair) → pair_of y ≡ o → IsLinked lasts lasts2 o number before
     → AreChains f (pairs_of rows) links lasts → AreChains f (pairs_of (rows ++ y ∷ [])) (links ++ before ∷ []) lasts2
 chains_linked f rows links lasts lasts2 y number before is None group linked h =
     let all : pairs_of (rows ++ y ∷ []) ≡ pairs_of rows ++ None ∷ [] = map-append pair_of rows (y ∷ []) ∙ ap (λ o. pairs_of rows ++ o ∷ []) group in
@@ -71,7 +71,7 @@ chains_linked f rows links lasts lasts2 y number before is (Some g) group (was, 
     (chains_added f (pairs_of rows) links lasts lasts2 g before was (λ q. new q ∙ ap (λ k. cond (is_pair q g) k (number_of q lasts)) n) h)
 
 -- one more sale
-pub book_added : (f : ℕ) (accounts : List Account) (b e : Account) (rows : List SaleRow) (y : SaleRow) (links : List ℕ) (dues dues2 : List Due) (lasts lasts2 : List (Pair × ℕ)) (before k : ℕ)
+pub book_added : (f : ℕ) (accounts : List Account) (b e : Account) (rows : List SaleRow) (y : SaleRow) (links : List ℕ) (dues dues2 : List Due) (lasts lasts2 : Lists) (before k : ℕ)
     → IsBook f accounts rows links dues lasts → length rows < 4194304 → y.campaign ≡ k + 1 → k < length accounts
     → (get_or accounts k e).reserved + (get_or accounts k e).spent + charge y.state y.price ≤ (get_or accounts k e).budget
     → b ≡ with_sale y.state y.price (get_or accounts k e)
@@ -92,7 +92,7 @@ book_added f accounts b e rows y links dues dues2 lasts lasts2 before k h room n
     }
 
 -- a held sale changes to another state, in place
-pub book_settled : (f : ℕ) (accounts accounts2 : List Account) (rows : List SaleRow) (i : ℕ) (x : SaleRow) (to : SaleState) (links : List ℕ) (dues : List Due) (lasts : List (Pair × ℕ))
+pub book_settled : (f : ℕ) (accounts accounts2 : List Account) (rows : List SaleRow) (i : ℕ) (x : SaleRow) (to : SaleState) (links : List ℕ) (dues : List Due) (lasts : Lists)
     → IsBook f accounts rows links dues lasts → i < length rows → get_or rows i x ≡ x → is_held to ≡ false → AreAccounts (set rows i (in_state to x)) accounts2 → funds_of_all accounts2 ≡ funds_of_all accounts
     → IsBook f accounts2 (set rows i (in_state to x)) links dues lasts
 book_settled f accounts accounts2 rows i x to links dues lasts h l at other sums same =

@@ -1,5 +1,5 @@
 -- What contracts see of a book, and what is always true of one.
-use Rattle.std.specs.Prelude.{◌≡◌, false, ℕ, ◌+◌, ◌<◌, ◌≤◌, ◌^◌, List, length, map, sum_by}
+use Rattle.std.specs.Prelude.{◌≡◌, false, ℕ, ◌+◌, ◌*◌, ◌<◌, ◌≤◌, ◌^◌, List, length, map, sum_by}
 use Rattle.std.proofs.Common.{get_or}
 use Rattle.budget_book.specs.declared.account.Account.{Account}
 use Rattle.budget_book.specs.declared.dues.Due.{Due}
@@ -8,7 +8,7 @@ use Rattle.budget_book.specs.declared.sales.SaleRow.{SaleRow}
 use Rattle.budget_book.specs.Accounts.{AreAccounts}
 use Rattle.budget_book.specs.Dues.{AreDues}
 use Rattle.budget_book.specs.Sales.{gone_count, gone_with, is_held}
-use Rattle.budget_book.specs.LastSales.{Pair}
+use Rattle.budget_book.specs.LastSales.{Lists}
 use Rattle.budget_book.specs.Users.{AreChains, pairs_of}
 
 -- the budget of a campaign, and what is gone of it
@@ -22,6 +22,10 @@ pub record BookState : Type 0 where
   pub sales : List SaleRow
   pub sale_room : ℕ
   pub campaign_room : ℕ
+
+-- once there are lists for the users, there is room for any number of sales in them
+abbrev pub user_room : Lists → ℕ
+user_room lasts = length lasts * 2 ^ 32
 
 -- how many sales are forgotten
 abbrev pub forgotten_of : List Funds → ℕ
@@ -49,7 +53,7 @@ pub record AreForgotten (rows : List SaleRow) (old new : List Funds) : Type 0 wh
   pub many : length new ≡ length old
   pub each : (k : ℕ) (d : Funds) → k < length old → get_or new k d ≡ record { budget = (get_or old k d).budget; gone = gone_with (k + 1) (get_or old k d).gone rows }
 
-pub record IsBook (forgotten : ℕ) (accounts : List Account) (rows : List SaleRow) (links : List ℕ) (dues : List Due) (lasts : List (Pair × ℕ)) : Type 0 where
+pub record IsBook (forgotten : ℕ) (accounts : List Account) (rows : List SaleRow) (links : List ℕ) (dues : List Due) (lasts : Lists) : Type 0 where
   pub few : length rows ≤ 4194304
   pub counted : forgotten ≡ forgotten_of (funds_of_all accounts)
   pub few_forgotten : forgotten ≤ 2 ^ 62

@@ -4,7 +4,7 @@
 use Rattle.std.specs.Prelude.{◌≡◌, ℕ, zero, suc, ◌-◌, ◌<◌, if◌then◌else◌, List, length, map, Bool, false, Option, Some, None, option_map}
 use Rattle.std.proofs.Common.{get_or}
 use Rattle.budget_book.specs.declared.sales.SaleRow.{SaleRow}
-use Rattle.budget_book.specs.LastSales.{Pair, is_pair, number_of}
+use Rattle.budget_book.specs.LastSales.{Lists, Pair, is_pair, number_of}
 
 abbrev pub pair_with : ℕ → List ℕ → Pair
 pair_with c user = record { campaign = c; user = user }
@@ -27,12 +27,12 @@ last_below p pairs (suc k) = if is_with p (get_or pairs k None) then suc k else 
 
 -- links has for each sale, and lasts for all sales, the number of the last sale of a pair before; a
 -- number that is forgotten stands for none
-pub record AreChains (forgotten : ℕ) (pairs : List (Option Pair)) (links : List ℕ) (lasts : List (Pair × ℕ)) : Type 0 where
+pub record AreChains (forgotten : ℕ) (pairs : List (Option Pair)) (links : List ℕ) (lasts : Lists) : Type 0 where
   pub linked : length links ≡ length pairs
   pub each_link : (k : ℕ) (p : Pair) → k < length pairs → get_or pairs k None ≡ Some p → get_or links k 0 - forgotten ≡ last_below p pairs k
   pub each_last : (p : Pair) → number_of p lasts - forgotten ≡ last_below p pairs (length pairs)
 
 -- the sale of that number is the last of its pair, where it has one, and the number before is there
-abbrev pub IsLinked : List (Pair × ℕ) → List (Pair × ℕ) → Option Pair → ℕ → ℕ → Type 0
+abbrev pub IsLinked : Lists → Lists → Option Pair → ℕ → ℕ → Type 0
 IsLinked old new None number before = new ≡ old
 IsLinked old new (Some p) number before = (before ≡ number_of p old) × ((q : Pair) → number_of q new ≡ if is_pair q p then number else number_of q old)

@@ -31,12 +31,14 @@ pub(crate) fn append(
     requires row_room { rows.old.len < rows.old.cap }
     requires link_room { links.old.len < links.old.cap }
     requires due_room { dues.old.len < dues.old.cap }
+    requires trees { 0 < length lasts.old }
     ensures book { IsBook forgotten accounts.new rows.new.items links.new.items dues.new.items lasts.new }
     ensures rows { rows.new.items ≡ rows.old.items ++ row ∷ [] }
     ensures campaigns { funds_of_all accounts.new ≡ funds_of_all accounts.old }
     ensures row_room { (rows.new.cap ≡ rows.old.cap) × (rows.new.len ≡ rows.old.len + 1) }
     ensures link_room { (links.new.cap ≡ links.old.cap) × (links.new.len ≡ links.old.len + 1) }
     ensures due_room { (dues.old.cap ≤ dues.new.cap) × (dues.new.len ≤ dues.old.len + 1) }
+    ensures trees { length lasts.new ≡ length lasts.old }
 {
     let number = forgotten + rows.len() as u64 + 1;
     let before = link(lasts, row.campaign, spare, number);
@@ -50,7 +52,9 @@ pub(crate) fn append(
 // Makes the sale of that number the last of its campaign and user, where it has one, and answers which
 // was before it.
 fn link(lasts: &mut LastSales, campaign: u32, spare: Option<Spare>, number: u64) -> u64
-    ensures { IsLinked lasts.old lasts.new (option_map (pair_with campaign) spare) number result }
+    requires { 0 < length lasts.old }
+    ensures linked { IsLinked lasts.old lasts.new (option_map (pair_with campaign) spare) number result }
+    ensures trees { length lasts.new ≡ length lasts.old }
 {
     match spare {
         None => 0,

@@ -36,11 +36,11 @@ pub struct Book {
 
 impl Model for Book {
     ghost use Rattle.std.specs.Prelude.{◌-◌, min};
-    ghost use Rattle.budget_book.specs.Book.{BookState, IsBook, funds_of_all};
+    ghost use Rattle.budget_book.specs.Book.{BookState, IsBook, funds_of_all, user_room};
 
     ghost Value = { BookState };
 
-    ghost view = { λ b. record { campaigns = funds_of_all b.accounts.items; sales = b.rows.items; sale_room = min (b.rows.cap - b.rows.len) (min (b.links.cap - b.links.len) (b.dues.cap - b.dues.len)); campaign_room = b.accounts.cap - b.accounts.len } };
+    ghost view = { λ b. record { campaigns = funds_of_all b.accounts.items; sales = b.rows.items; sale_room = min (b.rows.cap - b.rows.len) (min (b.links.cap - b.links.len) (min (b.dues.cap - b.dues.len) (user_room b.lasts))); campaign_room = b.accounts.cap - b.accounts.len } };
 
     ghost invariant = { λ b. IsBook b.forgotten b.accounts.items b.rows.items b.links.items b.dues.items b.lasts };
 }
@@ -56,7 +56,7 @@ impl Book {
             rows: Vec::new(alloc),
             links: Vec::new(alloc),
             dues: VecDeque::new(alloc),
-            lasts: LastSales::new(),
+            lasts: LastSales::new(alloc),
         }
     }
 
@@ -73,6 +73,7 @@ impl Book {
         self.rows.reserve(sales as usize)?;
         self.links.reserve(sales as usize)?;
         self.dues.reserve(sales as usize)?;
+        self.lasts.reserve()?;
         Ok(())
     }
 

@@ -11,6 +11,7 @@ mod book;
 mod campaigns;
 mod dues;
 mod forgetting;
+mod hash;
 mod last_sales;
 mod reports;
 mod sales;

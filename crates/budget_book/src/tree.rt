@@ -1,13 +1,12 @@
 ghost use Rattle.std.specs.Prelude.{◌≡◌, true, [], ◌∷◌};
 ghost use Rattle.std.specs.FinMap.Entries.{is_sorted, put};
-ghost use Rattle.budget_book.specs.LastSales.{Pair, number_of, pair_cmp};
-ghost use Rattle.budget_book.specs.Tree.{entries, entries_at, pair_in};
+ghost use Rattle.budget_book.specs.Tree.{Key, entries, entries_at, key_cmp, key_in, number_at};
 
 use rtb_num::Txt;
 use std::cmp::Ordering;
 use std::mem;
 
-// A balanced tree in order of campaigns and users.
+// A balanced tree in order of words, campaigns and users.
 #[cycle(tree)]
 #[derive(Drop)]
 pub(crate) enum Tree {
@@ -18,39 +17,43 @@ pub(crate) enum Tree {
 #[cycle(tree)]
 #[derive(Drop)]
 pub(crate) struct Node {
-    pub left: Tree,
+    // A word of the hash of the campaign and the user. Most nodes differ in it, and then their users are
+    // not looked at.
+    pub word: u16,
+    // How many levels each side has.
+    pub left_height: u8,
+    pub right_height: u8,
     pub campaign: u32,
+    pub left: Tree,
+    pub right: Tree,
     pub user: Txt,
     // The number of the last sale of the campaign to the user.
     pub number: u64,
-    // How many levels are at most below it, itself counted.
-    pub height: u8,
-    pub right: Tree,
 }
 
 // The number of the last sale of the campaign to the user, or 0.
 #[tactic(auto, using(crate::proofs::Placed::left_sorted, crate::proofs::Placed::right_sorted, crate::proofs::Placed::number_left, crate::proofs::Placed::number_here, crate::proofs::Placed::number_right))]
-pub(crate) fn number_in(tree: &Tree, campaign: u32, user: &[u8]) -> u64
-    requires { is_sorted pair_cmp (entries tree.now) ≡ true }
-    ensures { result ≡ number_of (record { campaign = campaign; user = user.now }) (entries tree.now) }
+pub(crate) fn number_in(tree: &Tree, word: u16, campaign: u32, user: &[u8]) -> u64
+    requires { is_sorted key_cmp (entries tree.now) ≡ true }
+    ensures { result ≡ number_at (record { word = word; campaign = campaign; user = user.now }) (entries tree.now) }
 {
     match tree {
         Tree::Empty => 0,
-        Tree::Fork(node) => match order(campaign, user, node) {
-            Ordering::Less => number_in(&node.left, campaign, user),
+        Tree::Fork(node) => match order(word, campaign, user, node) {
+            Ordering::Less => number_in(&node.left, word, campaign, user),
             Ordering::Equal => node.number,
-            Ordering::Greater => number_in(&node.right, campaign, user),
+            Ordering::Greater => number_in(&node.right, word, campaign, user),
         },
     }
 }
 
-// Puts in the spare node, or its number where the pair is there. The number that was there, or 0.
+// Puts in the spare node, or its number where the key is there. The number that was there, or 0.
 #[cycle(putting)]
 pub(crate) fn put_in(tree: &mut Tree, spare: Box<Node>) -> u64
-    requires sorted { is_sorted pair_cmp (entries tree.old) ≡ true }
-    requires alone { entries_at spare.value ≡ (pair_in spare.value, spare.value.number) ∷ [] }
-    ensures was { result ≡ number_of (pair_in spare.value) (entries tree.old) }
-    ensures put { entries tree.new ≡ put pair_cmp (pair_in spare.value) spare.value.number (entries tree.old) }
+    requires sorted { is_sorted key_cmp (entries tree.old) ≡ true }
+    requires alone { entries_at spare.value ≡ (key_in spare.value, spare.value.number) ∷ [] }
+    ensures was { result ≡ number_at (key_in spare.value) (entries tree.old) }
+    ensures put { entries tree.new ≡ put key_cmp (key_in spare.value) spare.value.number (entries tree.old) }
 {
     match mem::replace(tree, Tree::Empty) {
         Tree::Empty => {
@@ -68,15 +71,23 @@ pub(crate) fn put_in(tree: &mut Tree, spare: Box<Node>) -> u64
 #[cycle(putting)]
 #[tactic(auto, using(crate::proofs::Placed::left_sorted, crate::proofs::Placed::right_sorted, crate::proofs::Placed::number_left, crate::proofs::Placed::number_here, crate::proofs::Placed::number_right, crate::proofs::Placed::put_left, crate::proofs::Placed::put_at, crate::proofs::Placed::put_right))]
 fn put_below(node: &mut Node, spare: Box<Node>) -> u64
-    requires sorted { is_sorted pair_cmp (entries_at node.old) ≡ true }
-    requires alone { entries_at spare.value ≡ (pair_in spare.value, spare.value.number) ∷ [] }
-    ensures was { result ≡ number_of (pair_in spare.value) (entries_at node.old) }
-    ensures put { entries_at node.new ≡ put pair_cmp (pair_in spare.value) spare.value.number (entries_at node.old) }
+    requires sorted { is_sorted key_cmp (entries_at node.old) ≡ true }
+    requires alone { entries_at spare.value ≡ (key_in spare.value, spare.value.number) ∷ [] }
+    ensures was { result ≡ number_at (key_in spare.value) (entries_at node.old) }
+    ensures put { entries_at node.new ≡ put key_cmp (key_in spare.value) spare.value.number (entries_at node.old) }
 {
-    match order(spare.campaign, spare.user.as_bytes(), node) {
-        Ordering::Less => put_in(&mut node.left, spare),
+    match order(spare.word, spare.campaign, spare.user.as_bytes(), node) {
+        Ordering::Less => {
+            let was = put_in(&mut node.left, spare);
+            node.left_height = height(&node.left);
+            was
+        }
         Ordering::Equal => mem::replace(&mut node.number, spare.number),
-        Ordering::Greater => put_in(&mut node.right, spare),
+        Ordering::Greater => {
+            let was = put_in(&mut node.right, spare);
+            node.right_height = height(&node.right);
+            was
+        }
     }
 }
 
@@ -85,18 +96,16 @@ fn put_below(node: &mut Node, spare: Box<Node>) -> u64
 fn balance(mut node: Box<Node>) -> Box<Node>
     ensures { entries_at result.value ≡ entries_at node.value }
 {
-    let (left, right) = (height(&node.left), height(&node.right));
-    if left > right.saturating_add(1) {
+    if node.left_height > node.right_height.saturating_add(1) {
         let tree = mem::replace(&mut node.left, Tree::Empty);
         node.left = lean_left(tree);
         return raise_left(node);
     }
-    if right > left.saturating_add(1) {
+    if node.right_height > node.left_height.saturating_add(1) {
         let tree = mem::replace(&mut node.right, Tree::Empty);
         node.right = lean_right(tree);
         return raise_right(node);
     }
-    measure(&mut node);
     node
 }
 
@@ -107,7 +116,7 @@ fn lean_left(tree: Tree) -> Tree
     match tree {
         Tree::Empty => Tree::Empty,
         Tree::Fork(node) => {
-            if height(&node.left) < height(&node.right) {
+            if node.left_height < node.right_height {
                 Tree::Fork(raise_right(node))
             } else {
                 Tree::Fork(node)
@@ -123,7 +132,7 @@ fn lean_right(tree: Tree) -> Tree
     match tree {
         Tree::Empty => Tree::Empty,
         Tree::Fork(node) => {
-            if height(&node.right) < height(&node.left) {
+            if node.right_height < node.left_height {
                 Tree::Fork(raise_left(node))
             } else {
                 Tree::Fork(node)
@@ -140,9 +149,9 @@ fn raise_left(mut node: Box<Node>) -> Box<Node>
         Tree::Empty => node,
         Tree::Fork(mut up) => {
             node.left = mem::replace(&mut up.right, Tree::Empty);
-            measure(&mut node);
+            node.left_height = up.right_height;
+            up.right_height = node.height();
             up.right = Tree::Fork(node);
-            measure(&mut up);
             up
         }
     }
@@ -156,34 +165,36 @@ fn raise_right(mut node: Box<Node>) -> Box<Node>
         Tree::Empty => node,
         Tree::Fork(mut up) => {
             node.right = mem::replace(&mut up.left, Tree::Empty);
-            measure(&mut node);
+            node.right_height = up.left_height;
+            up.left_height = node.height();
             up.left = Tree::Fork(node);
-            measure(&mut up);
             up
         }
     }
 }
 
-// Takes the node's height from its sides.
-fn measure(node: &mut Node)
-    ensures { entries_at node.new ≡ entries_at node.old }
-{
-    let height = height(&node.left).max(height(&node.right));
-    node.height = height.saturating_add(1);
-}
-
 fn height(tree: &Tree) -> u8 {
     match tree {
         Tree::Empty => 0,
-        Tree::Fork(node) => node.height,
+        Tree::Fork(node) => node.height(),
     }
 }
 
-// How the campaign and the user stand to those of the node.
-fn order(campaign: u32, user: &[u8], node: &Node) -> Ordering
-    ensures { result ≡ pair_cmp (record { campaign = campaign; user = user.now }) (pair_in node.now) }
+impl Node {
+    // How many levels it has, itself counted.
+    fn height(&self) -> u8 {
+        self.left_height.max(self.right_height).saturating_add(1)
+    }
+}
+
+// How the word, the campaign and the user stand to those of the node.
+fn order(word: u16, campaign: u32, user: &[u8], node: &Node) -> Ordering
+    ensures { result ≡ key_cmp (record { word = word; campaign = campaign; user = user.now }) (key_in node.now) }
 {
-    campaign
-        .cmp(&node.campaign)
-        .then(user.cmp(node.user.as_bytes()))
+    match word.cmp(&node.word) {
+        Ordering::Equal => campaign
+            .cmp(&node.campaign)
+            .then(user.cmp(node.user.as_bytes())),
+        other => other,
+    }
 }

@@ -1,7 +1,7 @@
 use Rattle.std.proofs.Common.{◌≡◌, ℕ, ◌+◌, ◌-◌, ◌<◌, ◌≤◌, Bool, true, false, List, length, get_or, refl, sym, ◌∙◌, ap, arith, suc, take, [], None}
 use Rattle.std.specs.Prelude.{count_by}
 use mir.Val.{bool_byte}
-use Rattle.budget_book.specs.LastSales.{Pair}
+use Rattle.budget_book.specs.LastSales.{Lists}
 use Rattle.budget_book.specs.Users.{pair_with, pairs_of, last_below, AreChains}
 use Rattle.budget_book.specs.declared.sales.SaleRow.{SaleRow}
 use Rattle.budget_book.specs.declared.sales.SaleState.TheVariants.{Held}
@@ -13,7 +13,7 @@ byte true = refl
 byte false = refl
 
 -- one place of the chain, from the invariant
-step : (c : ℕ) (user : List ℕ) (seconds m : ℕ) (rows : List SaleRow) (links : List ℕ) (lasts : List (Pair × ℕ)) (f : ℕ) → AreChains f (pairs_of rows) links lasts → (n : ℕ) (d : SaleRow) → f < n
+step : (c : ℕ) (user : List ℕ) (seconds m : ℕ) (rows : List SaleRow) (links : List ℕ) (lasts : Lists) (f : ℕ) → AreChains f (pairs_of rows) links lasts → (n : ℕ) (d : SaleRow) → f < n
     → ((k : ℕ) × (k ≤ length rows) × (n - f ≡ last_below (pair_with c user) (pairs_of rows) k))
     → (n - f - 1 < length rows) × (n - f - 1 < length links)
     × (count_by (is_counted c user seconds m) (take (n - f) rows) ≡ pick (is_counted c user seconds m (get_or rows (n - f - 1) d)) 1 0 + count_by (is_counted c user seconds m) (take (get_or links (n - f - 1) 0 - f) rows))
