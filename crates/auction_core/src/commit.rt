@@ -70,8 +70,8 @@ impl Core {
         ensures campaign_room { self.old.campaign_room ≤ self.new.campaign_room }
     {
         let mut rest = holdings.into_vec();
-        while !rest.is_empty() {
-            let holding = rest.remove(0);
+        rest.reverse();
+        while let Some(holding) = rest.pop() {
             self.hold(holding, moment);
         }
     }
