@@ -1,13 +1,12 @@
 -- Words that are campaigns.
 use Rattle.std.proofs.Common.{◌≡◌, ℕ, ◌+◌, ◌<◌, ◌≤◌, nat_le, List, [], ◌∷◌, ◌++◌, length, take, drop, get_or, Bool, true, false, cond, Option, None, Some, is_some, option_map, option_and_then, refl, sym, ap, ◌∙◌, arith, append_assoc, take-append-drop, length-take}
-use Rattle.std.specs.Prelude.{IsSome}
+use Rattle.std.specs.Prelude.{IsSome, unwrap_or}
 use Rattle.std.specs.List.{after_first, before_first, enumerate_from, list_all, list_any}
 use Rattle.std.proofs.lemmas.Bool.{and_parts, leb-true}
 use Rattle.std.proofs.lemmas.List.{map_push, take_more}
 use Rattle.exchange_run.specs.Words.{Campaign, amount_of, bid_of, campaign_of, campaigns_of, domain_of, is_at, is_within}
-use Rattle.exchange_run.specs.Numbered.{AreNumbered, is_short, campaigns_only}
+use Rattle.exchange_run.specs.Making.{campaigns_named, is_short}
 use Rattle.exchange_run.proofs.Each as each
-use Rattle.exchange_run.proofs.Sales.{numbered_push}
 
 pub all_are : (words : List (List ℕ)) → list_all (λ word. is_some (campaign_of word)) words ≡ is_some (campaigns_of words)
 all_are words = each.all_are campaign_of words
@@ -68,14 +67,11 @@ limits (Some n) (Some o) c some short e =
 pub in_limits : (word : List ℕ) (c : Campaign) → Some c ≡ campaign_of word → (1 ≤ c.bid) × (is_short c.domain ≡ true)
 in_limits word c e = limits (bid_of word) (domain_of word) c (at_least_one (amount_of (before_first is_at word))) (short_domain word) e
 
--- ---- numbers
+-- ---- the campaigns of words that are campaigns
 
--- one numbered campaign more
-pub numbered_more : (ps : List (ℕ × Campaign)) (k : ℕ) (c : Campaign) → AreNumbered ps → k ≡ 1 + length (campaigns_only ps) → AreNumbered (ps ++ (k, c) ∷ [])
-numbered_more ps k c e n =
-    ap (λ l. l ++ (k, c) ∷ []) e ∙ ap (λ (m : ℕ). enumerate_from 1 (campaigns_only ps) ++ (m, c) ∷ []) n ∙ sym (numbered_push 1 (campaigns_only ps) c)
-    ∙ ap (enumerate_from 1) (sym (map_push (λ (p : ℕ × Campaign). p.1) ps (k, c)))
+some_list : (o : Option (List Campaign)) → IsSome o → o ≡ Some (unwrap_or o [])
+some_list None h = cc
+some_list (Some cs) h = refl
 
--- as many as words
-pub as_many : (words : List (List ℕ)) (k : ℕ) (ps : List (ℕ × Campaign)) → k < length words → campaigns_of (take k words) ≡ Some (campaigns_only ps) → length (campaigns_only ps) ≡ k
-as_many words k ps lt e = each.each_length campaign_of (take k words) (campaigns_only ps) e ∙ omega (arith, length-take k words)
+pub are_named : (words : List (List ℕ)) → IsSome (campaigns_of words) → campaigns_of words ≡ Some (campaigns_named words)
+are_named words h = some_list (campaigns_of words) h

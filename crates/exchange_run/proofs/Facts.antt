@@ -8,7 +8,7 @@ use Rattle.campaign.specs.declared.parts.FactParts.{FactParts}
 use Rattle.campaign.specs.declared.parts.FactFault.TheVariants.{BidZero, TextLength}
 use Rattle.campaign.specs.declared.field.CampField.TheVariants.{Adm, Adomain, Crid, Seat}
 use Rattle.campaign.specs.Faults.{ok_unless, fact_faults, fault_unless, is_text}
-use Rattle.exchange_run.specs.Numbered.{facts_of}
+use Rattle.exchange_run.specs.Exchange.{facts_of}
 
 -- a number has 1 to 10 digits
 digits : (n : ℕ) → n < 2 ^ 32 → length (decimal n) ≤ 10

@@ -1,11 +1,9 @@
+pub mod Additions
+pub mod Answering
 pub mod Campaigns
 pub mod Each
 pub mod Endings
 pub mod Facts
-pub mod Found
 pub mod Places
-pub mod Sales
-pub mod Texts
 pub mod Replies
 pub mod Wanted
-pub mod Winners

@@ -1,5 +1,5 @@
 -- Which reply the reading of a text leads to.
-use Rattle.std.proofs.Common.{◌≡◌, refl, ℕ, ◌≤◌, Bool, true, false, cond, subst, List, [], ◌∷◌, ◌⊎◌, inl, inr, length, Some, Result, Ok, Err, IfOk, OnOk, sym, ap, ◌∙◌, arith}
+use Rattle.std.proofs.Common.{◌≡◌, refl, ℕ, ◌≤◌, subst, List, [], ◌∷◌, ◌⊎◌, inl, inr, length, Result, Ok, Err, IfOk, OnOk, sym, ap, ◌∙◌}
 use Rattle.exact_json.specs.Tree.{Tree}
 use Rattle.exact_json.specs.declared.fault.JsonFault.{JsonFault}
 use Rattle.exact_json.specs.declared.fault.JsonFault.TheVariants.{Memory}
@@ -10,15 +10,11 @@ use Rattle.rtb_read.specs.Request.{request_faults, request_from}
 use Rattle.rtb_read.specs.declared.fault.ReqFault.{ReqFault}
 use Rattle.rtb_read.specs.declared.fault.ReqFault.TheVariants.{Memory as Unread}
 use Rattle.json_fields.specs.Answers.{IsFirst}
-use Rattle.exchange_run.specs.Words.{Campaign, campaign_of, campaigns_of}
+use Rattle.exchange_run.specs.Words.{Campaign}
 use Rattle.refusal_text.specs.Refusals.{json_fault_text, request_fault_text}
 use Rattle.exchange_run.specs.Answer.{IsReply, faulty, max_input, refusal_of, reply_by, reply_to, said, too_large, tree_reply}
-use Rattle.exchange_run.specs.Unbuilt.{is_unbuilt}
 use Rattle.rtb_io.specs.declared.status.Status.TheVariants.{Done, Refused}
-use Rattle.exchange_run.specs.Numbered.{campaigns_only}
 use Rattle.exchange_run.specs.declared.try_command.Reply.{Reply}
-use Rattle.exchange_run.proofs.Each.{each_length}
-use Rattle.std.proofs.lemmas.List.{length-map}
 
 -- of a text whose request has no fault
 pub accepted : {E : Type 0} (cs : List Campaign) (t : Tree) (r : BidRequest) (reply : Result Reply E) → request_faults t ≡ [] → r ≡ request_from t
@@ -48,20 +44,12 @@ pub refused : {E : Type 0} (cs : List Campaign) (bytes : List ℕ) (reply : Resu
 refused cs bytes (Ok x) fault le explained e other = faulty le fault other explained e
 refused cs bytes (Err f) fault le explained e other = e
 
--- as many campaigns as words
-pub few : (words : List (List ℕ)) (ps : List (ℕ × Campaign)) → Some (campaigns_only ps) ≡ campaigns_of words → length words ≤ 64 → length ps ≤ 64
-few words ps e le = omega (arith, each_length campaign_of words (campaigns_only ps) (sym e), length-map ps (λ (p : ℕ × Campaign). p.1))
-
 -- a reply is a sale or a refusal
 abbrev Ends : Reply → Type 0
 Ends reply = (reply.status ≡ Done) ⊎ (reply.status ≡ Refused)
 
-either_ends : (refused : Bool) (a b : Reply) → Ends a → Ends b → Ends (cond refused a b)
-either_ends true a b h k = h
-either_ends false a b h k = k
-
 by_faults : (cs : List Campaign) (fs : List ReqFault) (r : BidRequest) → Ends (reply_by cs fs r)
-by_faults cs [] r = either_ends (is_unbuilt r) _ _ (inr refl) (inl refl)
+by_faults cs [] r = inl refl
 by_faults cs (f ∷ fs) r = inr refl
 
 pub ends : (cs : List Campaign) (bytes : List ℕ) (reply : Reply) → IsReply cs bytes reply → (reply.status ≡ Done) ⊎ (reply.status ≡ Refused)

@@ -1,5 +1,5 @@
 -- What `try` answers, and what a whole run does.
-use Rattle.std.specs.Prelude.{◌≡◌, ◌≢◌, ℕ, ◌<◌, ◌≤◌, ◌⊎◌, ◌==◌, List, [], ◌∷◌, ◌++◌, if◌then◌else◌, length, Option, None, Some, IsSome, codes}
+use Rattle.std.specs.Prelude.{◌≡◌, ◌≢◌, ℕ, ◌<◌, ◌≤◌, ◌⊎◌, List, [], ◌∷◌, ◌++◌, length, Option, None, Some, IsSome, codes}
 use Rattle.rtb_base.specs.Faults.{Rose}
 use Rattle.rtb_io.specs.Statuses.{code_of}
 use Rattle.rtb_io.specs.declared.status.Status.{Status}
@@ -15,27 +15,21 @@ use Rattle.rtb_types.specs.declared.request.BidRequest.{BidRequest}
 use Rattle.rtb_read.specs.Request.{request_faults, request_from}
 use Rattle.rtb_read.specs.declared.fault.ReqFault.{ReqFault}
 use Rattle.exchange_run.specs.Words.{Campaign, command_of}
-use Rattle.exchange_run.specs.Auction.{Sale, sales_of}
+use Rattle.exchange_run.specs.Exchange.{line_for, reply_at_opening}
 use Rattle.refusal_text.specs.Refusals.{error_text, json_fault_text, request_fault_text}
-use Rattle.exchange_run.specs.Unbuilt.{is_unbuilt}
 use Rattle.exchange_run.specs.declared.try_command.Reply.{Reply}
-use Rattle.exchange_run.specs.Response.{response_text}
 
 -- the longest input that is taken
 abbrev pub max_input : ℕ
 max_input = 262144
 
--- the sales, or `no-bid` where nothing is sold
-abbrev pub sold_line : BidRequest → List Sale → List ℕ
-sold_line r sales = if length sales == 0 then codes "no-bid" else response_text r.id sales
-
 -- a refusal
 abbrev pub refusal_of : List ℕ → Reply
 refusal_of body = record { status = status.Refused; line = body }
 
--- what is sold, or that this stage has no rules for the request
+-- what the exchange of the campaigns answers to the request
 abbrev pub reply_to : List Campaign → BidRequest → Reply
-reply_to campaigns r = if is_unbuilt r then refusal_of (error_text (codes "not-built")) else record { status = status.Done; line = sold_line r (sales_of campaigns r) }
+reply_to campaigns r = record { status = status.Done; line = line_for r (reply_at_opening campaigns r) }
 
 -- the first fault is refused; without one the request is sold
 abbrev pub reply_by : List Campaign → List ReqFault → BidRequest → Reply

@@ -1,9 +1,7 @@
 pub mod Each
 pub mod Explain
 pub mod Words
-pub mod Auction
-pub mod Numbered
-pub mod Response
-pub mod Unbuilt
+pub mod Exchange
+pub mod Making
 pub mod Answer
 pub mod View

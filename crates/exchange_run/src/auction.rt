@@ -1,216 +1,111 @@
-ghost use Rattle.std.specs.Prelude.{◌≡◌, ◌==◌, ◌<◌, ◌≤◌, ◌&&◌, ◌++◌, ℕ, true, nat_le, is_some, find, length, map, option_map, option_to_list, IfOk, IfSome, IsTrue, OnOk};
-ghost use Rattle.std.specs.List.{filter_map, list_all, list_any};
-ghost use Rattle.clearing.specs.Clearing.{is_fit, outcome};
-ghost use Rattle.conj_index.specs.Content.{IsIndexOf};
-ghost use Rattle.exchange_run.specs.Auction.{sale_by, sales_of, terms_of};
-ghost use Rattle.exchange_run.specs.Numbered.{AreNumbered, targets_of, campaigns_only, offer_at, offer_numbered};
-ghost use Rattle.exchange_run.specs.View.{sale_view};
+// What the exchange answers to a bid request.
+ghost use Rattle.std.specs.Prelude.{◌≡◌, ◌≤◌, ◌<◌, ◌^◌, false, length, IfOk, IsSome, IsTrue};
+ghost use Rattle.auction_core.specs.Draft.{found_of, is_simple, is_valid_command};
+ghost use Rattle.exchange_run.specs.Exchange.{line_for, reply_at_opening};
+ghost use Rattle.exchange_run.specs.Making.{campaigns_named, first_reply};
+ghost use Rattle.exchange_run.specs.Words.{campaigns_of};
+ghost use Rattle.plain_exchange.specs.declared.commands.Command.TheVariants.{Auction};
+ghost use Rattle.plain_exchange.specs.Step.{step};
+ghost use Rattle.rtb_types.specs.declared.request.BidRequest.{BidRequest as Request};
+ghost use Rattle.rtb_types.specs.Valid.{is_valid};
 
-use crate::numbered::NumberedCampaign;
-use assign::assignment;
-use clearing::{Offer, PriceKind, Terms, Win, clear};
-use conj_index::{Builder, Index, IndexFault};
+use crate::opening::add_campaigns;
+use auction_core::{Command, Core, Reply};
+use core_index::{index_of_live, reached_by_index};
 use rtb_base::Steps;
-use rtb_num::{Micros, Txt};
-use rtb_types::{BidRequest, Imp};
+use rtb_num::{List, Txt};
+use rtb_response::write_response;
+use rtb_types::BidRequest;
 use std::alloc::{AllocError, Global};
 use std::marker::Brand;
 use std::sync::ledger::{Blank, Ledger};
 
-/// A sale of an impression.
-#[derive(Debug, Drop)]
-pub(crate) struct SoldImp<'a> {
-    /// The impression's `id`.
-    pub imp: &'a Txt,
-    /// The winner.
-    pub campaign: &'a NumberedCampaign,
-    /// Micro-dollars per thousand impressions.
-    pub price: Micros,
-}
+// For how many milliseconds a sale is held.
+const TTL: u64 = 300_000;
 
-/// Sells the impressions of the request one after the other. The steps of the index are not counted.
-pub(crate) fn sell<'a>(
+/// The bid response of the exchange with the words' campaigns to the request, or `no-bid`.
+pub(crate) fn auction_line(
     alloc: Global,
-    campaigns: &'a [NumberedCampaign],
-    request: &'a BidRequest,
-) -> Result<Vec<SoldImp<'a>>, AllocError>
-    requires few { length campaigns.now ≤ 64 }
-    requires numbered { AreNumbered campaigns.now }
-    ensures { IfOk result (λ sold. map sale_view sold.items ≡ sales_of (campaigns_only campaigns.now) request.now) }
+    words: &[Txt],
+    request: BidRequest,
+) -> Result<Txt, AllocError>
+    requires campaigns { IsSome (campaigns_of words.now) }
+    requires few { length words.now ≤ 64 }
+    requires valid { IsTrue (is_valid request) }
+    ensures { IfOk result (λ t. t ≡ line_for request (reply_at_opening (campaigns_named words.now) request)) }
 {
-    sell_counted::<Brand>(alloc, campaigns, request, Blank::new(1))
+    let command = Command::Auction(request);
+    command_line(alloc, words, &command)
 }
 
-fn sell_counted<'a, L: Ledger>(
+// The same, to the request as a command.
+fn command_line(alloc: Global, words: &[Txt], command: &Command) -> Result<Txt, AllocError>
+    requires campaigns { IsSome (campaigns_of words.now) }
+    requires few { length words.now ≤ 64 }
+    requires valid { IsTrue (is_valid_command command.now) }
+    requires auction { is_simple command.now ≡ false }
+    ensures { (r : Request) → command.now ≡ Auction r → IfOk result (λ t. t ≡ line_for r (reply_at_opening (campaigns_named words.now) r)) }
+{
+    let reply = first_reply(alloc, words, command)?;
+    line_to(alloc, command, &reply)
+}
+
+fn line_to(alloc: Global, command: &Command, reply: &Reply) -> Result<Txt, AllocError>
+    requires auction { is_simple command.now ≡ false }
+    ensures { (r : Request) → command.now ≡ Auction r → IfOk result (λ t. t ≡ line_for r reply.now) }
+{
+    match command {
+        Command::Auction(request) => line_for(alloc, request, reply),
+        _ => unreachable!(),
+    }
+}
+
+fn line_for(alloc: Global, request: &BidRequest, reply: &Reply) -> Result<Txt, AllocError>
+    ensures { IfOk result (λ t. t ≡ line_for request.now reply.now) }
+{
+    match reply {
+        Reply::Sold(sold) => write_response(alloc, request, sold, None),
+        _ => Txt::from_slice(alloc, b"no-bid"),
+    }
+}
+
+// The reply to the first command.
+fn first_reply(alloc: Global, words: &[Txt], command: &Command) -> Result<Reply, AllocError>
+    requires campaigns { IsSome (campaigns_of words.now) }
+    requires few { length words.now ≤ 64 }
+    requires valid { IsTrue (is_valid_command command.now) }
+    ensures { IfOk result (λ r. r ≡ first_reply (campaigns_named words.now) command.now) }
+{
+    let mut core = Core::new(alloc, TTL);
+    add_campaigns(alloc, &mut core, words)?;
+    reply_of(alloc, core, command)
+}
+
+// The exchange's reply to the command, which comes at moment 0.
+fn reply_of(alloc: Global, core: Core, command: &Command) -> Result<Reply, AllocError>
+    requires valid { IsTrue (is_valid_command command.now) }
+    requires few { core.edits < 2 ^ 63 }
+    ensures { IfOk result (λ r. r ≡ (step core.ttl 0 core.state command.now).reply) }
+{
+    let mut core = core;
+    let found = found::<Brand>(alloc, &core, command, Blank::new(1))?;
+    let draft = core.prepare(alloc, command, found.as_slice(), 0)?;
+    Ok(core.commit(draft))
+}
+
+// The campaigns that the command's impressions reach. The steps of the index are not counted.
+fn found<L: Ledger>(
     alloc: Global,
-    campaigns: &'a [NumberedCampaign],
-    request: &'a BidRequest,
+    core: &Core,
+    command: &Command,
     blank: Blank,
-) -> Result<Vec<SoldImp<'a>>, AllocError>
+) -> Result<Vec<List<u32>>, AllocError>
     requires name { blank.name ≡ L.name }
     requires parts { blank.parts ≡ L.parts }
     requires some { 0 < blank.parts }
-    requires few { length campaigns.now ≤ 64 }
-    requires numbered { AreNumbered campaigns.now }
-    ensures { IfOk result (λ sold. map sale_view sold.items ≡ sales_of (campaigns_only campaigns.now) request.now) }
+    ensures { IfOk result (λ found. found.items ≡ found_of core.now.state command.now) }
 {
     let mut steps = Steps::<L>::new(blank);
-    let index = index_of(alloc, campaigns, &mut steps)?;
-    let mut offers = Vec::with_capacity(alloc, campaigns.len())?;
-    let mut sold = Vec::with_capacity(alloc, request.imps.len())?;
-    for (place, imp) in request.imps.as_slice().iter().enumerate() {
-        let assignment = assignment(alloc, request, place)?;
-        let found = index.find(alloc, &assignment, &mut steps)?;
-        collect_offers(&mut offers, campaigns, found.as_slice(), imp)?;
-        sell_imp(&mut sold, campaigns, offers.as_slice(), imp)?;
-    }
-    Ok(sold)
-}
-
-// The index of the campaigns' targets.
-fn index_of<L: Ledger>(
-    alloc: Global,
-    campaigns: &[NumberedCampaign],
-    steps: &mut Steps<L>,
-) -> Result<Index, AllocError>
-    requires few { length campaigns.now ≤ 64 }
-    requires numbered { AreNumbered campaigns.now }
-    ensures { IfOk result (IsIndexOf (targets_of campaigns.now)) }
-{
-    let builder = builder_of(alloc, campaigns, steps)?;
-    match Index::build(alloc, builder, steps) {
-        Ok(index) => Ok(index),
-        Err(IndexFault::Memory) => Err(AllocError),
-    }
-}
-
-// The campaigns with their targets.
-fn builder_of<L: Ledger>(
-    alloc: Global,
-    campaigns: &[NumberedCampaign],
-    steps: &mut Steps<L>,
-) -> Result<Builder, AllocError>
-    requires few { length campaigns.now ≤ 64 }
-    requires numbered { AreNumbered campaigns.now }
-    ensures { IfOk result (λ b. b ≡ targets_of campaigns.now) }
-{
-    let mut builder = Builder::new(alloc);
-    for campaign in campaigns {
-        builder.add(campaign.number(), campaign.target(), steps)?;
-    }
-    Ok(builder)
-}
-
-// Puts the offers of the campaigns that were found in the place of what stands there.
-fn collect_offers(
-    offers: &mut Vec<Offer>,
-    campaigns: &[NumberedCampaign],
-    found: &[u32],
-    imp: &Imp,
-) -> Result<(), AllocError>
-    ensures { OnOk result (offers.new.items ≡ filter_map (offer_numbered campaigns.now imp.now) found.now) }
-{
-    offers.clear();
-    for number in found {
-        push_offer(offers, offer_numbered(campaigns, *number, imp))?;
-    }
-    Ok(())
-}
-
-fn push_offer(offers: &mut Vec<Offer>, offer: Option<Offer>) -> Result<(), AllocError>
-    ensures { OnOk result (offers.new.items ≡ offers.old.items ++ option_to_list offer) }
-{
-    if let Some(offer) = offer {
-        offers.push(offer)?;
-    }
-    Ok(())
-}
-
-// The offer of the campaign of that number, which wants the impression.
-fn offer_numbered(campaigns: &[NumberedCampaign], number: u32, imp: &Imp) -> Option<Offer>
-    ensures { result ≡ offer_numbered campaigns.now imp.now number }
-{
-    offer_at(campaign_numbered(campaigns, number)?, imp)
-}
-
-// The offer of the campaign, which wants the impression.
-fn offer_at(campaign: &NumberedCampaign, imp: &Imp) -> Option<Offer>
-    ensures { result ≡ offer_at imp.now campaign.now }
-{
-    if can_buy(campaign, imp) {
-        Some(Offer {
-            campaign: campaign.number(),
-            bid: campaign.facts().bid(),
-            pool: 0,
-        })
-    } else {
-        None
-    }
-}
-
-// Whether the campaign, which wants the impression, can buy it.
-fn can_buy(campaign: &NumberedCampaign, imp: &Imp) -> bool
-    ensures { result ≡ (is_some imp.now.banner && nat_le imp.now.floor campaign.now.1.bid) }
-{
-    if imp.banner.is_none() {
-        return false;
-    }
-    imp.floor <= campaign.facts().bid()
-}
-
-// The campaign of that number.
-fn campaign_numbered(campaigns: &[NumberedCampaign], number: u32) -> Option<&NumberedCampaign>
-    ensures { option_map (λ c. c.now) result ≡ find (λ p. p.0 == number) campaigns.now }
-{
-    campaigns
-        .iter()
-        .find(|campaign| campaign.number() == number)
-}
-
-// Sells one impression, and appends the sale, if there is one.
-fn sell_imp<'a>(
-    sold: &mut Vec<SoldImp<'a>>,
-    campaigns: &'a [NumberedCampaign],
-    offers: &[Offer],
-    imp: &'a Imp,
-) -> Result<(), AllocError>
-    requires fit { IsTrue (list_all (is_fit (terms_of imp.now)) offers.now) }
-    requires known { (n : ℕ) → list_any (λ o. o.campaign == n) offers.now ≡ true → list_any (λ p. p.0 == n) campaigns.now ≡ true }
-    ensures { OnOk result (map sale_view sold.new.items ≡ map sale_view sold.old.items ++ option_to_list (sale_by imp.now offers.now)) }
-{
-    if let Some(win) = win_of(offers, imp) {
-        let sale = SoldImp {
-            imp: &imp.id,
-            campaign: campaign_there(campaigns, win.campaign),
-            price: win.price,
-        };
-        if sold.push(sale).is_err() {
-            return Err(AllocError);
-        }
-    }
-    Ok(())
-}
-
-// What the offers for the impression are cleared to, by second price.
-fn win_of(offers: &[Offer], imp: &Imp) -> Option<Win>
-    requires { IsTrue (list_all (is_fit (terms_of imp.now)) offers.now) }
-    ensures win { result ≡ outcome offers.now (terms_of imp.now) }
-    ensures winner { IfSome result (λ w. list_any (λ o. o.campaign == w.campaign) offers.now ≡ true) }
-{
-    let terms = [Terms {
-        floor: imp.floor,
-        kind: PriceKind::Second,
-    }];
-    clear(offers, &terms)
-}
-
-// The campaign that won.
-fn campaign_there(campaigns: &[NumberedCampaign], number: u32) -> &NumberedCampaign
-    requires { IsTrue (list_any (λ p. p.0 == number) campaigns.now) }
-    ensures { result.now.0 ≡ number }
-{
-    match campaign_numbered(campaigns, number) {
-        Some(campaign) => campaign,
-        None => unreachable!(),
-    }
+    let index = index_of_live(alloc, core.table(), &mut steps)?;
+    reached_by_index(alloc, &index, command, &mut steps)
 }

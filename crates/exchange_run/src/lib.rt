@@ -2,12 +2,9 @@
 #![tactic(auto)]
 
 mod auction;
-mod members;
-mod numbered;
-mod response;
+mod opening;
 mod status_lines;
 mod try_command;
-mod unbuilt;
 mod words;
 mod wrong_words;
 

@@ -1,21 +1,18 @@
-ghost use Rattle.std.specs.Prelude.{◌≡◌, ◌≢◌, ◌≤◌, ◌⊎◌, Err, None, length, map, IfErr, IfOk, IsSome, OnOk};
+ghost use Rattle.std.specs.Prelude.{◌≡◌, ◌≢◌, ◌≤◌, ◌⊎◌, Err, None, length, IfErr, IfOk, IsSome, IsTrue, OnOk};
 ghost use Rattle.rtb_base.specs.Faults.{RisesOnlyWhere, Rose};
 ghost use Rattle.rtb_io.specs.Fronts.{TakesAtMost};
 ghost use Rattle.rtb_io.specs.Statuses.{code_of};
 ghost use Rattle.rtb_io.specs.declared.status.Status.TheVariants.{Done, NotRead, NotWritten, Refused, Usage};
-ghost use Rattle.exchange_run.specs.Answer.{HalfTold, IsOutcome, IsReply, Replies, Told, line_of, refusal_of, reply_to, sold_line, tree_reply};
+ghost use Rattle.exchange_run.specs.Answer.{HalfTold, IsOutcome, IsReply, Replies, Told, line_of, refusal_of, reply_to, tree_reply};
 ghost use Rattle.refusal_text.specs.Refusals.{error_text, json_fault_text, request_fault_text};
 ghost use Rattle.exact_json.specs.Docs.{doc_tree};
 ghost use Rattle.exchange_run.specs.Words.{campaigns_of, command_of};
-ghost use Rattle.exchange_run.specs.View.{sale_view};
-ghost use Rattle.exchange_run.specs.Numbered.{AreNumbered, campaigns_only};
+ghost use Rattle.exchange_run.specs.Making.{campaigns_named};
+ghost use Rattle.rtb_types.specs.Valid.{is_valid};
 
-use crate::auction::{SoldImp, sell};
-use crate::numbered::NumberedCampaign;
-use crate::response::bid_response;
+use crate::auction::auction_line;
 use crate::status_lines::{end_with, tell};
-use crate::unbuilt::is_unbuilt;
-use crate::words::{campaigns_in, command_in};
+use crate::words::command_in;
 use exact_json::{Doc, JsonFault, read};
 use refusal_text::{error_text, json_fault_text, request_fault_text};
 use rtb_io::{ReadFault, Status, read_all};
@@ -31,8 +28,8 @@ struct Reply {
     line: Txt,
 }
 
-/// Runs the command `try`: reads one bid request (OpenRTB 2.5), sells it to the campaigns that the words
-/// name, and writes the bid response, `no-bid` or the refusal, and a line feed.
+/// Runs the command `try`: reads one bid request (OpenRTB 2.5), sells it on an exchange with the campaigns
+/// that the words name, and writes the bid response, `no-bid` or the refusal, and a line feed.
 ///
 /// It answers the status that the program ends with: 0 where the request was sold or got no bid, 1
 /// where it was refused, 2 where the words are of no command, 9 for want of memory, 10 where the
@@ -94,31 +91,22 @@ fn reply_line(alloc: Global, words: &[Txt], bytes: &[u8]) -> Result<Reply, Alloc
     ensures replies { IfOk result (λ r. Replies (campaigns_of words.now) bytes.now r.status r.line) }
     ensures ends { IfOk result (λ r. (r.status ≡ Done) ⊎ (r.status ≡ Refused)) }
 {
-    match campaigns_in(alloc, words) {
-        Ok(campaigns) => {
-            let mut reply = bytes_reply(alloc, campaigns.as_slice(), bytes)?;
-            reply.line.push(b'\n')?;
-            Ok(reply)
-        }
-        Err(fault) => Err(fault),
-    }
+    let mut reply = bytes_reply(alloc, words, bytes)?;
+    reply.line.push(b'\n')?;
+    Ok(reply)
 }
 
 // The reply to the bytes.
-fn bytes_reply(
-    alloc: Global,
-    campaigns: &[NumberedCampaign],
-    bytes: &[u8],
-) -> Result<Reply, AllocError>
-    requires few { length campaigns.now ≤ 64 }
-    requires numbered { AreNumbered campaigns.now }
-    ensures { IfOk result (IsReply (campaigns_only campaigns.now) bytes.now) }
+fn bytes_reply(alloc: Global, words: &[Txt], bytes: &[u8]) -> Result<Reply, AllocError>
+    requires campaigns { IsSome (campaigns_of words.now) }
+    requires few { length words.now ≤ 64 }
+    ensures { IfOk result (IsReply (campaigns_named words.now) bytes.now) }
 {
     if bytes.len() > MAX_INPUT {
         return refusal(alloc, b"body-too-large");
     }
     match read(alloc, bytes) {
-        Ok(doc) => doc_reply(alloc, campaigns, &doc),
+        Ok(doc) => doc_reply(alloc, words, &doc),
         Err(fault) => json_refusal(alloc, fault),
     }
 }
@@ -134,47 +122,30 @@ fn refusal(alloc: Global, word: &[u8]) -> Result<Reply, AllocError>
     })
 }
 
-// What is sold of the request that the text makes, or its first fault.
-fn doc_reply(alloc: Global, campaigns: &[NumberedCampaign], doc: &Doc) -> Result<Reply, AllocError>
-    requires few { length campaigns.now ≤ 64 }
-    requires numbered { AreNumbered campaigns.now }
-    ensures { IfOk result (λ r. r ≡ tree_reply (campaigns_only campaigns.now) (doc_tree doc.now)) }
+// What is answered to the request that the text makes, or its first fault.
+fn doc_reply(alloc: Global, words: &[Txt], doc: &Doc) -> Result<Reply, AllocError>
+    requires campaigns { IsSome (campaigns_of words.now) }
+    requires few { length words.now ≤ 64 }
+    ensures { IfOk result (λ r. r ≡ tree_reply (campaigns_named words.now) (doc_tree doc.now)) }
 {
     match read_request(alloc, doc) {
-        Ok(request) => request_reply(alloc, campaigns, &request),
+        Ok(request) => request_reply(alloc, words, request),
         Err(fault) => request_refusal(alloc, &fault),
     }
 }
 
-// What is sold of the request, or that this stage has no rules for it.
-fn request_reply(
-    alloc: Global,
-    campaigns: &[NumberedCampaign],
-    request: &BidRequest,
-) -> Result<Reply, AllocError>
-    requires few { length campaigns.now ≤ 64 }
-    requires numbered { AreNumbered campaigns.now }
-    ensures { IfOk result (λ r. r ≡ reply_to (campaigns_only campaigns.now) request.now) }
+// What the exchange answers to the request.
+fn request_reply(alloc: Global, words: &[Txt], request: BidRequest) -> Result<Reply, AllocError>
+    requires campaigns { IsSome (campaigns_of words.now) }
+    requires few { length words.now ≤ 64 }
+    requires valid { IsTrue (is_valid request) }
+    ensures { IfOk result (λ r. r ≡ reply_to (campaigns_named words.now) request) }
 {
-    if is_unbuilt(request) {
-        return refusal(alloc, b"not-built");
-    }
-    let sold = sell(alloc, campaigns, request)?;
-    let line = sold_line(alloc, request, sold.as_slice())?;
+    let line = auction_line(alloc, words, request)?;
     Ok(Reply {
         status: Status::Done,
         line,
     })
-}
-
-// The sales, or `no-bid` where nothing is sold.
-fn sold_line(alloc: Global, request: &BidRequest, sold: &[SoldImp]) -> Result<Txt, AllocError>
-    ensures { IfOk result (λ t. t ≡ sold_line request.now (map sale_view sold.now)) }
-{
-    if sold.is_empty() {
-        return Txt::from_slice(alloc, b"no-bid");
-    }
-    bid_response(alloc, request.id.as_bytes(), sold)
 }
 
 fn request_refusal(alloc: Global, fault: &ReqFault) -> Result<Reply, AllocError>

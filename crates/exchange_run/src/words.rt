@@ -1,13 +1,11 @@
-ghost use Rattle.std.specs.Prelude.{◌≡◌, ◌==◌, ◌<◌, ◌≤◌, position, length, IfSome, Option, None, Some, if◌then◌else◌, option_map, is_some, IfOk, IsSome, IsTrue};
+ghost use Rattle.std.specs.Prelude.{◌≡◌, ◌==◌, ◌<◌, ◌≤◌, position, length, IfSome, Option, None, Some, if◌then◌else◌, option_map, is_some, IsSome, IsTrue};
 ghost use Rattle.std.specs.List.{after_first, before_first, list_all, list_any};
 ghost use Rattle.exchange_run.specs.Words.{amount_of, campaign_of, campaign_words, campaigns_of, command_of, domain_of, bid_of, is_at};
-ghost use Rattle.exchange_run.specs.Numbered.{AreNumbered, is_short, campaigns_only};
+ghost use Rattle.exchange_run.specs.Making.{is_short};
 ghost use Rattle.exchange_run.specs.View.{campaign_view};
 
-use crate::numbered::NumberedCampaign;
 use json_fields::exact_amount;
 use rtb_num::{Micros, Txt, is_number};
-use std::alloc::{AllocError, Global};
 
 /// A campaign that a word names.
 #[derive(Debug, Drop)]
@@ -140,26 +138,8 @@ fn are_campaigns(words: &[Txt]) -> bool
     words.iter().all(|word| is_campaign(word))
 }
 
-/// The campaigns that the words name, in their order, numbered from 1.
-pub(crate) fn campaigns_in(
-    alloc: Global,
-    words: &[Txt],
-) -> Result<Vec<NumberedCampaign>, AllocError>
-    requires campaigns { IsSome (campaigns_of words.now) }
-    requires few { length words.now ≤ 64 }
-    ensures named { IfOk result (λ cs. Some (campaigns_only cs.items) ≡ campaigns_of words.now) }
-    ensures numbered { IfOk result (λ cs. AreNumbered cs.items) }
-{
-    let mut campaigns = Vec::with_capacity(alloc, words.len())?;
-    let mut number = 0;
-    for word in words {
-        number += 1;
-        campaigns.push(NumberedCampaign::make(alloc, number, &campaign_named(word))?)?;
-    }
-    Ok(campaigns)
-}
-
-fn campaign_named(word: &Txt) -> NamedCampaign<'_>
+/// The campaign that the word names.
+pub(crate) fn campaign_named(word: &Txt) -> NamedCampaign<'_>
     requires { IsSome (campaign_of word.now) }
     ensures value { Some (campaign_view result) ≡ campaign_of word.now }
     ensures some_bid { 1 ≤ result.bid }

@@ -1,28 +1,18 @@
-use Rattle.std.proofs.Common.{◌≤◌, arith, length, refl, subst, sym}
-use Rattle.exchange_run.specs.Answer.{IsReply}
-use Rattle.exchange_run.specs.Numbered.{AreNumbered, campaigns_only}
-use Rattle.exchange_run.proofs.Replies.{ends, few}
+use Rattle.std.proofs.Common.{refl}
+use Rattle.exchange_run.specs.Making.{campaigns_named}
+use Rattle.exchange_run.proofs.Campaigns.{are_named}
+use Rattle.exchange_run.proofs.Replies.{ends}
 use Rattle.exchange_run.proofs.try_command.reply_line.Goals as goal
 
-pub bytes_reply-requires : goal.bytes_reply-requires
-bytes_reply-requires c =
-    let n : length c.in-Ok.campaigns.items ≤ 64 = few c.args.words.now c.in-Ok.campaigns.items c.in-Ok.ensures.named c.requires.few in
-    record {
-      few = omega (arith, n, c.as_slice.ensures.len);
-      numbered = subst AreNumbered (sym c.as_slice.ensures.value) c.in-Ok.ensures.numbered;
-    }
+pub returns-clause-replies : goal.returns-clause-replies
+returns-clause-replies c = record {
+  named = campaigns_named c.args.words.now;
+  are_named = are_named c.args.words.now c.requires.campaigns;
+  reply = c.in_ok-reply.reply;
+  is_reply = c.in_ok-reply.ensures;
+  status_is = refl;
+  text_is = c.in_ok-push.ensures.ok;
+}
 
-pub returns-in_ok-push-in-Ok-clause-replies : goal.returns-in_ok-push-in-Ok-clause-replies
-returns-in_ok-push-in-Ok-clause-replies c =
-    let reply = c.in_ok-reply-in-Ok.reply in
-    record {
-      named = campaigns_only c.in-Ok.campaigns.items;
-      are_named = sym c.in-Ok.ensures.named;
-      reply = reply;
-      is_reply = subst (λ cs. IsReply (campaigns_only cs) c.args.bytes.now reply) c.as_slice.ensures.value c.in_ok-reply-in-Ok.ensures;
-      status_is = refl;
-      text_is = c.in_ok-push-in-Ok.ensures.ok;
-    }
-
-pub returns-in_ok-push-in-Ok-clause-ends : goal.returns-in_ok-push-in-Ok-clause-ends
-returns-in_ok-push-in-Ok-clause-ends c = ends (campaigns_only c.as_slice.result.now) c.args.bytes.now c.in_ok-reply-in-Ok.reply c.in_ok-reply-in-Ok.ensures
+pub returns-clause-ends : goal.returns-clause-ends
+returns-clause-ends c = ends (campaigns_named c.args.words.now) c.args.bytes.now c.in_ok-reply.reply c.in_ok-reply.ensures

@@ -1,0 +1,11 @@
+use Rattle.std.proofs.Common.{◌≡◌, take, map}
+use Rattle.auction_core.specs.Core.{listed}
+use Rattle.auction_core.specs.Draft.{found_for}
+use Rattle.conj_index.specs.Content.{IsIndexOf}
+use Rattle.core_index.specs.Reached.{live_expressions}
+use Rattle.plain_exchange.specs.State.{State}
+use Rattle.core_index.proofs.reached.all_reached.Given as goal
+
+-- the numbers for the impressions so far
+abbrev pub invariant-loop-imp : goal.invariant-loop-imp
+invariant-loop-imp g l = (s : State) → IsIndexOf (live_expressions (listed s)) l.index → l.found.items ≡ map (found_for s l.request) (take l.imp l.request.imps)

@@ -1,0 +1,83 @@
+// The index of a table's live campaigns.
+ghost use Rattle.std.specs.Prelude.{◌≡◌, ◌≤◌, ◌<◌, ◌++◌, [], ◌∷◌, All, IfOk, OnOk, Some};
+ghost use Rattle.campaign_store.specs.Table.{campaign_at};
+ghost use Rattle.campaign_store.specs.declared.listed.Listed.{Listed as AListed};
+ghost use Rattle.conj_index.specs.Campaigns.{conjunctions_in};
+ghost use Rattle.conj_index.specs.Content.{IsIndexOf};
+ghost use Rattle.core_index.specs.Reached.{live_expression, live_expressions};
+
+use campaign_store::Table;
+use conj_index::{Builder, Index, IndexFault};
+use rtb_base::Steps;
+use std::alloc::{AllocError, Global};
+use std::sync::ledger::Ledger;
+
+/// The index of the table's live campaigns, by their numbers in the table.
+pub fn index_of_live<L: Ledger>(
+    alloc: Global,
+    table: &Table,
+    steps: &mut Steps<L>,
+) -> Result<Index, AllocError>
+    ensures { IfOk result (IsIndexOf (live_expressions table.now.campaigns)) }
+{
+    let builder = builder_of(alloc, table, steps)?;
+    match Index::build(alloc, builder, steps) {
+        Ok(index) => Ok(index),
+        Err(IndexFault::Memory) => Err(AllocError),
+    }
+}
+
+// The live campaigns, each with its expression.
+fn builder_of<L: Ledger>(
+    alloc: Global,
+    table: &Table,
+    steps: &mut Steps<L>,
+) -> Result<Builder, AllocError>
+    ensures { IfOk result (λ b. b ≡ live_expressions table.now.campaigns) }
+{
+    let mut builder = Builder::new(alloc);
+    for place in 0..table.count() {
+        add_where_live(&mut builder, table, place + 1, steps)?;
+    }
+    Ok(builder)
+}
+
+// Adds campaign `n`, where it is live.
+fn add_where_live<L: Ledger>(
+    builder: &mut Builder,
+    table: &Table,
+    n: u32,
+    steps: &mut Steps<L>,
+) -> Result<(), AllocError>
+    requires above { All (λ p. p.0 < n) builder.old }
+    requires room { (c : AListed) → campaign_at table.now.campaigns n ≡ Some c → conjunctions_in (builder.old ++ (n, c.entry.expr) ∷ []) ≤ 1000000 }
+    ensures { (c : AListed) → campaign_at table.now.campaigns n ≡ Some c → OnOk result (builder.new ≡ builder.old ++ live_expression (n, c)) }
+{
+    if !is_live(table, n) {
+        return Ok(());
+    }
+    add_there(builder, table, n, steps)
+}
+
+fn is_live(table: &Table, n: u32) -> bool
+    ensures { (c : AListed) → campaign_at table.now.campaigns n ≡ Some c → result ≡ c.live }
+{
+    matches!(table.live(n), Some(true))
+}
+
+// Adds campaign `n`.
+fn add_there<L: Ledger>(
+    builder: &mut Builder,
+    table: &Table,
+    n: u32,
+    steps: &mut Steps<L>,
+) -> Result<(), AllocError>
+    requires above { All (λ p. p.0 < n) builder.old }
+    requires room { (c : AListed) → campaign_at table.now.campaigns n ≡ Some c → conjunctions_in (builder.old ++ (n, c.entry.expr) ∷ []) ≤ 1000000 }
+    ensures { (c : AListed) → campaign_at table.now.campaigns n ≡ Some c → OnOk result (builder.new ≡ builder.old ++ (n, c.entry.expr) ∷ []) }
+{
+    match table.get(n) {
+        Some(entry) => builder.add(n, &entry.record().expr, steps),
+        None => Ok(()),
+    }
+}

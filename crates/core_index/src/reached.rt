@@ -1,0 +1,67 @@
+// Which campaigns the impressions of an auction reach.
+ghost use Rattle.std.specs.Prelude.{◌≡◌, ◌<◌, IfOk, Some, length, map, slice_get};
+ghost use Rattle.auction_core.specs.Core.{listed};
+ghost use Rattle.auction_core.specs.Draft.{found_for, found_of};
+ghost use Rattle.conj_index.specs.Content.{IsIndexOf};
+ghost use Rattle.core_index.specs.Reached.{live_expressions};
+ghost use Rattle.plain_exchange.specs.State.{State};
+ghost use Rattle.rtb_types.specs.declared.request.Imp.{Imp as Impression};
+
+use assign::assignment;
+use conj_index::Index;
+use plain_exchange::Command;
+use rtb_base::Steps;
+use rtb_num::List;
+use rtb_types::BidRequest;
+use std::alloc::{AllocError, Global};
+use std::sync::ledger::Ledger;
+
+/// For each impression of an auction, the numbers of the live campaigns whose expression is true of it,
+/// rising; for any other command nothing. It is what `Core::prepare` wants to be told, for an exchange
+/// with just the campaigns of the index.
+pub fn reached_by_index<L: Ledger>(
+    alloc: Global,
+    index: &Index,
+    command: &Command,
+    steps: &mut Steps<L>,
+) -> Result<Vec<List<u32>>, AllocError>
+    ensures { IfOk result (λ found. (s : State) → IsIndexOf (live_expressions (listed s)) index.now → found.items ≡ found_of s command.now) }
+{
+    match command {
+        Command::Auction(request) => all_reached(alloc, index, request, steps),
+        _ => Ok(Vec::new(alloc)),
+    }
+}
+
+// The numbers for each impression.
+fn all_reached<L: Ledger>(
+    alloc: Global,
+    index: &Index,
+    request: &BidRequest,
+    steps: &mut Steps<L>,
+) -> Result<Vec<List<u32>>, AllocError>
+    ensures { IfOk result (λ found. (s : State) → IsIndexOf (live_expressions (listed s)) index.now → found.items ≡ map (found_for s request.now) request.now.imps) }
+{
+    let mut found = Vec::with_capacity(alloc, request.imps.len())?;
+    for imp in 0..request.imps.len() {
+        let numbers = reached_at(alloc, index, request, imp, steps)?;
+        found.push(numbers)?;
+    }
+    Ok(found)
+}
+
+// The numbers for the impression at the place.
+fn reached_at<L: Ledger>(
+    alloc: Global,
+    index: &Index,
+    request: &BidRequest,
+    imp: usize,
+    steps: &mut Steps<L>,
+) -> Result<List<u32>, AllocError>
+    requires imp { imp < length request.now.imps }
+    ensures { (i : Impression) → slice_get request.now.imps imp ≡ Some i → IfOk result (λ numbers. (s : State) → IsIndexOf (live_expressions (listed s)) index.now → numbers ≡ found_for s request.now i) }
+{
+    let assignment = assignment(alloc, request, imp)?;
+    let numbers = index.find(alloc, &assignment, steps)?;
+    Ok(numbers)
+}

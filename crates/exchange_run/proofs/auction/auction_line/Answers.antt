@@ -1,0 +1,13 @@
+use Rattle.std.proofs.Common.{refl}
+use Rattle.exchange_run.proofs.auction.auction_line.Goals as goal
+
+pub command_line-requires : goal.command_line-requires
+command_line-requires c = record {
+  campaigns = c.requires.campaigns;
+  few = c.requires.few;
+  valid = c.requires.valid;
+  auction = refl;
+}
+
+pub returns : goal.returns
+returns c = c.command_line.ensures c.args.request refl
