@@ -1,15 +1,16 @@
 //! The program `core_cases`: reads cases of an exchange of one thread, a line each, and prints those that
 //! are answered otherwise than they say.
 //!
-//! `case_lines` says what a case is, `conversation.rt` what its fields ask for, and `bodies.rt` which bodies go
-//! by short names.
+//! `case_lines` says what a case is, `conversation.rt` and `journals.rt` what the calls' fields ask for, and
+//! `bodies.rt` which bodies go by short names.
 #![tactic(auto)]
 
 mod bodies;
 mod conversation;
+mod journals;
 mod message;
 
-use case_lines::{Areas, run_cases};
+use case_lines::{Areas, done, run_cases};
 use rtb_num::{StdSink, StdSource, Txt};
 use std::alloc::{AllocError, Global};
 use std::io;
@@ -22,7 +23,7 @@ fn main(rt: HostRuntime) -> ExitCode {
     ExitCode::from(run_cases::<Exchanges, _, _>(rt.alloc(), &mut source, &mut sink).code())
 }
 
-// The one call: `exchange | FIELD | ..`.
+// The calls: `exchange | FIELD | ..`, and `recover | CONTENT | CALLS`.
 struct Exchanges;
 
 impl Areas for Exchanges {
@@ -31,6 +32,16 @@ impl Areas for Exchanges {
             conversation::put_answers(alloc, args, out)?;
             return Ok(true);
         }
+        if call == b"recover".as_slice() {
+            return tell_journal(alloc, args, out);
+        }
         Ok(false)
+    }
+}
+
+fn tell_journal(alloc: Global, args: &[Txt], out: &mut Txt) -> Result<bool, AllocError> {
+    match args {
+        [content, fails] => done(journals::put_recovery(alloc, content, fails.as_bytes(), out)),
+        _ => Ok(false),
     }
 }

@@ -1,5 +1,5 @@
 -- What a reading has read, and what its next answer is.
-use Rattle.std.specs.Prelude.{◌≡◌, ◌⊎◌, ℕ, List, [], ◌∷◌, ◌++◌, Bool, true, false, Option, Some, None, Result, Ok, Err}
+use Rattle.std.specs.Prelude.{◌≡◌, ◌≢◌, ◌⊎◌, ℕ, List, [], ◌∷◌, ◌++◌, Bool, true, false, Option, Some, None, Result, Ok, Err}
 use Rattle.rtb_disk.specs.Stores.{Store, EachImage}
 use Rattle.rtb_disk.specs.declared.disk.Disk.{Ghosts}
 use Rattle.journal_file.specs.Blocks.{HasBlocks, IsName, IsTornCreation, end_of, front_of, journal_names}
@@ -40,6 +40,10 @@ module _ {D : Type 0} {G : Ghosts D} where
   -- and where it does not, what it answers from then on
   abbrev pub answer_of : Reading D G → Result (Option ℕ) JournalFault
   answer_of reading = last_answer reading.found reading.gate
+
+  -- no call of the disk has failed in it
+  abbrev pub HasNotFailed : Reading D G → Type 0
+  HasNotFailed reading = is_open reading ≡ false → answer_of reading ≢ Err fault.DiskFailed
 
   -- the disk of a reading, and what is known of it
   abbrev pub disk_read : Reading D G → D

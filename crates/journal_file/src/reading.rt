@@ -38,12 +38,13 @@ impl<D: Disk> Reading<D> {
     ghost use Rattle.journal_file.specs.Blocks.{StandsFor, created_name};
     ghost use Rattle.journal_file.specs.Standing.{Keeps, faults_of, is_broken, store_of};
     ghost use Rattle.rtb_base.specs.Faults.{Rose, RisesOnlyWhere};
-    ghost use Rattle.journal_file.specs.Readings.{IsCreation, IsNext, IsRead, IsReading, IsStart, disk_read, faults_read, answer_of, has_ended, is_open, reads_of, store_read};
+    ghost use Rattle.journal_file.specs.Readings.{HasNotFailed, IsCreation, IsNext, IsRead, IsReading, IsStart, disk_read, faults_read, answer_of, has_ended, is_open, reads_of, store_read};
     ghost use Rattle.journal_file.specs.declared.reading.Found.TheVariants.{Blocks};
 
     /// Syncs the disk, and begins to read what it has. A file that is no journal is damaged at 0.
     pub fn start(disk: D) -> Result<Reading<D>, (D, JournalFault)>
         ensures start { (D.store disk).told ≡ true → IsStart (D.store disk).reads result }
+        ensures intact { IfOk result HasNotFailed }
         ensures synced { (D.store disk).told ≡ true → MatchResult result (λ r. store_read r ≡ settled (D.store disk)) (λ e. (D.store e.0 ≡ D.store disk) ⊎ (D.store e.0 ≡ settled (D.store disk))) }
         ensures cause { MatchResult result (λ r. faults_read r ≡ D.faults disk) (λ e. RisesOnlyWhere (e.1 ≡ JournalFault.DiskFailed) (D.faults disk) (D.faults e.0)) }
     {

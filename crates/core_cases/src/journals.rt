@@ -1,0 +1,38 @@
+//! The call `recover | CONTENT | CALLS`: what is told of the journal on a disk with this content, where the
+//! calls of the disk with these numbers fail.
+use case_lines::numbers_in;
+use journal_file::JournalFault;
+use recovery::recover;
+use rtb_disk::{Disk, MemDisk};
+use rtb_num::{Txt, write_decimal};
+use std::alloc::{AllocError, Global};
+
+/// Appends the line, or why there is none.
+pub fn put_recovery(
+    alloc: Global,
+    content: &Txt,
+    fails: &[u8],
+    out: &mut Txt,
+) -> Result<(), AllocError> {
+    let disk = MemDisk::new(alloc, content.copy()?, numbers_in(alloc, fails)?);
+    tell(alloc, disk, out)
+}
+
+fn tell<D: Disk + Drop>(alloc: Global, disk: D, out: &mut Txt) -> Result<(), AllocError> {
+    let (_disk, told) = recover(alloc, disk, out);
+    match told {
+        Ok(()) => Ok(()),
+        Err(fault) => tell_fault(fault, out),
+    }
+}
+
+fn tell_fault(fault: JournalFault, out: &mut Txt) -> Result<(), AllocError> {
+    match fault {
+        JournalFault::DiskFailed => out.extend(b"disk failed"),
+        JournalFault::Memory => Err(AllocError),
+        JournalFault::Damaged { at } => {
+            out.extend(b"damaged at ")?;
+            write_decimal(at, out)
+        }
+    }
+}
