@@ -1,0 +1,3 @@
+mod Given
+mod Numbers
+mod Utf8

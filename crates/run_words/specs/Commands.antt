@@ -1,0 +1,66 @@
+-- The words of commands with options, as `clap` reads them. A command is told by its options alone; what its words
+-- are then is said by `clap`: whether they are refused (`fault_of`), and which options they give (`matches_of`).
+use Rattle.std.specs.Prelude.{ℕ, List, [], ◌∷◌, Option, None, Some, if◌then◌else◌, true, false, codes, ◌^◌, ◌-◌, option_and_then, option_map, unwrap_or}
+use Rattle.std.specs.List.{list_all}
+use Rattle.std.specs.Str.{is_utf8}
+use Rattle.std.specs.Str.Parse.{digits_value, without_leading_plus}
+use Rattle.clap.specs.Kinds.{Kinds}
+use Rattle.clap.specs.ValueTests.{accepts}
+use Rattle.clap.specs.Words.{App, Row, Rule, Text, fault_of, first_of, matches_of, new_app, new_rule, with_rule}
+use Rattle.clap.specs.declared.builder.value_parser.ValueParser.{ValueParser}
+use Rattle.clap.specs.declared.builder.value_parser.ValueParser.TheVariants as parser
+use Rattle.run_words.specs.declared.serve.ServeOptions.{ServeOptions}
+use Rattle.run_words.specs.declared.recover.RecoverOptions.{RecoverOptions}
+
+-- an option that has to be given: its name behind two hyphens, and then its value
+abbrev pub required : Text → Rule
+required name = record (new_rule name) { long = Some name; required = true }
+
+abbrev pub number_parser : ValueParser
+number_parser = parser.Unsigned 0 (2 ^ 64 - 1)
+
+-- an option with a number of 64 bits, which is the default where it is not given
+abbrev pub number_or : Text → Text → Rule
+number_or default name = record (new_rule name) { long = Some name; defaults = default ∷ []; parser = Some number_parser }
+
+-- `serve --listen A --journal P --public U --ttl T`
+abbrev pub serve_app : App
+serve_app = with_rule (with_rule (with_rule (with_rule (new_app (codes "serve")) (required (codes "listen"))) (required (codes "journal"))) (required (codes "public"))) (number_or (codes "300000") (codes "ttl"))
+
+-- `recover --journal P`
+abbrev pub recover_app : App
+recover_app = with_rule (new_app (codes "recover")) (required (codes "journal"))
+
+abbrev pub unless : Kinds → List Row → Option (List Row)
+unless [] rows = Some rows
+unless (fault ∷ faults) rows = None
+
+-- what the words give, unless `clap` refuses them
+abbrev pub given_by : App → List Text → Option (List Row)
+given_by app words = unless (fault_of app words) (matches_of app words)
+
+-- the text of an option
+abbrev pub text_of : Text → List Row → Text
+text_of name rows = unwrap_or (first_of name rows) []
+
+-- decimal digits, behind a plus that may stand there, that tell a number of 64 bits
+abbrev pub number_in : Text → Option ℕ
+number_in text = if accepts false number_parser text then Some (digits_value 10 (without_leading_plus text)) else None
+
+abbrev pub serve_of : List Row → Option ServeOptions
+serve_of rows = option_map (λ ttl. record {
+  listen = text_of (codes "listen") rows;
+  journal = text_of (codes "journal") rows;
+  public = text_of (codes "public") rows;
+  ttl = ttl;
+}) (number_in (text_of (codes "ttl") rows))
+
+abbrev pub recover_of : List Row → RecoverOptions
+recover_of rows = record { journal = text_of (codes "journal") rows }
+
+-- the options that the words give, of which the first is the command's name; each word has to be a text
+abbrev pub serve_options : List Text → Option ServeOptions
+serve_options words = if list_all is_utf8 words then option_and_then serve_of (given_by serve_app words) else None
+
+abbrev pub recover_options : List Text → Option RecoverOptions
+recover_options words = if list_all is_utf8 words then option_map recover_of (given_by recover_app words) else None

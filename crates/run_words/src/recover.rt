@@ -1,0 +1,51 @@
+ghost use Rattle.std.specs.Prelude.{◌≡◌, IfOk, MatchResult, None, Some, map, option_map};
+ghost use Rattle.clap.specs.Words.{app_of, found_of, rows_of};
+ghost use Rattle.run_words.specs.Commands.{given_by, recover_app, recover_of, recover_options};
+ghost use Rattle.run_words.specs.declared.fault.WordsFault.TheVariants.{Usage};
+
+use crate::fault::WordsFault;
+use crate::matched::{matched, option_text};
+use crate::options::text_option;
+use crate::texts::texts;
+use clap::{ArgMatches, Command};
+use rtb_num::Txt;
+use std::alloc::{AllocError, Global};
+
+/// The options of `recover`.
+#[derive(Debug, Drop)]
+pub struct RecoverOptions {
+    /// The path of the journal.
+    pub journal: Txt,
+}
+
+/// The options that the words give, of which the first is the command's name.
+pub fn recover_options(alloc: Global, words: &[Txt]) -> Result<RecoverOptions, WordsFault>
+    ensures { MatchResult result (λ o. recover_options words.now ≡ Some o) (λ e. e ≡ Usage → recover_options words.now ≡ None) }
+{
+    let texts = texts(alloc, words)?;
+    options_in(alloc, texts.as_slice())
+}
+
+fn options_in<'a>(alloc: Global, words: &'a [&'a str]) -> Result<RecoverOptions, WordsFault>
+    ensures { MatchResult result (λ o. option_map recover_of (given_by recover_app (map (λ s. s.now) words.entry.now)) ≡ Some o) (λ e. e ≡ Usage → option_map recover_of (given_by recover_app (map (λ s. s.now) words.entry.now)) ≡ None) }
+{
+    let command = recover_command(alloc)?;
+    match matched(command, words) {
+        Ok(matches) => Ok(options(alloc, &matches)?),
+        Err(fault) => Err(fault),
+    }
+}
+
+fn options(alloc: Global, matches: &ArgMatches<'_>) -> Result<RecoverOptions, AllocError>
+    ensures { IfOk result (λ o. o ≡ recover_of (rows_of (found_of matches.now))) }
+{
+    let journal = option_text(alloc, matches, "journal")?;
+    Ok(RecoverOptions { journal })
+}
+
+fn recover_command<'a>(alloc: Global) -> Result<Command<'a>, AllocError>
+    ensures { IfOk result (λ c. app_of c ≡ recover_app) }
+{
+    let journal = text_option(alloc, "journal");
+    Command::new(alloc, "recover").arg(journal)
+}
