@@ -1,0 +1,2 @@
+mod Selling
+mod Valid
