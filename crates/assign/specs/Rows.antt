@@ -1,6 +1,6 @@
 -- What an impression assigns to the attributes: the fields of the bid request (OpenRTB 2.5, sections
 -- 3.2.4 to 3.2.20) in the order of the table of attributes.
-use Rattle.std.specs.Prelude.{ℕ, ℤ, List, [], ◌∷◌, ◌++◌, Option, None, find, option_map, option_and_then, option_to_list}
+use Rattle.std.specs.Prelude.{ℕ, ℤ, List, [], ◌∷◌, ◌++◌, false, Option, None, find, option_map, option_and_then, option_to_list}
 use Rattle.std.specs.Fmt.{signed_decimal}
 use Rattle.std.specs.List.{flat_map}
 use Rattle.std.specs.Option.{option_or}
@@ -50,20 +50,6 @@ device_rows device = (attr.DeviceType, option_and_then (λ (d : Device). number_
     ∷ (attr.Language, option_and_then (λ (d : Device). d.language) device) ∷ (attr.Carrier, option_and_then (λ (d : Device). d.carrier) device)
     ∷ (attr.ConnectionType, option_and_then (λ (d : Device). number_text d.connectiontype) device) ∷ []
 
--- one of which nothing is told, and so without rows
-abbrev pub blank_device : Device
-blank_device = record {
-  geo = None;
-  devicetype = None;
-  device_make = None;
-  device_model = None;
-  os = None;
-  osv = None;
-  language = None;
-  carrier = None;
-  connectiontype = None;
-}
-
 -- the user (3.2.20)
 unfoldable pub user_rows : Option User → List Row
 user_rows user = (attr.Yob, option_and_then (λ (u : User). number_text u.yob) user) ∷ (attr.Gender, option_and_then (λ (u : User). u.gender) user) ∷ []
@@ -88,3 +74,33 @@ text_at rs a = option_and_then (λ (row : Row). row.1) (find (λ (row : Row). sa
 -- the present rows, in the order of the table
 unfoldable pub pairs_of : BidRequest → Imp → List (Attr × List ℕ)
 pairs_of r imp = flat_map pair_of (rows r imp)
+
+-- ---- parts of which nothing is told, and so without rows
+
+abbrev pub blank_site : Site
+blank_site = record { id = None; domain = None; publisher = None }
+
+abbrev pub blank_geo : Geo
+blank_geo = record { country = None; region = None; metro = None; city = None; zip = None }
+
+abbrev pub blank_device : Device
+blank_device = record {
+  geo = None;
+  devicetype = None;
+  device_make = None;
+  device_model = None;
+  os = None;
+  osv = None;
+  language = None;
+  carrier = None;
+  connectiontype = None;
+}
+
+abbrev pub blank_user : User
+blank_user = record { id = None; yob = None; gender = None }
+
+abbrev pub blank_banner : Banner
+blank_banner = record { sizes = []; battr = []; pos = None }
+
+abbrev pub blank_imp : Imp
+blank_imp = record { id = []; tagid = None; secure = false; floor = 0; currency = []; banner = None; pmp = record { private_auction = false; deals = [] } }

@@ -11,7 +11,7 @@ use Rattle.std.proofs.lemmas.List.{take_more}
 use Rattle.std.proofs.lemmas.List.Concat.{flat_map-append}
 use Rattle.std.proofs.lemmas.List.Sums.{sum_by-append, sum_by-cons}
 use Rattle.std.proofs.lemmas.Option.{get_or_from_slice_get, slice_get-map, slice_get_within}
-use Rattle.auction_core.specs.Auctions.{beside, drawn, offering, reached, times}
+use Rattle.auction_core.specs.Auctions.{beside, awards_cost, offering, reached, times}
 use Rattle.auction_core.specs.Draft.{found_for, is_reached}
 use Rattle.budget_book.specs.declared.sales.Gone.{Gone}
 use Rattle.budget_book.specs.declared.sales.SaleRow.{SaleRow}
@@ -50,10 +50,10 @@ drawn_sold ttl m r n (a ∷ awards) =
     let one : taken n (sale_of ttl m r a) ≡ paid n a = own_price (eqb a.1.campaign n) a.1.price in
     omega (arith, one, sum_by-cons (taken n) (sale_of ttl m r a) (sales_of ttl m r awards), sum_by-cons (paid n) a awards, drawn_sold ttl m r n awards)
 
-pub committed_beside : (ttl m : ℕ) (r : BidRequest) (n : ℕ) (gone : Gone) (sales : List SaleRow) (awards : List Award) → committed_of n gone (sales ++ sales_of ttl m r awards) ≡ committed_of n gone sales + drawn n awards
+pub committed_beside : (ttl m : ℕ) (r : BidRequest) (n : ℕ) (gone : Gone) (sales : List SaleRow) (awards : List Award) → committed_of n gone (sales ++ sales_of ttl m r awards) ≡ committed_of n gone sales + awards_cost n awards
 committed_beside ttl m r n gone sales awards = omega (arith, sum_by-append (taken n) sales (sales_of ttl m r awards), drawn_sold ttl m r n awards)
 
-pub free_drawn : (ttl m : ℕ) (r : BidRequest) (n : ℕ) (s : State) (c : Campaign) (awards : List Award) → free (beside ttl m r s awards) n c ≡ free (swept m s) n c - drawn n awards
+pub free_drawn : (ttl m : ℕ) (r : BidRequest) (n : ℕ) (s : State) (c : Campaign) (awards : List Award) → free (beside ttl m r s awards) n c ≡ free (swept m s) n c - awards_cost n awards
 free_drawn ttl m r n s c awards = omega (arith, committed_beside ttl m r n c.gone (swept m s).sales awards)
 
 -- ---- how often a user is shown a campaign beside awards

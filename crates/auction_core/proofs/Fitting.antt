@@ -5,7 +5,7 @@ use Rattle.std.specs.Option.{option_map_or}
 use Rattle.std.proofs.lemmas.Bool.{and_parts, false≢true, ltb-true}
 use Rattle.std.proofs.lemmas.List.{length-append, length-map, map-append, take-append-drop, take_more}
 use Rattle.std.proofs.lemmas.List.Sums.{sum_by-append, sum_by-cons}
-use Rattle.auction_core.specs.Applying.{Applies, drawn_by, holding_for, with_sold}
+use Rattle.auction_core.specs.Applying.{Applies, items_cost, holding_for, with_sold}
 use Rattle.auction_core.specs.Core.{CoreState}
 use Rattle.auction_core.specs.Draft.{row_of}
 use Rattle.budget_book.specs.declared.sales.Gone.{Gone}
@@ -109,10 +109,10 @@ drawn_sold m user n (item ∷ items) =
     let one : taken n (sale_by m user item) ≡ paid n item = own_price (eqb item.campaign n) item.price in
     omega (arith, one, sum_by-cons (taken n) (sale_by m user item) (map (sale_by m user) items), sum_by-cons (paid n) item items, drawn_sold m user n items)
 
-committed_sold : (m : ℕ) (user : Option (List ℕ)) (n : ℕ) (gone : Gone) (sales : List SaleRow) (items : List SoldItem) → committed_of n gone (sales ++ map (sale_by m user) items) ≡ committed_of n gone sales + drawn_by n items
+committed_sold : (m : ℕ) (user : Option (List ℕ)) (n : ℕ) (gone : Gone) (sales : List SaleRow) (items : List SoldItem) → committed_of n gone (sales ++ map (sale_by m user) items) ≡ committed_of n gone sales + items_cost n items
 committed_sold m user n gone sales items = omega (arith, sum_by-append (taken n) sales (map (sale_by m user) items), drawn_sold m user n items)
 
-pub free_sold : (m : ℕ) (user : Option (List ℕ)) (n : ℕ) (s : State) (c : Campaign) (items : List SoldItem) → free (with_sold m user items s) n c ≡ free s n c - drawn_by n items
+pub free_sold : (m : ℕ) (user : Option (List ℕ)) (n : ℕ) (s : State) (c : Campaign) (items : List SoldItem) → free (with_sold m user items s) n c ≡ free s n c - items_cost n items
 free_sold m user n s c items = omega (arith, committed_sold m user n c.gone s.sales items)
 
 -- ---- a test of what is there

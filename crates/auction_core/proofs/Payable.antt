@@ -4,7 +4,7 @@ use Rattle.std.specs.Prelude.{nat_le, nat_lt}
 use Rattle.std.specs.List.{enumerate_from, filter_map, list_all}
 use Rattle.std.proofs.lemmas.Bool.{and_parts, eqb-true, false≢true, le-leb, leb-true, lt-leb, ltb-false}
 use Rattle.std.proofs.lemmas.List.{length-map}
-use Rattle.auction_core.specs.Auctions.{awarded, holding_of, selling}
+use Rattle.auction_core.specs.Auctions.{award_outcome, holding_of, selling}
 use Rattle.auction_core.specs.Draft.{CanHoldAll, row_of}
 use Rattle.auction_core.specs.Outcomes.{IsOutcome, IsPossible, does, told_alone}
 use Rattle.auction_core.specs.declared.draft.Plan.TheVariants.{Sell}
@@ -123,7 +123,7 @@ some_of_some : (awards : List Award) → eqb (length awards) 0 ≡ false → awa
 some_of_some awards e none = false≢true (sym e ∙ ap (λ l. eqb (length l) 0) none)
 
 awarded_as : (ttl m : ℕ) (r : BidRequest) (s : State) (awards : List Award) → awards ≡ awards_of ttl m r (swept m s)
-    → IsOutcome m (swept m s) (auction ttl m r (swept m s) (awards_of ttl m r (swept m s))) (awarded ttl m r s awards)
+    → IsOutcome m (swept m s) (auction ttl m r (swept m s) (awards_of ttl m r (swept m s))) (award_outcome ttl m r s awards)
 awarded_as ttl m r s awards e =
     by_test (λ (o : Outcome). IsOutcome m (swept m s) (auction ttl m r (swept m s) (awards_of ttl m r (swept m s))) o) (eqb (length awards) 0) (told_alone reply.NoBid)
     (cond (nat_lt most_sales (length s.sales + length awards)) (told_alone (reply.Full Sales)) (selling ttl m r s awards))
@@ -132,12 +132,12 @@ awarded_as ttl m r s awards e =
     (λ many. too_many_sold ttl m r s awards e (some_of_some awards some) (leb-true (suc most_sales) (length s.sales + length awards) many))
     (λ few. all_are_sold ttl m r s awards e (some_of_some awards some) (ltb-false most_sales (length s.sales + length awards) few)))
 
-pub awarded_is : (ttl m : ℕ) (r : BidRequest) (s : State) (awards : List Award) (o : Outcome) → awards ≡ awards_of ttl m r (swept m s) → o ≡ awarded ttl m r s awards
+pub awarded_is : (ttl m : ℕ) (r : BidRequest) (s : State) (awards : List Award) (o : Outcome) → awards ≡ awards_of ttl m r (swept m s) → o ≡ award_outcome ttl m r s awards
     → IsOutcome m (swept m s) (auction ttl m r (swept m s) (awards_of ttl m r (swept m s))) o
 awarded_is ttl m r s awards o e is = subst (λ (x : Outcome). IsOutcome m (swept m s) (auction ttl m r (swept m s) (awards_of ttl m r (swept m s))) x) (sym is) (awarded_as ttl m r s awards e)
 
 awarded_so : (ttl m : ℕ) (r : BidRequest) (s : State) (awards : List Award) (sale_room campaign_room : ℕ) → awards ≡ awards_of ttl m r (swept m s) → length awards ≤ sale_room
-    → IsPossible m (swept m s) sale_room campaign_room (awarded ttl m r s awards)
+    → IsPossible m (swept m s) sale_room campaign_room (award_outcome ttl m r s awards)
 awarded_so ttl m r s awards sale_room campaign_room e room =
     by_test (λ (o : Outcome). IsPossible m (swept m s) sale_room campaign_room o) (eqb (length awards) 0) (told_alone reply.NoBid)
     (cond (nat_lt most_sales (length s.sales + length awards)) (told_alone (reply.Full Sales)) (selling ttl m r s awards))
@@ -146,6 +146,6 @@ awarded_so ttl m r s awards sale_room campaign_room e room =
     (λ many. tt)
     (λ few. all_possible ttl m r s awards sale_room campaign_room e (ltb-false most_sales (length s.sales + length awards) few) room))
 
-pub awarded_possible : (ttl m : ℕ) (r : BidRequest) (s : State) (awards : List Award) (o : Outcome) (sale_room campaign_room : ℕ) → awards ≡ awards_of ttl m r (swept m s) → o ≡ awarded ttl m r s awards → length awards ≤ sale_room
+pub awarded_possible : (ttl m : ℕ) (r : BidRequest) (s : State) (awards : List Award) (o : Outcome) (sale_room campaign_room : ℕ) → awards ≡ awards_of ttl m r (swept m s) → o ≡ award_outcome ttl m r s awards → length awards ≤ sale_room
     → IsPossible m (swept m s) sale_room campaign_room o
 awarded_possible ttl m r s awards o sale_room campaign_room e is room = subst (λ (x : Outcome). IsPossible m (swept m s) sale_room campaign_room x) (sym is) (awarded_so ttl m r s awards sale_room campaign_room e room)

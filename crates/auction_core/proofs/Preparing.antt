@@ -1,7 +1,7 @@
 -- What is prepared of an auction, and of other commands.
 use Rattle.std.proofs.Common.{◌≡◌, ℕ, ◌≤◌, true, List, length, refl, Result, Ok, Err}
 use Rattle.std.specs.Prelude.{IfOk, OnOk}
-use Rattle.auction_core.specs.Auctions.{awarded}
+use Rattle.auction_core.specs.Auctions.{award_outcome}
 use Rattle.auction_core.specs.Draft.{is_simple}
 use Rattle.auction_core.specs.Outcomes.{IsOutcome, IsPossible}
 use Rattle.auction_core.specs.declared.outcome.Outcome.{Outcome}
@@ -14,13 +14,13 @@ use Rattle.rtb_types.specs.declared.request.BidRequest.{BidRequest}
 use Rattle.auction_core.proofs.Payable.{awarded_is, awarded_possible}
 
 -- where memory suffices, what comes of the awards is what the auction does
-pub awarded_result : {E : Type 0} → (ttl m : ℕ) (r : BidRequest) (s : State) (awards : List Award) (res : Result Outcome E) → awards ≡ awards_of ttl m r (swept m s) → IfOk res (λ o. o ≡ awarded ttl m r s awards)
+pub awarded_result : {E : Type 0} → (ttl m : ℕ) (r : BidRequest) (s : State) (awards : List Award) (res : Result Outcome E) → awards ≡ awards_of ttl m r (swept m s) → IfOk res (λ o. o ≡ award_outcome ttl m r s awards)
     → IfOk res (λ o. IsOutcome m (swept m s) (auction ttl m r (swept m s) (awards_of ttl m r (swept m s))) o)
 awarded_result ttl m r s awards (Ok o) e is = awarded_is ttl m r s awards o e is
 awarded_result ttl m r s awards (Err x) e is = tt
 
 -- and it can be carried out, where there is room for as many sales
-pub possible_result : {E : Type 0} → (ttl m : ℕ) (r : BidRequest) (s : State) (awards : List Award) (res : Result Outcome E) (sale_room campaign_room : ℕ) → awards ≡ awards_of ttl m r (swept m s) → IfOk res (λ o. o ≡ awarded ttl m r s awards) → OnOk res (length awards ≤ sale_room)
+pub possible_result : {E : Type 0} → (ttl m : ℕ) (r : BidRequest) (s : State) (awards : List Award) (res : Result Outcome E) (sale_room campaign_room : ℕ) → awards ≡ awards_of ttl m r (swept m s) → IfOk res (λ o. o ≡ award_outcome ttl m r s awards) → OnOk res (length awards ≤ sale_room)
     → IfOk res (λ o. IsPossible m (swept m s) sale_room campaign_room o)
 possible_result ttl m r s awards (Ok o) sale_room campaign_room e is room = awarded_possible ttl m r s awards o sale_room campaign_room e is room
 possible_result ttl m r s awards (Err x) sale_room campaign_room e is room = tt

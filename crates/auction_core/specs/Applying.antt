@@ -33,8 +33,8 @@ abbrev pub with_sold : ℕ → User → List SoldItem → State → State
 with_sold moment user items s = with_sales s (map (sale_by moment user) items)
 
 -- what they take of the budget of campaign n
-abbrev pub drawn_by : ℕ → List SoldItem → ℕ
-drawn_by n items = sum_by (λ (item : SoldItem). if item.campaign == n then item.price else 0) items
+abbrev pub items_cost : ℕ → List SoldItem → ℕ
+items_cost n items = sum_by (λ (item : SoldItem). if item.campaign == n then item.price else 0) items
 
 -- an item as a sale that is to be made
 abbrev pub holding_for : User → SoldItem → Holding

@@ -23,8 +23,8 @@ abbrev pub beside : ℕ → ℕ → BidRequest → State → List Award → Stat
 beside ttl moment r s awards = with_sales (swept moment s) (sales_of ttl moment r awards)
 
 -- what they take of the budget of campaign n
-abbrev pub drawn : ℕ → List Award → ℕ
-drawn n awards = sum_by (λ (a : Award). if a.1.campaign == n then a.1.price else 0) awards
+abbrev pub awards_cost : ℕ → List Award → ℕ
+awards_cost n awards = sum_by (λ (a : Award). if a.1.campaign == n then a.1.price else 0) awards
 
 -- how many of them it has
 abbrev pub times : ℕ → List Award → ℕ
@@ -50,6 +50,6 @@ abbrev pub selling : ℕ → ℕ → BidRequest → State → List Award → Out
 selling ttl moment r s awards = does (Sell (map (holding_of (due_at ttl moment) (user_of r)) awards)) (reply.Sold (all_sold_as s r awards)) (sold_change (user_of r) (map (item_of ttl moment) awards))
 
 -- what comes of the awards
-abbrev pub awarded : ℕ → ℕ → BidRequest → State → List Award → Outcome
-awarded ttl moment r s awards = if length awards == 0 then told_alone reply.NoBid
+abbrev pub award_outcome : ℕ → ℕ → BidRequest → State → List Award → Outcome
+award_outcome ttl moment r s awards = if length awards == 0 then told_alone reply.NoBid
     else (if nat_lt most_sales (length s.sales + length awards) then told_alone (reply.Full Sales) else selling ttl moment r s awards)

@@ -54,7 +54,7 @@ impl Core {
     fn can_be_gone(&self, kept: &KeptCampaign) -> bool
         ensures { result ≡ (nat_le kept.now.gone.spent kept.now.facts.budget && nat_le (forgotten self.now.state + gone_count kept.now.gone) most_forgotten) }
     {
-        let forgotten = self.forgotten_few().saturating_add(gone_count(kept.gone));
+        let forgotten = self.forgotten_count().saturating_add(gone_count(kept.gone));
         kept.gone.spent <= kept.facts.budget() && forgotten <= MOST_FORGOTTEN
     }
 

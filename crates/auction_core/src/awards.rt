@@ -2,7 +2,7 @@
 ghost use Rattle.std.specs.Prelude.{◌≡◌, ◌≤◌, ◌<◌, ◌-◌, ◌+◌, ◌^◌, ◌==◌, ◌++◌, if◌then◌else◌, IfOk, IfSome, IsTrue, OnOk, Option, Some, fold, length, map, option_map, slice_get, take};
 ghost use Rattle.std.specs.List.{flat_map, list_all};
 ghost use Rattle.std.specs.Option.{option_map_or, option_to_list};
-ghost use Rattle.auction_core.specs.Auctions.{beside, drawn, offering, reached, times};
+ghost use Rattle.auction_core.specs.Auctions.{beside, awards_cost, offering, reached, times};
 ghost use Rattle.auction_core.specs.Draft.{found_for};
 ghost use Rattle.budget_book.specs.Sales.{shown_of};
 ghost use Rattle.campaign.specs.Caps.{CapTerms};
@@ -106,7 +106,7 @@ impl Core {
     {
         let facts = &self.entry(n).record().facts;
         let free = self.free_beside(n, moment, awards);
-        let shown = self.shown_beside(n, facts.cap(), request, moment, awards);
+        let shown = self.count_shown_beside(n, facts.cap(), request, moment, awards);
         offers(alloc, request, imp, n, facts, free, shown)
     }
 
@@ -114,15 +114,15 @@ impl Core {
     fn free_beside(&self, n: u32, moment: u64, awards: &[(u32, Win)]) -> Nanos
         requires few { length awards.now ≤ 64 }
         requires there { (1 ≤ n) × (n ≤ length self.now.state.campaigns) }
-        ensures { (c : Campaign) → campaign_at self.now.state n ≡ Some c → result ≡ free (swept moment self.now.state) n c - drawn n awards.now }
+        ensures { (c : Campaign) → campaign_at self.now.state n ≡ Some c → result ≡ free (swept moment self.now.state) n c - awards_cost n awards.now }
     {
         let free = self.free_at(n, moment).get();
-        nanos(free.saturating_sub(drawn(n, awards)))
+        nanos(free.saturating_sub(awards_cost(n, awards)))
     }
 
     // How many sales of campaign `n` to the request's user its cap counts beside the awards, where there is a
     // user.
-    fn shown_beside(
+    fn count_shown_beside(
         &self,
         n: u32,
         cap: Option<Cap>,
@@ -152,11 +152,11 @@ impl Core {
     {
         match cap {
             None => 0,
-            Some(cap) => self.shown_few(n, user, cap.seconds(), moment) + times(n, awards),
+            Some(cap) => self.count_shown(n, user, cap.seconds(), moment) + times(n, awards),
         }
     }
 
-    fn shown_few(&self, n: u32, user: &[u8], seconds: u32, moment: u64) -> u64
+    fn count_shown(&self, n: u32, user: &[u8], seconds: u32, moment: u64) -> u64
         ensures value { result ≡ shown_of n user.now seconds moment (swept moment self.now.state).sales }
         ensures few { result ≤ 4194304 }
     {
@@ -165,9 +165,9 @@ impl Core {
 }
 
 // What the awards take of the budget of campaign `n`.
-fn drawn(n: u32, awards: &[(u32, Win)]) -> u64
+fn awards_cost(n: u32, awards: &[(u32, Win)]) -> u64
     requires few { length awards.now ≤ 64 }
-    ensures value { result ≡ drawn n awards.now }
+    ensures value { result ≡ awards_cost n awards.now }
 {
     let mut sum = 0;
     for award in awards {

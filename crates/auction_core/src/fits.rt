@@ -1,7 +1,7 @@
 // Whether effects of a journal fit the state.
 ghost use Rattle.std.specs.Prelude.{◌≡◌, ◌≤◌, ◌-◌, ◌^◌, ◌==◌, ◌&&◌, if◌then◌else◌, IfOk, IsTrue, false, is_some, length, map, min, not};
 ghost use Rattle.std.specs.Option.{option_copied, option_map_or};
-ghost use Rattle.auction_core.specs.Applying.{User, drawn_by, holding_for, with_sold};
+ghost use Rattle.auction_core.specs.Applying.{User, items_cost, holding_for, with_sold};
 ghost use Rattle.auction_core.specs.Draft.{can_change};
 ghost use Rattle.budget_book.specs.declared.sales.SaleRow.{SaleRow};
 ghost use Rattle.budget_book.specs.Sales.{is_held};
@@ -53,7 +53,7 @@ impl Core {
         requires there { IsTrue (is_some (campaign_at self.now.state n)) }
         ensures { (c : Campaign) → campaign_at self.now.state n ≡ Some c → result ≡ can_change (swept moment self.now.state) n (record { facts = facts.now; expr = expr.now }) c }
     {
-        let committed = self.committed_at(n, moment);
+        let committed = self.commitments_at(n, moment);
         let limit = self.limit_changed(n, facts, expr);
         committed <= facts.budget() && limit.is_none()
     }
@@ -105,13 +105,13 @@ impl Core {
         ensures { (user : User) (c : Campaign) → campaign_at self.now.state n ≡ Some c → result ≡ free (with_sold moment user before.now (swept moment self.now.state)) n c }
     {
         let free = self.free_at(n, moment).get();
-        free.saturating_sub(drawn_by(n, before))
+        free.saturating_sub(items_cost(n, before))
     }
 }
 
 // What the items take of the budget of campaign `n`, or 2^64 - 1 where that is less.
-fn drawn_by(n: u32, items: &[SoldItem]) -> u64
-    ensures { result ≡ min (drawn_by n items.now) (2 ^ 64 - 1) }
+fn items_cost(n: u32, items: &[SoldItem]) -> u64
+    ensures { result ≡ min (items_cost n items.now) (2 ^ 64 - 1) }
 {
     let mut sum: u64 = 0;
     for item in items {

@@ -43,12 +43,12 @@ impl Core {
         if place >= self.sales() {
             return Ok(None);
         }
-        let row = self.book.row(self.forgotten_few() + place + 1)?;
+        let row = self.book.row(self.forgotten_count() + place + 1)?;
         Ok(sale_effect(row))
     }
 
     // How many sales are forgotten: at most 2^62.
-    pub(crate) fn forgotten_few(&self) -> u64
+    pub(crate) fn forgotten_count(&self) -> u64
         ensures value { result ≡ forgotten self.now.state }
         ensures few { result ≤ 2 ^ 62 }
     {

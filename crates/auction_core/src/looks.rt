@@ -60,7 +60,7 @@ impl Core {
     }
 
     // What campaign `n` has spent and reserved at the moment.
-    pub(crate) fn committed_at(&self, n: u32, moment: u64) -> Nanos
+    pub(crate) fn commitments_at(&self, n: u32, moment: u64) -> Nanos
         requires there { (1 ≤ n) × (n ≤ length self.now.state.campaigns) }
         ensures { (c : Campaign) → campaign_at self.now.state n ≡ Some c → result ≡ committed (swept moment self.now.state) n c }
     {

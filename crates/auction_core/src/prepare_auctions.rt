@@ -1,6 +1,6 @@
 // Auctions, prepared.
 ghost use Rattle.std.specs.Prelude.{◌≡◌, ◌≤◌, ◌+◌, IfOk, IsTrue, OnOk, length, map, nat_lt};
-ghost use Rattle.auction_core.specs.Auctions.{awarded, selling};
+ghost use Rattle.auction_core.specs.Auctions.{award_outcome, selling};
 ghost use Rattle.auction_core.specs.Draft.{IsDraftOf, IsReady, found_for};
 ghost use Rattle.auction_core.specs.Outcomes.{IsOutcome, IsPossible};
 ghost use Rattle.plain_exchange.specs.declared.commands.Command.TheVariants as command;
@@ -62,11 +62,11 @@ impl Core {
         ensures campaign_room { self.old.campaign_room ≤ self.new.campaign_room }
     {
         let awards = self.awards(alloc, request, moment, found)?;
-        self.awarded_with_room(alloc, request, moment, awards.as_slice())
+        self.award_with_room(alloc, request, moment, awards.as_slice())
     }
 
     // What comes of the awards, with room for their sales.
-    fn awarded_with_room(
+    fn award_with_room(
         &mut self,
         alloc: Global,
         request: &BidRequest,
@@ -74,7 +74,7 @@ impl Core {
         awards: &[(u32, Win)],
     ) -> Result<Outcome, AllocError>
         requires few { length awards.now ≤ 64 }
-        ensures outcome { IfOk result (λ o. o ≡ awarded self.old.ttl moment request.now self.old.state awards.now) }
+        ensures outcome { IfOk result (λ o. o ≡ award_outcome self.old.ttl moment request.now self.old.state awards.now) }
         ensures room { OnOk result (length awards.now ≤ self.new.sale_room) }
         ensures state { self.new.state ≡ self.old.state }
         ensures ttl { self.new.ttl ≡ self.old.ttl }
@@ -82,13 +82,13 @@ impl Core {
         ensures sale_room { self.old.sale_room ≤ self.new.sale_room }
         ensures campaign_room { self.old.campaign_room ≤ self.new.campaign_room }
     {
-        let outcome = self.awarded(alloc, request, moment, awards)?;
+        let outcome = self.award_outcome(alloc, request, moment, awards)?;
         self.reserve_sales(awards.len() as u32)?;
         Ok(outcome)
     }
 
     // What comes of the awards.
-    fn awarded(
+    fn award_outcome(
         &self,
         alloc: Global,
         request: &BidRequest,
@@ -96,7 +96,7 @@ impl Core {
         awards: &[(u32, Win)],
     ) -> Result<Outcome, AllocError>
         requires few { length awards.now ≤ 64 }
-        ensures { IfOk result (λ o. o ≡ awarded self.now.ttl moment request.now self.now.state awards.now) }
+        ensures { IfOk result (λ o. o ≡ award_outcome self.now.ttl moment request.now self.now.state awards.now) }
     {
         if awards.is_empty() {
             return Ok(reply_alone(Reply::NoBid));
@@ -130,7 +130,7 @@ impl Core {
     {
         let due = moment.saturating_add(self.ttl);
         let user = user_of(request);
-        let sold = self.all_sold(alloc, request, awards)?;
+        let sold = self.list_sales(alloc, request, awards)?;
         let change = sale_change(alloc, awards, due, user)?;
         let holdings = holdings(alloc, awards, due, user)?;
         Ok(Outcome {

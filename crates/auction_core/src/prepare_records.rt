@@ -97,7 +97,7 @@ impl Core {
         ensures outcome { IfOk result (λ o. IsOutcome moment (swept moment self.now.state) (at_campaign (swept moment self.now.state) n (change_campaign facts.now expr.now n (swept moment self.now.state))) o) }
         ensures possible { IfOk result (λ o. (sales campaigns : ℕ) → IsPossible moment (swept moment self.now.state) sales campaigns o) }
     {
-        let committed = self.committed_at(n, moment);
+        let committed = self.commitments_at(n, moment);
         if facts.budget() < committed {
             return Ok(reply_alone(Reply::BelowCommitted { committed }));
         }

@@ -41,14 +41,14 @@ impl Core {
         let mut steps = Steps::<L>::new(blank);
         let mut found = Vec::new(alloc);
         for imp in 0..request.imps.len() {
-            let numbers = self.found_at(alloc, request, imp, &mut steps)?;
+            let numbers = self.find_at(alloc, request, imp, &mut steps)?;
             found.push(numbers)?;
         }
         Ok(found)
     }
 
     // The numbers for the impression at the place.
-    fn found_at<L: Ledger>(
+    fn find_at<L: Ledger>(
         &self,
         alloc: Global,
         request: &BidRequest,

@@ -16,7 +16,7 @@ use std::alloc::{AllocError, Global};
 
 impl Core {
     // The awards as they are answered.
-    pub(crate) fn all_sold(
+    pub(crate) fn list_sales(
         &self,
         alloc: Global,
         request: &BidRequest,
@@ -26,16 +26,16 @@ impl Core {
         ensures { IfOk result (λ sold. sold ≡ all_sold_as self.now.state request.now awards.now) }
     {
         let mut all = List::with_capacity(alloc, awards.len())?;
-        let first = self.forgotten_few() + self.sales() + 1;
+        let first = self.forgotten_count() + self.sales() + 1;
         for place in 0..awards.len() {
-            let sold = self.sold(request, &awards[place], first + place as u64)?;
+            let sold = self.sale_of_award(request, &awards[place], first + place as u64)?;
             push_sold(&mut all, sold)?;
         }
         Ok(all)
     }
 
     // The award as it is answered, with the number of its sale.
-    fn sold(
+    fn sale_of_award(
         &self,
         request: &BidRequest,
         award: &(u32, Win),

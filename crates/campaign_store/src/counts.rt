@@ -60,7 +60,7 @@ impl Counts {
     }
 
     // The first limit that so many campaigns that hold this are above.
-    pub fn passed(self, campaigns: usize) -> Option<Limit>
+    pub fn first_passed(self, campaigns: usize) -> Option<Limit>
         ensures { result ≡ first_passed campaigns self }
     {
         if campaigns > MOST_CAMPAIGNS {

@@ -135,7 +135,7 @@ impl Table {
         ensures { option_map (λ f. f.limit) (result_err result) ≡ passed_limit (entries_with old (record { facts = facts.now; expr = expr.now }) self.now.campaigns) }
     {
         let total = self.total_with(old, Counts::of(facts, expr));
-        match total.passed(self.count_with(old)) {
+        match total.first_passed(self.count_with(old)) {
             Some(limit) => Err(Full { limit }),
             None => Ok(()),
         }

@@ -12,7 +12,7 @@ use crate::campaigns::{exchange_of, has_few_edits, message_of};
 use auction_core::{Command, Core, Reply};
 use command_read::{CommandFault, read_command};
 use conj_index::Index;
-use core_index::{index_of_live, reached_by_index};
+use core_index::{find_by_index, index_of_live};
 use http_wire::Message;
 use rtb_base::Steps;
 use rtb_num::{List, Txt};
@@ -112,7 +112,7 @@ impl Shop {
         if !has_few_edits(&self.core) {
             return Err(AllocError);
         }
-        let found = found::<Brand>(alloc, &self.index, command, Blank::new(1))?;
+        let found = find_campaigns::<Brand>(alloc, &self.index, command, Blank::new(1))?;
         let draft = self
             .core
             .prepare(alloc, command, found.as_slice(), self.moment)?;
@@ -132,7 +132,7 @@ fn index_of<L: Ledger>(alloc: Global, core: &Core, blank: Blank) -> Result<Index
     index_of_live(alloc, core.table(), &mut steps)
 }
 
-fn found<L: Ledger>(
+fn find_campaigns<L: Ledger>(
     alloc: Global,
     index: &Index,
     command: &Command,
@@ -144,5 +144,5 @@ fn found<L: Ledger>(
     ensures { IfOk result (λ found. (s : State) → IsIndexOf (live_expressions (listed s)) index.now → found.items ≡ found_of s command.now) }
 {
     let mut steps = Steps::<L>::new(blank);
-    reached_by_index(alloc, index, command, &mut steps)
+    find_by_index(alloc, index, command, &mut steps)
 }

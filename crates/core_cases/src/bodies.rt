@@ -13,12 +13,12 @@ pub fn body_of(alloc: Global, text: &str) -> Result<Txt, AllocError> {
 
 fn body_with(alloc: Global, name: &[u8], members: &[u8], text: &str) -> Result<Txt, AllocError> {
     match front_of(name) {
-        Some(front) => joined(alloc, front, members),
+        Some(front) => join(alloc, front, members),
         None => Txt::from_slice(alloc, text.as_bytes()),
     }
 }
 
-fn joined(alloc: Global, front: &[u8], members: &[u8]) -> Result<Txt, AllocError> {
+fn join(alloc: Global, front: &[u8], members: &[u8]) -> Result<Txt, AllocError> {
     let mut body = Txt::from_slice(alloc, front)?;
     if !members.is_empty() {
         body.push(b',')?;

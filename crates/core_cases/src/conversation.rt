@@ -15,7 +15,7 @@ ghost use Rattle.std.specs.Prelude.{◌≡◌, ◌+◌, ◌≤◌, ◌<◌, ◌^
 ghost use Rattle.auction_core.specs.Draft.{IsReady, found_of, is_valid_command};
 ghost use Rattle.plain_exchange.specs.Effects.{edits_in};
 
-use crate::message::{Sent, put_answer, sent_in};
+use crate::message::{Sent, put_answer, read_sent};
 use auction_core::{ApplyFault, Change, Command, Core, Draft, Effect, Reply};
 use command_read::{CommandFault, read_command};
 use rtb_num::{List, Txt};
@@ -135,7 +135,7 @@ impl Exchange {
         turns: u32,
         out: &mut Txt,
     ) -> Result<(), AllocError> {
-        match sent_in(alloc, text)? {
+        match read_sent(alloc, text)? {
             Some(sent) => self.take_sent(alloc, &sent, turns, out),
             None => out.extend(b"no message"),
         }
@@ -234,7 +234,7 @@ fn draft_of(
     ensures ready { IfOk result (λ draft. IsReady draft core.new) }
     ensures edits { core.new.edits ≡ core.old.edits }
 {
-    let found = found_by(alloc, core, command)?;
+    let found = find_for(alloc, core, command)?;
     core.prepare(alloc, command, found.as_slice(), moment)
 }
 
@@ -255,7 +255,7 @@ fn carry_out(
 }
 
 // The live campaigns whose expressions are true of an auction's impressions.
-fn found_by(alloc: Global, core: &Core, command: &Command) -> Result<Vec<List<u32>>, AllocError>
+fn find_for(alloc: Global, core: &Core, command: &Command) -> Result<Vec<List<u32>>, AllocError>
     ensures { IfOk result (λ found. found.items ≡ found_of core.now.state command.now) }
 {
     match command {

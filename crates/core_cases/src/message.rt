@@ -12,23 +12,23 @@ pub struct Sent {
 }
 
 /// The message `MOMENT METHOD TARGET BODY`, where the body may be missing; none where the text is none.
-pub fn sent_in(alloc: Global, text: &str) -> Result<Option<Sent>, AllocError> {
+pub fn read_sent(alloc: Global, text: &str) -> Result<Option<Sent>, AllocError> {
     match text.split_once(" ") {
-        Some((moment, rest)) => sent_at(alloc, moment.parse::<u64>().unwrap_or(0), rest),
+        Some((moment, rest)) => read_sent_at(alloc, moment.parse::<u64>().unwrap_or(0), rest),
         None => Ok(None),
     }
 }
 
 // `METHOD TARGET BODY`
-fn sent_at(alloc: Global, moment: u64, text: &str) -> Result<Option<Sent>, AllocError> {
+fn read_sent_at(alloc: Global, moment: u64, text: &str) -> Result<Option<Sent>, AllocError> {
     match text.split_once(" ") {
-        Some((method, rest)) => sent_with(alloc, moment, method, rest),
+        Some((method, rest)) => make_sent(alloc, moment, method, rest),
         None => Ok(None),
     }
 }
 
 // `TARGET BODY`
-fn sent_with(
+fn make_sent(
     alloc: Global,
     moment: u64,
     method: &str,

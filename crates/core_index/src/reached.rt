@@ -19,7 +19,7 @@ use std::sync::ledger::Ledger;
 /// For each impression of an auction, the numbers of the live campaigns whose expression is true of it,
 /// rising; for any other command nothing. It is what `Core::prepare` wants to be told, for an exchange
 /// with just the campaigns of the index.
-pub fn reached_by_index<L: Ledger>(
+pub fn find_by_index<L: Ledger>(
     alloc: Global,
     index: &Index,
     command: &Command,
@@ -28,13 +28,13 @@ pub fn reached_by_index<L: Ledger>(
     ensures { IfOk result (λ found. (s : State) → IsIndexOf (live_expressions (listed s)) index.now → found.items ≡ found_of s command.now) }
 {
     match command {
-        Command::Auction(request) => all_reached(alloc, index, request, steps),
+        Command::Auction(request) => find_for_imps(alloc, index, request, steps),
         _ => Ok(Vec::new(alloc)),
     }
 }
 
 // The numbers for each impression.
-fn all_reached<L: Ledger>(
+fn find_for_imps<L: Ledger>(
     alloc: Global,
     index: &Index,
     request: &BidRequest,
@@ -44,14 +44,14 @@ fn all_reached<L: Ledger>(
 {
     let mut found = Vec::with_capacity(alloc, request.imps.len())?;
     for imp in 0..request.imps.len() {
-        let numbers = reached_at(alloc, index, request, imp, steps)?;
+        let numbers = find_for_imp(alloc, index, request, imp, steps)?;
         found.push(numbers)?;
     }
     Ok(found)
 }
 
 // The numbers for the impression at the place.
-fn reached_at<L: Ledger>(
+fn find_for_imp<L: Ledger>(
     alloc: Global,
     index: &Index,
     request: &BidRequest,

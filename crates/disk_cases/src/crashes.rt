@@ -191,7 +191,7 @@ fn compact_crashes(
     out: &mut Txt,
 ) -> Result<(), AllocError> {
     let whole = disk_with_blocks(disk_of(alloc, content)?, blocks);
-    let calls = whole.made().len() as u64;
+    let calls = whole.history().len() as u64;
     let mut all = Txt::new(alloc);
     for block in blocks {
         all.extend(block.as_bytes())?;

@@ -46,7 +46,7 @@ fn tell_calls(
     out: &mut Txt,
 ) -> Result<(), AllocError> {
     let disk = run(alloc, content, fails, steps, &mut Txt::new(alloc))?;
-    tell_record(disk.made(), out)
+    tell_record(disk.history(), out)
 }
 
 fn run(

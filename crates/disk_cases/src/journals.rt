@@ -154,7 +154,7 @@ fn tell_calls(
 
 // The record behind so many calls.
 fn tell_behind(disk: &MemDisk, before: usize, out: &mut Txt) -> Result<(), AllocError> {
-    let made = disk.made();
+    let made = disk.history();
     tell_record(&made[before.min(made.len())..], out)
 }
 
@@ -162,7 +162,7 @@ fn tell_behind(disk: &MemDisk, before: usize, out: &mut Txt) -> Result<(), Alloc
 pub fn calls_to_open(alloc: Global, content: &Txt) -> Result<usize, AllocError> {
     let disk = disk_of(alloc, content)?;
     let opened = open(disk, &mut Txt::new(alloc), &mut List::new(alloc))?;
-    Ok(disk_behind(opened).made().len())
+    Ok(disk_behind(opened).history().len())
 }
 
 fn find_block(alloc: Global, content: &Txt, gate: &[u8], out: &mut Txt) -> Result<(), AllocError> {

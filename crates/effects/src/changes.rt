@@ -92,10 +92,10 @@ pub(crate) fn get_changed(alloc: Global, bytes: &[u8], place: usize) -> Found<Ch
     let Some((expr, next)) = get_expr(alloc, bytes, next)? else {
         return Ok(None);
     };
-    Ok(Some((changed_from(numbered, expr), next)))
+    Ok(Some((change_from(numbered, expr), next)))
 }
 
-fn changed_from(numbered: (u32, Facts), expr: Expr) -> Change
+fn change_from(numbered: (u32, Facts), expr: Expr) -> Change
     ensures { result ≡ change_type.Changed numbered.0 numbered.1 expr }
 {
     let (n, facts) = numbered;
@@ -111,10 +111,10 @@ pub(crate) fn get_capped_added(alloc: Global, bytes: &[u8], place: usize) -> Fou
     let Some((expr, next)) = get_expr(alloc, bytes, next)? else {
         return Ok(None);
     };
-    Ok(Some((capped_added_from(capped, expr), next)))
+    Ok(Some((capped_addition_from(capped, expr), next)))
 }
 
-fn capped_added_from(capped: (Facts, Cap), expr: Expr) -> Change
+fn capped_addition_from(capped: (Facts, Cap), expr: Expr) -> Change
     ensures { result ≡ change_type.Added (with_cap (Some capped.1) capped.0) expr }
 {
     let (facts, cap) = capped;
@@ -130,10 +130,10 @@ pub(crate) fn get_capped_changed(alloc: Global, bytes: &[u8], place: usize) -> F
     let Some((expr, next)) = get_expr(alloc, bytes, next)? else {
         return Ok(None);
     };
-    Ok(Some((capped_changed_from(capped, expr), next)))
+    Ok(Some((capped_change_from(capped, expr), next)))
 }
 
-fn capped_changed_from(capped: ((u32, Facts), Cap), expr: Expr) -> Change
+fn capped_change_from(capped: ((u32, Facts), Cap), expr: Expr) -> Change
     ensures { result ≡ change_type.Changed capped.0.0 (with_cap (Some capped.1) capped.0.1) expr }
 {
     let ((n, facts), cap) = capped;

@@ -66,6 +66,10 @@ pub record WasRead (left left' : Option (List ℕ)) (bytes : List ℕ) : Type 0 
 -- the line of a status that comes with no reply
 abbrev pub line_of : Status → List ℕ
 line_of status.Usage = codes "rtbx: usage\n"
+line_of status.NoDoor = codes "rtbx: cannot listen\n"
+line_of status.NoDisk = codes "rtbx: cannot open journal\n"
+line_of status.JournalFailed = codes "rtbx: journal failed\n"
+line_of status.DoorFailed = codes "rtbx: accept failed\n"
 line_of status.Memory = codes "rtbx: memory\n"
 line_of status.NotRead = codes "rtbx: input failed\n"
 line_of _ = []

@@ -11,7 +11,7 @@ ghost use Rattle.rtb_types.specs.Valid.{is_valid};
 
 use crate::opening::add_campaigns;
 use auction_core::{Command, Core, Reply};
-use core_index::{index_of_live, reached_by_index};
+use core_index::{find_by_index, index_of_live};
 use rtb_base::Steps;
 use rtb_num::{List, Txt};
 use rtb_response::write_response;
@@ -88,13 +88,13 @@ fn reply_of(alloc: Global, core: Core, command: &Command) -> Result<Reply, Alloc
     ensures { IfOk result (λ r. r ≡ (step core.ttl 0 core.state command.now).reply) }
 {
     let mut core = core;
-    let found = found::<Brand>(alloc, &core, command, Blank::new(1))?;
+    let found = find_campaigns::<Brand>(alloc, &core, command, Blank::new(1))?;
     let draft = core.prepare(alloc, command, found.as_slice(), 0)?;
     Ok(core.commit(draft))
 }
 
 // The campaigns that the command's impressions reach. The steps of the index are not counted.
-fn found<L: Ledger>(
+fn find_campaigns<L: Ledger>(
     alloc: Global,
     core: &Core,
     command: &Command,
@@ -107,5 +107,5 @@ fn found<L: Ledger>(
 {
     let mut steps = Steps::<L>::new(blank);
     let index = index_of_live(alloc, core.table(), &mut steps)?;
-    reached_by_index(alloc, &index, command, &mut steps)
+    find_by_index(alloc, &index, command, &mut steps)
 }

@@ -23,9 +23,13 @@ fn line(status: Status) -> &'static [u8]
 {
     match status {
         Status::Usage => b"rtbx: usage\n",
+        Status::NoDoor => b"rtbx: cannot listen\n",
+        Status::NoDisk => b"rtbx: cannot open journal\n",
+        Status::JournalFailed => b"rtbx: journal failed\n",
+        Status::DoorFailed => b"rtbx: accept failed\n",
         Status::Memory => b"rtbx: memory\n",
         Status::NotRead => b"rtbx: input failed\n",
-        Status::Done | Status::Refused | Status::NotWritten => b"",
+        Status::Done | Status::Refused | Status::Damaged | Status::NotWritten => b"",
     }
 }
 

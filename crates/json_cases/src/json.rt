@@ -112,14 +112,14 @@ fn write_end(writer: &mut Writer) -> Result<Written, AllocError> {
     if !writer.can_end() {
         return Ok(Written::Misplaced);
     }
-    ended(writer.end())
+    outcome(writer.end())
 }
 
 fn write_name(writer: &mut Writer, name: &[u8]) -> Result<Written, AllocError> {
     if !writer.takes_name() {
         return Ok(Written::Misplaced);
     }
-    ended(writer.name(name))
+    outcome(writer.name(name))
 }
 
 fn write_value(writer: &mut Writer, word: &[u8], rest: &[u8]) -> Result<Written, AllocError> {
@@ -127,13 +127,13 @@ fn write_value(writer: &mut Writer, word: &[u8], rest: &[u8]) -> Result<Written,
         return Ok(Written::Misplaced);
     }
     if word == b"obj".as_slice() {
-        return ended(writer.obj());
+        return outcome(writer.obj());
     }
     if word == b"arr".as_slice() {
-        return ended(writer.arr());
+        return outcome(writer.arr());
     }
     if word == b"text".as_slice() {
-        return ended(writer.text(rest));
+        return outcome(writer.text(rest));
     }
     match number_in(rest) {
         Some(n) => write_amount(writer, word, n),
@@ -141,7 +141,7 @@ fn write_value(writer: &mut Writer, word: &[u8], rest: &[u8]) -> Result<Written,
     }
 }
 
-fn ended(told: Result<(), AllocError>) -> Result<Written, AllocError> {
+fn outcome(told: Result<(), AllocError>) -> Result<Written, AllocError> {
     told?;
     Ok(Written::Done)
 }
@@ -150,7 +150,7 @@ fn write_amount(writer: &mut Writer, unit: &[u8], n: u64) -> Result<Written, All
     requires { IsTrue (takes_value writer.old) }
 {
     if unit == b"number".as_slice() {
-        return ended(writer.number(n));
+        return outcome(writer.number(n));
     }
     if unit == b"micros".as_slice() {
         return write_micros(writer, Micros::new(n));
@@ -165,7 +165,7 @@ fn write_micros(writer: &mut Writer, amount: Option<Micros>) -> Result<Written, 
     requires { IsTrue (takes_value writer.old) }
 {
     match amount {
-        Some(m) => ended(writer.micros(m)),
+        Some(m) => outcome(writer.micros(m)),
         None => Ok(Written::Unreadable),
     }
 }
@@ -174,7 +174,7 @@ fn write_nanos(writer: &mut Writer, amount: Option<Nanos>) -> Result<Written, Al
     requires { IsTrue (takes_value writer.old) }
 {
     match amount {
-        Some(n) => ended(writer.nanos(n)),
+        Some(n) => outcome(writer.nanos(n)),
         None => Ok(Written::Unreadable),
     }
 }

@@ -1,7 +1,7 @@
 -- Worked cases, by evaluation: who wins, and at what price.
 use Rattle.std.proofs.Common.{◌≡◌, ℕ, List, [], ◌∷◌, refl, Bool, true, false, Option, Some, None}
 use Rattle.std.specs.Prelude.{codes}
-use Rattle.assign.specs.Rows.{blank_device, pairs_of, site_rows, app_rows, publisher_of, geo_rows, device_rows, user_rows, imp_rows}
+use Rattle.assign.specs.Rows.{blank_device, blank_geo, pairs_of, site_rows, app_rows, publisher_of, geo_rows, device_rows, user_rows, imp_rows}
 use Rattle.deal_rules.specs.Offers.{offers_of}
 use Rattle.deal_rules.specs.Rules.{common_rules, public_rules}
 use Rattle.deal_rules.specs.Terms.{terms_of, user_of}
@@ -72,7 +72,7 @@ attribute_without_value = refl
 
 abbrev phone : Option Device
 phone = Some (record blank_device {
-  geo = Some (record { country = Some (codes "USA"); region = None; metro = None; city = None; zip = None });
+  geo = Some (record blank_geo { country = Some (codes "USA") });
   os = Some (codes "iOS");
 })
 

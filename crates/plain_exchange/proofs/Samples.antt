@@ -3,6 +3,7 @@ use Rattle.std.proofs.Common.{ℕ, List, [], ◌∷◌, true, false, Some, None}
 use Rattle.std.proofs.Math.IntN.{pos}
 use Rattle.std.specs.Prelude.{codes, map}
 use Rattle.std.specs.List.{flat_map}
+use Rattle.assign.specs.Rows.{blank_banner, blank_imp, blank_site, blank_user}
 use Rattle.budget_book.specs.declared.sales.Totals.{Totals}
 use Rattle.campaign.specs.Caps.{cap_of}
 use Rattle.campaign.specs.declared.parts.FactParts.{FactParts}
@@ -13,7 +14,6 @@ use Rattle.plain_exchange.specs.declared.commands.Reply.TheVariants as reply
 use Rattle.plain_exchange.specs.declared.commands.Sold.{Sold}
 use Rattle.plain_exchange.specs.State.{State}
 use Rattle.plain_exchange.specs.Step.{step}
-use Rattle.rtb_types.specs.declared.request.Banner.{Banner}
 use Rattle.rtb_types.specs.declared.request.BidRequest.{BidRequest}
 use Rattle.rtb_types.specs.declared.request.Imp.{Imp}
 use Rattle.rtb_types.specs.declared.request.User.{User}
@@ -118,20 +118,9 @@ capped_shoes = command.Add capped_facts (wants (codes "news.example"))
 
 -- ---- requests
 
--- a banner of any size, open to all
-abbrev pub plain_banner : Banner
-plain_banner = record { sizes = []; battr = []; pos = None }
-
+-- for a banner of any size, open to all
 abbrev pub imp_of : ℕ → Imp
-imp_of floor = record {
-  id = codes "1";
-  tagid = None;
-  secure = false;
-  floor = floor;
-  currency = codes "USD";
-  banner = Some plain_banner;
-  pmp = record { private_auction = false; deals = [] };
-}
+imp_of floor = record blank_imp { id = codes "1"; floor = floor; currency = codes "USD"; banner = Some blank_banner }
 
 abbrev pub on_news : List Imp → BidRequest
 on_news imps = record {
@@ -143,7 +132,7 @@ on_news imps = record {
   cur = [];
   bcat = [];
   badv = [];
-  site = Some (record { id = None; domain = Some (codes "news.example"); publisher = None });
+  site = Some (record blank_site { domain = Some (codes "news.example") });
   app = None;
   device = None;
   user = None;
@@ -159,11 +148,11 @@ abbrev pub reader_imp : Imp
 reader_imp = record (imp_of 300000) {
   tagid = Some (codes "top");
   secure = true;
-  banner = Some (record { sizes = record { w = pos 300; h = pos 250 } ∷ record { w = pos 320; h = pos 50 } ∷ []; battr = pos 13 ∷ []; pos = Some (pos 1) });
+  banner = Some (record blank_banner { sizes = record { w = pos 300; h = pos 250 } ∷ record { w = pos 320; h = pos 50 } ∷ []; battr = pos 13 ∷ []; pos = Some (pos 1) });
 }
 
 abbrev pub reader : User
-reader = record { id = Some (codes "55816b39"); yob = Some (pos 1984); gender = None }
+reader = record blank_user { id = Some (codes "55816b39"); yob = Some (pos 1984) }
 
 abbrev pub by_reader : BidRequest
 by_reader = record (on_news (reader_imp ∷ [])) { cur = codes "USD" ∷ []; bcat = codes "IAB25" ∷ []; badv = codes "other.example" ∷ []; user = Some reader }

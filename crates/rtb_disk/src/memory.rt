@@ -70,7 +70,7 @@ impl MemDisk {
     }
 
     /// The record of its calls.
-    pub fn made(&self) -> &[Made]
+    pub fn history(&self) -> &[Made]
         ensures { result.now ≡ self.now.made }
     {
         self.log.made.as_slice()

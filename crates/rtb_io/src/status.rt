@@ -10,8 +10,18 @@ pub enum Status {
     Refused,
     /// The words are of no command.
     Usage,
+    /// The world gave no door to listen at.
+    NoDoor,
+    /// The world gave no disk for the journal.
+    NoDisk,
+    /// The journal's disk failed while the journal was opened or read.
+    JournalFailed,
+    /// The journal is damaged.
+    Damaged,
     /// The sink failed.
     NotWritten,
+    /// A door failed.
+    DoorFailed,
     /// Memory was refused.
     Memory,
     /// The source failed.
@@ -27,7 +37,12 @@ impl Status {
             Status::Done => 0,
             Status::Refused => 1,
             Status::Usage => 2,
+            Status::NoDoor => 3,
+            Status::NoDisk => 4,
+            Status::JournalFailed => 5,
+            Status::Damaged => 6,
             Status::NotWritten => 7,
+            Status::DoorFailed => 8,
             Status::Memory => 9,
             Status::NotRead => 10,
         }

@@ -11,7 +11,7 @@ use rtb_num::Txt;
 use std::alloc::{AllocError, Global};
 
 /// What the words give to the command.
-pub(crate) fn matched<'a>(
+pub(crate) fn match_words<'a>(
     command: Command<'a>,
     words: &'a [&'a str],
 ) -> Result<ArgMatches<'a>, WordsFault>
@@ -53,13 +53,13 @@ pub(crate) fn number(matches: &ArgMatches<'_>, name: &str) -> Option<u64>
     ensures { result ≡ number_in (text_of name.now (rows_of (found_of matches.now))) }
 {
     match matches.get_str(name) {
-        Some(text) => parsed(text),
+        Some(text) => parse_number(text),
         None => None,
     }
 }
 
 #[tactic(auto, using(crate::proofs::Numbers::is_number, crate::proofs::Numbers::is_no_number))]
-fn parsed(text: &str) -> Option<u64>
+fn parse_number(text: &str) -> Option<u64>
     ensures { result ≡ number_in text.now }
 {
     match text.parse::<u64>() {

@@ -4,7 +4,7 @@ ghost use Rattle.run_words.specs.Commands.{given_by, recover_app, recover_of, re
 ghost use Rattle.run_words.specs.declared.fault.WordsFault.TheVariants.{Usage};
 
 use crate::fault::WordsFault;
-use crate::matched::{matched, option_text};
+use crate::matched::{match_words, option_text};
 use crate::options::text_option;
 use crate::texts::texts;
 use clap::{ArgMatches, Command};
@@ -30,7 +30,7 @@ fn options_in<'a>(alloc: Global, words: &'a [&'a str]) -> Result<RecoverOptions,
     ensures { MatchResult result (λ o. option_map recover_of (given_by recover_app (map (λ s. s.now) words.entry.now)) ≡ Some o) (λ e. e ≡ Usage → option_map recover_of (given_by recover_app (map (λ s. s.now) words.entry.now)) ≡ None) }
 {
     let command = recover_command(alloc)?;
-    match matched(command, words) {
+    match match_words(command, words) {
         Ok(matches) => Ok(options(alloc, &matches)?),
         Err(fault) => Err(fault),
     }

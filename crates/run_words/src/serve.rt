@@ -4,7 +4,7 @@ ghost use Rattle.run_words.specs.Commands.{given_by, serve_app, serve_of, serve_
 ghost use Rattle.run_words.specs.declared.fault.WordsFault.TheVariants.{Usage};
 
 use crate::fault::WordsFault;
-use crate::matched::{matched, number, option_text};
+use crate::matched::{match_words, number, option_text};
 use crate::options::{number_option, text_option};
 use crate::texts::texts;
 use clap::{ArgMatches, Command};
@@ -36,7 +36,7 @@ fn options_in<'a>(alloc: Global, words: &'a [&'a str]) -> Result<ServeOptions, W
     ensures { MatchResult result (λ o. option_and_then serve_of (given_by serve_app (map (λ s. s.now) words.entry.now)) ≡ Some o) (λ e. e ≡ Usage → option_and_then serve_of (given_by serve_app (map (λ s. s.now) words.entry.now)) ≡ None) }
 {
     let command = serve_command(alloc)?;
-    match matched(command, words) {
+    match match_words(command, words) {
         Ok(matches) => options(alloc, &matches),
         Err(fault) => Err(fault),
     }

@@ -67,7 +67,7 @@ fn of_sales(shop: &Shop, command: &[u8], out: &mut Txt) -> Result<bool, AllocErr
         return put_state(state, out);
     }
     if name == b"shown".as_slice() {
-        return put_number(shown(shop, command), out);
+        return put_number(count_shown(shop, command), out);
     }
     if name == b"sale".as_slice() {
         return put_row(&shop.book.row(number_at(command, 1))?, out);
@@ -81,7 +81,7 @@ fn of_sales(shop: &Shop, command: &[u8], out: &mut Txt) -> Result<bool, AllocErr
     Ok(false)
 }
 
-fn shown(shop: &Shop, command: &[u8]) -> u64 {
+fn count_shown(shop: &Shop, command: &[u8]) -> u64 {
     let seconds = campaign_at(command, 2);
     let moment = number_at(command, 3);
     shop.book.shown(

@@ -117,10 +117,14 @@ fn serve(
         first,
         single,
     };
-    held::<Brand>(alloc, link, Blank::new(1))
+    hold_conversation::<Brand>(alloc, link, Blank::new(1))
 }
 
-fn held<L: Ledger>(alloc: Global, link: Pieces, blank: Blank) -> Result<Came, AllocError>
+fn hold_conversation<L: Ledger>(
+    alloc: Global,
+    link: Pieces,
+    blank: Blank,
+) -> Result<Came, AllocError>
     requires name { blank.name ≡ L.name }
     requires parts { blank.parts ≡ L.parts }
     requires some { 0 < blank.parts }

@@ -37,7 +37,7 @@ fn put_sold(
     for sale in sales {
         push_sale(alloc, sale.as_bytes(), &mut sold)?;
     }
-    let message = posted(alloc, request)?;
+    let message = post(alloc, request)?;
     let reply = Reply::Sold(sold);
     if public.is_empty() {
         return put_response(alloc, &message, &reply, None, out);
@@ -76,7 +76,7 @@ fn put_response_to(
 }
 
 // The message that asks for an auction with this body.
-fn posted(alloc: Global, body: &Txt) -> Result<Message, AllocError> {
+fn post(alloc: Global, body: &Txt) -> Result<Message, AllocError> {
     Ok(Message {
         method: Txt::from_slice(alloc, b"POST")?,
         target: Txt::from_slice(alloc, b"/openrtb2/auction")?,

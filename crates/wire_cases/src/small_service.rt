@@ -21,11 +21,11 @@ impl Service for Small {
     ghost answers = { λ a m g b. ⊤ };
 
     fn answer(&mut self, message: &Message) -> Given {
-        given_for(self.alloc, message)
+        give(self.alloc, message)
     }
 }
 
-fn given_for(alloc: Global, message: &Message) -> Given
+fn give(alloc: Global, message: &Message) -> Given
     ensures { IsGivable result }
 {
     let target = message.target.as_bytes();
@@ -77,7 +77,7 @@ fn answer_post(alloc: Global, message: &Message) -> Result<Answer, AllocError>
 {
     let target = message.target.as_bytes();
     if target == b"/openrtb2/auction".as_slice() {
-        return sold(alloc, message.body.as_bytes());
+        return sell(alloc, message.body.as_bytes());
     }
     if target == b"/echo".as_slice() {
         return Ok(with_body(200, message.body.copy()?));
@@ -96,7 +96,7 @@ fn error(alloc: Global, word: &[u8]) -> Result<Answer, AllocError>
     Ok(with_body(404, body))
 }
 
-fn sold(alloc: Global, body: &[u8]) -> Result<Answer, AllocError>
+fn sell(alloc: Global, body: &[u8]) -> Result<Answer, AllocError>
     ensures { IfOk result IsWritable }
 {
     match read(alloc, body) {

@@ -25,5 +25,5 @@ pub returns : goal.returns
 returns c =
     let first = rw c.in-Some.is at c.in_ok-capped.ensures in
     let second = rw c.in-Some-2.is at c.in_ok-expr.ensures in
-    rw c.capped_added_from.ensures (some_body Tag.CappedAdded c.args.bytes.now c.args.place (c.in-Some.capped, c.in-Some-2.expr) c.in-Some-2.next
+    rw c.capped_addition_from.ensures (some_body Tag.CappedAdded c.args.bytes.now c.args.place (c.in-Some.capped, c.in-Some-2.expr) c.in-Some-2.next
     (read_both (BothValid IsUncapped IsCap) (both_bytes facts_bytes terms_bytes) IsExpr expr_bytes c.args.bytes.now c.args.place c.in-Some.capped c.in-Some.next c.in-Some-2.expr c.in-Some-2.next first second))

@@ -25,5 +25,5 @@ pub returns : goal.returns
 returns c =
     let first = rw c.in-Some.is at c.in_ok-numbered.ensures in
     let second = rw c.in-Some-2.is at c.in_ok-expr.ensures in
-    rw c.changed_from.ensures (some_body Tag.Changed c.args.bytes.now c.args.place (c.in-Some.numbered, c.in-Some-2.expr) c.in-Some-2.next
+    rw c.change_from.ensures (some_body Tag.Changed c.args.bytes.now c.args.place (c.in-Some.numbered, c.in-Some-2.expr) c.in-Some-2.next
     (read_both (BothValid FitsFour IsUncapped) (both_bytes four_bytes facts_bytes) IsExpr expr_bytes c.args.bytes.now c.args.place c.in-Some.numbered c.in-Some.next c.in-Some-2.expr c.in-Some-2.next first second))

@@ -9,7 +9,7 @@ abbrev told : Option (List ℕ) → Option ℕ
 told o = number_in (unwrap_or o [])
 
 pub returns-in-Some : goal.returns-in-Some
-returns-in-Some c = c.parsed.ensures ∙ ap told (c.in-Some.ensures ∙ first_value-rows (found_of c.args.matches.now) c.args.name.now)
+returns-in-Some c = c.parse_number.ensures ∙ ap told (c.in-Some.ensures ∙ first_value-rows (found_of c.args.matches.now) c.args.name.now)
 
 pub returns-in-None : goal.returns-in-None
 returns-in-None c = ap told (c.in-None.ensures ∙ first_value-rows (found_of c.args.matches.now) c.args.name.now)

@@ -6,7 +6,7 @@ use Rattle.run_words.proofs.serve.options_in.Goals as goal
 is_plain : is_simple_and_free serve_app ≡ true
 is_plain = refl
 
-pub matched-requires : goal.matched-requires
-matched-requires c =
+pub match_words-requires : goal.match_words-requires
+match_words-requires c =
     let app : app_of c.in_ok-command.command ≡ serve_app = c.in_ok-command.ensures in
     record { simple = ap is_simple_and_free app ∙ is_plain }

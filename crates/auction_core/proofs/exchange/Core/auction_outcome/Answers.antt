@@ -6,15 +6,15 @@ use Rattle.auction_core.proofs.exchange.Core.auction_outcome.Goals as goal
 pub awards-requires-clause-few : goal.awards-requires-clause-few
 awards-requires-clause-few c = few_imps c.args.request.now c.requires.valid
 
-pub awarded_with_room-requires : goal.awarded_with_room-requires
-awarded_with_room-requires c = record { few = subst (λ l. length l ≤ 64) (sym c.as_slice.ensures.value) c.in_ok-awards.ensures.few }
+pub award_with_room-requires : goal.award_with_room-requires
+award_with_room-requires c = record { few = subst (λ l. length l ≤ 64) (sym c.as_slice.ensures.value) c.in_ok-awards.ensures.few }
 
 pub returns-clause-outcome : goal.returns-clause-outcome
 returns-clause-outcome c =
-    awarded_result c.args.self.now.ttl c.args.moment c.args.request.now c.args.self.now.state c.as_slice.result.now c.awarded_with_room.result
-    (c.as_slice.ensures.value ∙ c.in_ok-awards.ensures.value) c.awarded_with_room.ensures.outcome
+    awarded_result c.args.self.now.ttl c.args.moment c.args.request.now c.args.self.now.state c.as_slice.result.now c.award_with_room.result
+    (c.as_slice.ensures.value ∙ c.in_ok-awards.ensures.value) c.award_with_room.ensures.outcome
 
 pub returns-clause-possible : goal.returns-clause-possible
 returns-clause-possible c =
-    possible_result c.args.self.now.ttl c.args.moment c.args.request.now c.args.self.now.state c.as_slice.result.now c.awarded_with_room.result _ _
-    (c.as_slice.ensures.value ∙ c.in_ok-awards.ensures.value) c.awarded_with_room.ensures.outcome c.awarded_with_room.ensures.room
+    possible_result c.args.self.now.ttl c.args.moment c.args.request.now c.args.self.now.state c.as_slice.result.now c.award_with_room.result _ _
+    (c.as_slice.ensures.value ∙ c.in_ok-awards.ensures.value) c.award_with_room.ensures.outcome c.award_with_room.ensures.room

@@ -1,5 +1,5 @@
 use Rattle.std.proofs.Common.{◌-◌, ◌∙◌, ap, sym}
-use Rattle.auction_core.specs.Applying.{drawn_by}
+use Rattle.auction_core.specs.Applying.{items_cost}
 use Rattle.plain_exchange.specs.State.{swept}
 use Rattle.auction_core.proofs.Fitting.{free_sold, less_most}
 use Rattle.auction_core.proofs.exchange.Core.free_beside_items.Goals as goal
@@ -10,7 +10,7 @@ returns c = λ user d at.
     let items = c.args.before.now in
     let free = c.get-free.result in
     c.saturating_sub.ensures
-    ∙ ap (λ x. free - x) c.drawn_by.ensures
-    ∙ less_most free (drawn_by n items) c.get-free.ensures.bound
-    ∙ ap (λ x. x - drawn_by n items) (c.get-free.ensures.value ∙ c.free_at.ensures d at)
+    ∙ ap (λ x. free - x) c.items_cost.ensures
+    ∙ less_most free (items_cost n items) c.get-free.ensures.bound
+    ∙ ap (λ x. x - items_cost n items) (c.get-free.ensures.value ∙ c.free_at.ensures d at)
     ∙ sym (free_sold c.args.moment user n (swept c.args.moment c.args.self.now.state) d items)

@@ -17,5 +17,5 @@ returns-clause-value c = λ i d at there.
     let facts = ap (λ (e : Record). e.facts) (c.record.ensures ∙ c.entry.ensures d there) in
     let left = c.free_beside-free.ensures d there ∙ sym (free_drawn c.args.self.now.ttl m r n s d c.args.awards.now) in
     let cap = sym (c.cap.ensures ∙ ap (λ (f : FactParts). f.cap) facts) in
-    let shown = c.shown_beside-shown.ensures d cap in
-    subst (λ o. IfOk c.offers.result (λ os. os ≡ offers_of n o)) (opportunity_is t r i m n d c.record.result.now.facts c.free_beside-free.result c.shown_beside-shown.result facts left shown) (c.offers.ensures.value i at)
+    let shown = c.count_shown_beside-shown.ensures d cap in
+    subst (λ o. IfOk c.offers.result (λ os. os ≡ offers_of n o)) (opportunity_is t r i m n d c.record.result.now.facts c.free_beside-free.result c.count_shown_beside-shown.result facts left shown) (c.offers.ensures.value i at)

@@ -5,7 +5,7 @@ use Rattle.budget_book.specs.Sales.{committed_of, expired}
 use Rattle.campaign_store.specs.declared.record.Record.{Record}
 use Rattle.plain_exchange.specs.State.{campaign_at, committed, swept}
 use Rattle.auction_core.proofs.Stating.{committed_is, funds_in_book, here}
-use Rattle.auction_core.proofs.exchange.Core.committed_at.Goals as goal
+use Rattle.auction_core.proofs.exchange.Core.commitments_at.Goals as goal
 
 pub returns : goal.returns
 returns c = λ d at.

@@ -4,7 +4,7 @@ use Rattle.auction_core.specs.Draft.{found_for}
 use Rattle.conj_index.specs.Content.{IsIndexOf}
 use Rattle.core_index.specs.Reached.{live_expressions}
 use Rattle.plain_exchange.specs.State.{State}
-use Rattle.core_index.proofs.reached.all_reached.Given as goal
+use Rattle.core_index.proofs.reached.find_for_imps.Given as goal
 
 -- the numbers for the impressions so far
 abbrev pub invariant-loop-imp : goal.invariant-loop-imp

@@ -7,7 +7,7 @@ use Rattle.plain_exchange.specs.Auction.{Award}
 use Rattle.plain_exchange.specs.State.{forgotten}
 use Rattle.plain_exchange.specs.Step.{sold_as}
 use Rattle.auction_core.proofs.Auctioning.{kept_further}
-use Rattle.auction_core.proofs.exchange.Core.all_sold.Goals as goal
+use Rattle.auction_core.proofs.exchange.Core.list_sales.Goals as goal
 
 pub loop-place-preserved : goal.loop-place-preserved
 loop-place-preserved c =
@@ -22,7 +22,7 @@ loop-place-preserved c =
     let x : ℕ × Award = (first + k, a) in
     let award : get_or awards k a ≡ a = sym c.index-awards-place.is in
     let item : get_or (enumerate_from first awards) k x ≡ x = get_or-enumerate_from first awards k x inside ∙ ap (λ y. (first + k, y)) award in
-    let number : c.forgotten_few.result + c.sales.result + 1 + k ≡ first + k = omega (arith, c.forgotten_few.ensures.value, c.sales.ensures.value) in
+    let number : c.forgotten_count.result + c.sales.result + 1 + k ≡ first + k = omega (arith, c.forgotten_count.ensures.value, c.sales.ensures.value) in
     c.in_ok-push_sold.ensures
     ∙ ap (λ o. c.loop-place.all ++ option_to_list o) (c.in_ok-sold.ensures ∙ ap (λ n. sold_as s r (n, a)) number)
     ∙ ap (λ l. l ++ option_to_list (sold_as s r x)) c.loop-place.invariant

@@ -2,7 +2,7 @@ use Rattle.std.proofs.Common.{◌∙◌, ap}
 use Rattle.std.proofs.lemmas.Option.{get_or_from_slice_get}
 use Rattle.assign.specs.Rows.{pairs_of}
 use Rattle.auction_core.specs.Scan.{open_to}
-use Rattle.auction_core.proofs.exchange.Core.found_at.Goals as goal
+use Rattle.auction_core.proofs.exchange.Core.find_at.Goals as goal
 
 pub returns : goal.returns
 returns g c = λ i at.

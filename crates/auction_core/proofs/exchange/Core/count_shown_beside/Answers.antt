@@ -4,7 +4,7 @@ use Rattle.auction_core.specs.Auctions.{beside}
 use Rattle.deal_rules.specs.Terms.{user_of}
 use Rattle.plain_exchange.specs.Auction.{shown_to}
 use Rattle.auction_core.proofs.Auctioning.{shown_counted}
-use Rattle.auction_core.proofs.exchange.Core.shown_beside.Goals as goal
+use Rattle.auction_core.proofs.exchange.Core.count_shown_beside.Goals as goal
 
 pub returns : goal.returns
 returns c = λ d e.

@@ -2,7 +2,7 @@ use Rattle.std.proofs.Common.{◌∙◌, ◌<◌, length, arith}
 use Rattle.auction_core.specs.Draft.{found_for}
 use Rattle.core_index.proofs.Fronts.{item_at}
 use Rattle.core_index.proofs.Reaching.{pushed}
-use Rattle.core_index.proofs.reached.all_reached.Goals as goal
+use Rattle.core_index.proofs.reached.find_for_imps.Goals as goal
 
 pub loop-imp-preserved : goal.loop-imp-preserved
 loop-imp-preserved g c = λ s is.

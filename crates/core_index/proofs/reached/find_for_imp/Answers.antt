@@ -5,7 +5,7 @@ use Rattle.auction_core.specs.Core.{listed}
 use Rattle.conj_index.specs.Find.{true_under}
 use Rattle.core_index.specs.Reached.{live_expressions}
 use Rattle.core_index.proofs.Reaching.{found_by_index}
-use Rattle.core_index.proofs.reached.reached_at.Goals as goal
+use Rattle.core_index.proofs.reached.find_for_imp.Goals as goal
 
 pub returns : goal.returns
 returns g c = λ i at s is.

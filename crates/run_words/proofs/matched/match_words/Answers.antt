@@ -1,7 +1,7 @@
 use Rattle.std.proofs.Common.{rules, ◌≡◌, ℕ, Bor, List, map}
 use Rattle.clap.specs.Words.{app_of}
 use Rattle.run_words.proofs.Given.{gives, gives_none, is_simple_app}
-use Rattle.run_words.proofs.matched.matched.Goals as goal
+use Rattle.run_words.proofs.matched.match_words.Goals as goal
 
 abbrev texts : List (Bor (List ℕ)) → List (List ℕ)
 texts words = map (λ (s : Bor (List ℕ)). s.now) words
