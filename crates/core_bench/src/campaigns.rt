@@ -3,7 +3,7 @@ ghost use Rattle.std.specs.Prelude.{◌≡◌, ◌<◌, ◌^◌, IsTrue};
 ghost use Rattle.auction_core.specs.Draft.{is_simple};
 
 use auction_core::{Command, Core};
-use command_read::{CommandFault, read_command};
+use command_read::read_command;
 use http_wire::Message;
 use rtb_num::Txt;
 use std::alloc::{AllocError, Global};
@@ -20,11 +20,21 @@ const SITES: u32 = 100;
 /// An exchange with so many campaigns.
 pub fn exchange_of(alloc: Global, campaigns: u32) -> Result<Core, AllocError> {
     let mut core = Core::new(alloc, TTL);
+    match post_all(alloc, &mut core, campaigns) {
+        Ok(()) => Ok(core),
+        Err(refused) => {
+            drop(core);
+            Err(refused)
+        }
+    }
+}
+
+fn post_all(alloc: Global, core: &mut Core, campaigns: u32) -> Result<(), AllocError> {
     for i in 0..campaigns {
         let message = campaign_message(alloc, i)?;
-        post(alloc, &mut core, &message)?;
+        post(alloc, core, &message)?;
     }
-    Ok(core)
+    Ok(())
 }
 
 /// A message to the exchange.
@@ -49,10 +59,13 @@ fn campaign_message(alloc: Global, i: u32) -> Result<Message, AllocError> {
 }
 
 fn post(alloc: Global, core: &mut Core, message: &Message) -> Result<(), AllocError> {
-    match read_command(alloc, message) {
-        Ok(command) => carry_out(alloc, core, &command),
-        Err(CommandFault::Refused { .. }) => Err(AllocError),
-        Err(CommandFault::Memory) => Err(AllocError),
+    match read_command(alloc, message).ok() {
+        Some(command) => {
+            let carried = carry_out(alloc, core, &command);
+            drop(command);
+            carried
+        }
+        None => Err(AllocError),
     }
 }
 

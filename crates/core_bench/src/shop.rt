@@ -76,9 +76,16 @@ impl Shop {
     #[tactic(auto, using(crate::proofs::Valid::valid_as_read))]
     fn ask(&mut self, alloc: Global, message: &Message) -> Result<u16, AllocError> {
         match read_command(alloc, message) {
-            Ok(command) => self.answer(alloc, &command),
-            Err(CommandFault::Refused { refusal }) => Ok(refusal.status),
-            Err(CommandFault::Memory) => Err(AllocError),
+            Ok(command) => {
+                let status = self.answer(alloc, &command);
+                drop(command);
+                status
+            }
+            Err(fault) => {
+                let status = status_of(&fault);
+                drop(fault);
+                status
+            }
         }
     }
 
@@ -101,8 +108,9 @@ impl Shop {
         requires valid { IsTrue (is_valid_command command.now) }
     {
         let reply = self.sell(alloc, command)?;
-        let answer = write_reply(alloc, Some(request), &reply, Some(&self.public))?;
-        Ok(answer.status)
+        let answer = write_reply(alloc, Some(request), &reply, Some(&self.public));
+        drop(reply);
+        Ok(answer?.status)
     }
 
     fn sell(&mut self, alloc: Global, command: &Command) -> Result<Reply, AllocError>
@@ -118,6 +126,13 @@ impl Shop {
             .prepare(alloc, command, found.as_slice(), self.moment)?;
         self.moment = self.moment.saturating_add(1);
         Ok(self.core.commit(draft))
+    }
+}
+
+fn status_of(fault: &CommandFault) -> Result<u16, AllocError> {
+    match fault {
+        CommandFault::Refused { refusal } => Ok(refusal.status),
+        CommandFault::Memory => Err(AllocError),
     }
 }
 

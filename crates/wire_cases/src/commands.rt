@@ -2,6 +2,7 @@
 use budget_book::Totals;
 use campaign::Facts;
 use campaign_store::Limit;
+use case_lines::done;
 use command_read::{CommandFault, read_command};
 use http_wire::{Allow, Answer, Message};
 use plain_exchange::{Command, Reply};
@@ -23,14 +24,10 @@ use std::alloc::{AllocError, Global};
 pub fn answer(alloc: Global, call: &[u8], args: &[Txt], out: &mut Txt) -> Result<bool, AllocError> {
     match args {
         [method, target, body] if call == b"command".as_slice() => {
-            let message = Message {
-                method: method.copy()?,
-                target: target.copy()?,
-                body: body.copy()?,
-                closes: false,
-            };
-            put_reading(alloc, &message, out)?;
-            Ok(true)
+            let message = message_of(method, target, body)?;
+            let written = put_reading(alloc, &message, out);
+            drop(message);
+            done(written)
         }
         [name, number] if call == b"reply".as_slice() => {
             put_reply(alloc, name.as_bytes(), number.as_bytes(), out)?;
@@ -48,10 +45,29 @@ pub fn answer(alloc: Global, call: &[u8], args: &[Txt], out: &mut Txt) -> Result
     }
 }
 
+fn message_of(method: &Txt, target: &Txt, body: &Txt) -> Result<Message, AllocError> {
+    let method = method.copy()?;
+    let target = target.copy()?;
+    let body = body.copy()?;
+    Ok(Message {
+        method,
+        target,
+        body,
+        closes: false,
+    })
+}
+
 fn put_reading(alloc: Global, message: &Message, out: &mut Txt) -> Result<(), AllocError> {
-    match read_command(alloc, message) {
-        Ok(command) => put_command(&command, out),
-        Err(CommandFault::Refused { refusal }) => put_answer(&refusal, out),
+    let read = read_command(alloc, message);
+    let written = put_read(&read, out);
+    drop(read);
+    written
+}
+
+fn put_read(read: &Result<Command, CommandFault>, out: &mut Txt) -> Result<(), AllocError> {
+    match read {
+        Ok(command) => put_command(command, out),
+        Err(CommandFault::Refused { refusal }) => put_answer(refusal, out),
         Err(CommandFault::Memory) => Err(AllocError),
     }
 }

@@ -78,17 +78,46 @@ struct Came {
 // The conversation held with the bytes cut in many ways.
 fn cut_everywhere(alloc: Global, text: &[u8], step: usize) -> Result<Came, AllocError> {
     let whole = serve(alloc, text, 0, false, List::new(alloc))?;
-    let single = serve(alloc, text, 0, true, List::new(alloc))?;
-    if !is_same(&whole, &single) {
-        return different(alloc, 0);
-    }
-    for at in (0..text.len()).step_by(step.max(1)) {
-        let cut = serve(alloc, text, at, false, List::new(alloc))?;
-        if !is_same(&whole, &cut) {
-            return different(alloc, at);
+    match first_different(alloc, text, step, &whole) {
+        Ok(None) => Ok(whole),
+        Ok(Some(at)) => {
+            drop(whole);
+            different(alloc, at)
+        }
+        Err(refused) => {
+            drop(whole);
+            Err(refused)
         }
     }
-    Ok(whole)
+}
+
+// The first cut by which something else comes.
+fn first_different(
+    alloc: Global,
+    text: &[u8],
+    step: usize,
+    whole: &Came,
+) -> Result<Option<usize>, AllocError> {
+    if !comes_again(alloc, text, 0, true, whole)? {
+        return Ok(Some(0));
+    }
+    for at in (0..text.len()).step_by(step.max(1)) {
+        if !comes_again(alloc, text, at, false, whole)? {
+            return Ok(Some(at));
+        }
+    }
+    Ok(None)
+}
+
+fn comes_again(
+    alloc: Global,
+    text: &[u8],
+    first: usize,
+    single: bool,
+    whole: &Came,
+) -> Result<bool, AllocError> {
+    let cut = serve(alloc, text, first, single, List::new(alloc))?;
+    Ok(is_same(whole, &cut))
 }
 
 fn is_same(a: &Came, b: &Came) -> bool {
@@ -133,11 +162,15 @@ fn hold_conversation<L: Ledger>(
     let mut service = Small { alloc };
     let mut steps = Steps::<L>::new(blank);
     let end = serve_link(alloc, &mut service, &mut link, &mut steps);
-    let sent = link.inner.sent().copy()?;
-    Ok(Came {
-        end: text_of(alloc, &end)?,
-        sent,
-    })
+    let came = came_of(alloc, &end, link.inner.sent());
+    drop(link);
+    came
+}
+
+fn came_of(alloc: Global, end: &LinkEnd, sent: &Txt) -> Result<Came, AllocError> {
+    let sent = sent.copy()?;
+    let end = text_of(alloc, end)?;
+    Ok(Came { end, sent })
 }
 
 fn text_of(alloc: Global, end: &LinkEnd) -> Result<Txt, AllocError> {

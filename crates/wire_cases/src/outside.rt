@@ -35,12 +35,22 @@ fn use_link(
     out: &mut Txt,
 ) -> Result<(), AllocError> {
     let mut link = MemLink::new(alloc, left, fails);
+    let written = pass_pieces(&mut link, pieces, out);
+    drop(link);
+    written
+}
+
+fn pass_pieces(link: &mut MemLink, pieces: &[u8], out: &mut Txt) -> Result<(), AllocError> {
     for piece in pieces.split(|c| *c == b' ') {
-        read_three(&mut link, out)?;
-        write_piece(&mut link, piece, out)?;
+        read_three(link, out)?;
+        write_piece(link, piece, out)?;
     }
-    out.extend_all(&[b"[", link.sent().as_bytes(), b"]"])?;
+    put_sent(link, out)?;
     tell_faults(link.calls().faults(), out)
+}
+
+fn put_sent(link: &MemLink, out: &mut Txt) -> Result<(), AllocError> {
+    out.extend_all(&[b"[", link.sent().as_bytes(), b"]"])
 }
 
 fn write_piece<L: Link>(link: &mut L, piece: &[u8], out: &mut Txt) -> Result<(), AllocError> {
@@ -75,8 +85,14 @@ fn use_door(
         return out.extend(b"no moments");
     }
     let mut door = MemDoor::new(alloc, links, moments, fails)?;
+    let written = pass_all(&mut door, out);
+    drop(door);
+    written
+}
+
+fn pass_all(door: &mut MemDoor, out: &mut Txt) -> Result<(), AllocError> {
     for _ in 0..20u32 {
-        if !pass_one(&mut door, out)? {
+        if !pass_one(door, out)? {
             break;
         }
     }

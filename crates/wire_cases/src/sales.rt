@@ -33,16 +33,34 @@ fn put_sold(
     sales: &[Txt],
     out: &mut Txt,
 ) -> Result<(), AllocError> {
+    let reply = Reply::Sold(sales_of(alloc, sales)?);
+    let public = if public.is_empty() {
+        None
+    } else {
+        Some(public)
+    };
+    let written = put_reply(alloc, request, &reply, public, out);
+    drop(reply);
+    written
+}
+
+fn sales_of(alloc: Global, sales: &[Txt]) -> Result<List<Sold>, AllocError> {
     let mut sold = List::new(alloc);
     for sale in sales {
         push_sale(alloc, sale.as_bytes(), &mut sold)?;
     }
+    Ok(sold)
+}
+
+fn put_reply(
+    alloc: Global,
+    request: &Txt,
+    reply: &Reply,
+    public: Option<&Txt>,
+    out: &mut Txt,
+) -> Result<(), AllocError> {
     let message = post(alloc, request)?;
-    let reply = Reply::Sold(sold);
-    if public.is_empty() {
-        return put_response(alloc, &message, &reply, None, out);
-    }
-    put_response(alloc, &message, &reply, Some(public), out)
+    put_response(alloc, &message, reply, public, out)
 }
 
 // The answer to the request that the message holds.
@@ -53,9 +71,13 @@ fn put_response(
     public: Option<&Txt>,
     out: &mut Txt,
 ) -> Result<(), AllocError> {
-    match read_command(alloc, message) {
-        Ok(command) => put_response_to(alloc, &command, reply, public, out),
-        Err(_) => out.extend(b"no request"),
+    match read_command(alloc, message).ok() {
+        Some(command) => {
+            let written = put_response_to(alloc, &command, reply, public, out);
+            drop(command);
+            written
+        }
+        None => out.extend(b"no request"),
     }
 }
 
