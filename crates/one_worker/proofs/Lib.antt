@@ -1,0 +1,5 @@
+pub mod Entering
+pub mod Giving
+pub mod Lengths
+pub mod Links
+pub mod Moving

@@ -1,0 +1,5 @@
+pub mod Answering
+pub mod Plain
+pub mod Serving
+pub mod Standing
+pub mod Working
