@@ -2,13 +2,18 @@
 use Rattle.std.proofs.Common.{◌≡◌, ◌≢◌, ◌⊎◌, true, inl, inr, sym, ℕ, ◌<◌, List, [], ◌∷◌, ◌++◌, length, ap, ◌∙◌, append_assoc, refl, arith}
 use Rattle.rtb_io.specs.Statuses.{code_of}
 use Rattle.rtb_io.specs.declared.status.Status.{Status}
-use Rattle.rtb_io.specs.declared.status.Status.TheVariants.{Done, Refused, Usage, NotWritten, Memory, NotRead}
+use Rattle.rtb_io.specs.declared.status.Status.TheVariants.{Done, Refused, Usage, NoDoor, NoDisk, JournalFailed, Damaged, NotWritten, DoorFailed, Memory, NotRead}
 
 pub not_written : (s : Status) → code_of s ≡ code_of NotWritten → s ≡ NotWritten
 not_written Done e = cc
 not_written Refused e = cc
 not_written Usage e = cc
 not_written NotWritten e = refl
+not_written NoDoor e = cc
+not_written NoDisk e = cc
+not_written JournalFailed e = cc
+not_written Damaged e = cc
+not_written DoorFailed e = cc
 not_written Memory e = cc
 not_written NotRead e = cc
 
@@ -25,6 +30,11 @@ usage Done e = cc
 usage Refused e = cc
 usage Usage e = refl
 usage NotWritten e = cc
+usage NoDoor e = cc
+usage NoDisk e = cc
+usage JournalFailed e = cc
+usage Damaged e = cc
+usage DoorFailed e = cc
 usage Memory e = cc
 usage NotRead e = cc
 
@@ -33,6 +43,11 @@ not_read Done e = cc
 not_read Refused e = cc
 not_read Usage e = cc
 not_read NotWritten e = cc
+not_read NoDoor e = cc
+not_read NoDisk e = cc
+not_read JournalFailed e = cc
+not_read Damaged e = cc
+not_read DoorFailed e = cc
 not_read Memory e = cc
 not_read NotRead e = refl
 

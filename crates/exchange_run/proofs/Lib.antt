@@ -1,5 +1,6 @@
 pub mod Additions
 pub mod Answering
+pub mod Asking
 pub mod Campaigns
 pub mod Each
 pub mod Endings

@@ -14,6 +14,7 @@ use Rattle.exact_json.specs.declared.fault.JsonFault.TheVariants.{Memory}
 use Rattle.rtb_types.specs.declared.request.BidRequest.{BidRequest}
 use Rattle.rtb_read.specs.Request.{request_faults, request_from}
 use Rattle.rtb_read.specs.declared.fault.ReqFault.{ReqFault}
+use Rattle.run_commands.specs.Endings.{line_of}
 use Rattle.exchange_run.specs.Words.{Campaign, command_of}
 use Rattle.exchange_run.specs.Exchange.{line_for, reply_at_opening}
 use Rattle.refusal_text.specs.Refusals.{error_text, json_fault_text, request_fault_text}
@@ -62,17 +63,6 @@ pub record Replies (campaigns : Option (List Campaign)) (bytes : List ℕ) (stat
 pub record WasRead (left left' : Option (List ℕ)) (bytes : List ℕ) : Type 0 where
   pub came : Consumes left left' bytes
   pub whole : IsAtEnd left' ⊎ (max_input < length bytes)
-
--- the line of a status that comes with no reply
-abbrev pub line_of : Status → List ℕ
-line_of status.Usage = codes "rtbx: usage\n"
-line_of status.NoDoor = codes "rtbx: cannot listen\n"
-line_of status.NoDisk = codes "rtbx: cannot open journal\n"
-line_of status.JournalFailed = codes "rtbx: journal failed\n"
-line_of status.DoorFailed = codes "rtbx: accept failed\n"
-line_of status.Memory = codes "rtbx: memory\n"
-line_of status.NotRead = codes "rtbx: input failed\n"
-line_of _ = []
 
 -- What a run of the words comes to, before it is written: how it ends, and with which text. The words
 -- are of no command; or the input was read, and this is the reply to it; or the source failed; or

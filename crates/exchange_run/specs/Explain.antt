@@ -2,11 +2,18 @@
 use Rattle.std.specs.Prelude.{ℕ, nat_le, not, List, [], ◌∷◌, ◌++◌, length, find, get_or, Option, None, Some, is_some, if◌then◌else◌, codes}
 use Rattle.std.specs.Str.{bytes_eq}
 use Rattle.json_out.specs.Strings.{string_text}
+use Rattle.run_words.specs.CommandLines.{command_line}
 use Rattle.exchange_run.specs.Words.{campaign_of}
 
 -- a right command
 abbrev pub example_line : List ℕ
 example_line = codes "rtbx: a right command is: rtbx try 2.50@news.example 1.00\n"
+
+abbrev pub serve_example : List ℕ
+serve_example = codes "rtbx: a right command is: rtbx serve --listen 127.0.0.1:8080 --journal exchange.journal --public http://ads.example\n"
+
+abbrev pub recover_example : List ℕ
+recover_example = codes "rtbx: a right command is: rtbx recover --journal exchange.journal\n"
 
 -- the word that is wrong, written as a string of JSON, and what it is not
 abbrev pub about_word : List ℕ → List ℕ → List ℕ
@@ -25,8 +32,22 @@ about_campaigns words =
     if nat_le (length words) 64 then about_campaign (wrong_campaign words)
     else about_word (get_or words 64 []) (codes " is campaign 65, and 64 is the most\n")
 
--- of words that are no command, which of them is wrong, and a right command; of a command nothing
-abbrev pub explanation : List (List ℕ) → List ℕ
-explanation [] = codes "rtbx: no command is named\n" ++ example_line
-explanation (name ∷ words) =
-    if bytes_eq name (codes "try") then about_campaigns words else about_word name (codes " is no command\n")
+-- what is said of the options, and a right command
+abbrev pub about_options : List ℕ → List ℕ → List ℕ
+about_options said example = codes "rtbx: " ++ said ++ codes "\n" ++ example
+
+-- where there is no word, a right command of each kind
+abbrev pub examples : List ℕ
+examples = codes "rtbx: no command is named\n" ++ example_line ++ serve_example ++ recover_example
+
+-- what is wrong with the words of no command, and a right command; `said` is what `clap` says of options
+abbrev pub what_is_wrong : List ℕ → List (List ℕ) → List ℕ
+what_is_wrong said [] = examples
+what_is_wrong said (name ∷ words) =
+    if bytes_eq name (codes "try") then about_campaigns words
+    else (if bytes_eq name (codes "serve") then about_options said serve_example
+    else (if bytes_eq name (codes "recover") then about_options said recover_example else about_word name (codes " is no command\n")))
+
+-- the same, and of a command nothing
+abbrev pub explanation : List ℕ → List (List ℕ) → List ℕ
+explanation said words = if is_some (command_line words) then [] else what_is_wrong said words

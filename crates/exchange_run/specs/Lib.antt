@@ -5,3 +5,4 @@ pub mod Exchange
 pub mod Making
 pub mod Answer
 pub mod View
+pub mod Run

@@ -2,12 +2,13 @@
 #![tactic(auto)]
 
 mod auction;
+mod commands;
 mod opening;
-mod status_lines;
 mod try_command;
 mod words;
 mod wrong_words;
 
-pub use status_lines::end_with;
+pub use commands::run;
+pub use run_commands::{Outcome, end_with};
 pub use try_command::try_run;
 pub use wrong_words::explain;

@@ -3,15 +3,15 @@ ghost use Rattle.rtb_base.specs.Faults.{RisesOnlyWhere, Rose};
 ghost use Rattle.rtb_io.specs.Fronts.{TakesAtMost};
 ghost use Rattle.rtb_io.specs.Statuses.{code_of};
 ghost use Rattle.rtb_io.specs.declared.status.Status.TheVariants.{Done, NotRead, NotWritten, Refused, Usage};
-ghost use Rattle.exchange_run.specs.Answer.{HalfTold, IsOutcome, IsReply, Replies, Told, line_of, refusal_of, reply_to, tree_reply};
+ghost use Rattle.exchange_run.specs.Answer.{HalfTold, IsOutcome, IsReply, Replies, Told, refusal_of, reply_to, tree_reply};
 ghost use Rattle.refusal_text.specs.Refusals.{error_text, json_fault_text, request_fault_text};
 ghost use Rattle.exact_json.specs.Docs.{doc_tree};
 ghost use Rattle.exchange_run.specs.Words.{campaigns_of, command_of};
+ghost use Rattle.run_commands.specs.Endings.{line_of};
 ghost use Rattle.exchange_run.specs.Making.{campaigns_named};
 ghost use Rattle.rtb_types.specs.Valid.{is_valid};
 
 use crate::auction::auction_line;
-use crate::status_lines::{end_with, tell};
 use crate::words::command_in;
 use exact_json::{Doc, JsonFault, read};
 use refusal_text::{error_text, json_fault_text, request_fault_text};
@@ -19,6 +19,7 @@ use rtb_io::{ReadFault, Status, read_all};
 use rtb_num::{Sink, Source, Txt};
 use rtb_read::{ReqFault, read_request};
 use rtb_types::BidRequest;
+use run_commands::{end_with, tell};
 use std::alloc::{AllocError, Global};
 
 /// A status and the line that goes with it.

@@ -1,43 +1,98 @@
 ghost use Rattle.std.specs.Prelude.{◌≡◌, ◌<◌, ◌++◌, ℕ, List, None, Some, find, get_or, is_some, length, not, option_map, OnOk, OnErr, [], codes};
-ghost use Rattle.exchange_run.specs.Explain.{about_campaign, about_campaigns, about_word, example_line, explanation, wrong_campaign};
+ghost use Rattle.exchange_run.specs.Explain.{about_campaign, about_campaigns, about_options, about_word, examples, explanation, what_is_wrong, wrong_campaign};
+ghost use Rattle.run_words.specs.CommandLines.{command_line};
 
 use crate::words::{MAX_CAMPAIGNS, is_campaign};
 use json_out::push_string;
 use rtb_num::Txt;
-use std::alloc::AllocError;
+use run_words::{WordsFault, command_line, refusal_line};
+use std::alloc::{AllocError, Global};
 
-/// Of words that are of no command, appends a line that names the word that is wrong, and one that
-/// shows a right command. Of a command it appends nothing.
-pub fn explain(words: &[Txt], out: &mut Txt) -> Result<(), AllocError>
-    ensures ok { OnOk result (out.new ≡ out.old ++ explanation words.now) }
+/// Of words that are of no command, appends a line that says what is wrong, and one that shows a right
+/// command, or where there is no word, one for each command. Of a command it appends nothing.
+///
+/// What it says of the options of `serve` and `recover` is what `clap` says.
+pub fn explain(alloc: Global, words: &[Txt], out: &mut Txt) -> Result<(), AllocError>
+    ensures ok { OnOk result ((said : List ℕ) × (out.new ≡ out.old ++ explanation said words.now)) }
+    ensures err { OnErr result (out.new ≡ out.old) }
+{
+    match command_line(alloc, words) {
+        Ok(_) => Ok(()),
+        Err(WordsFault::Usage) => tell_what_is_wrong(alloc, words, out),
+        Err(WordsFault::Memory) => Err(AllocError),
+    }
+}
+
+// The same, of words that are of no command with options.
+fn tell_what_is_wrong(alloc: Global, words: &[Txt], out: &mut Txt) -> Result<(), AllocError>
+    ensures ok { OnOk result ((said : List ℕ) × (out.new ≡ out.old ++ what_is_wrong said words.now)) }
+    ensures err { OnErr result (out.new ≡ out.old) }
+{
+    let said = refusal_line(alloc, words)?;
+    put_whole(said.as_bytes(), words, out)
+}
+
+// Appends what is wrong, where `said` is said of options, or nothing.
+fn put_whole(said: &[u8], words: &[Txt], out: &mut Txt) -> Result<(), AllocError>
+    ensures ok { OnOk result (out.new ≡ out.old ++ what_is_wrong said.now words.now) }
     ensures err { OnErr result (out.new ≡ out.old) }
 {
     let before = out.len();
-    let done = put_explanation(words, out);
+    let done = put_what_is_wrong(said, words, out);
     out.settle(before, done)
+}
+
+// Appends what is wrong, or a front of it.
+fn put_what_is_wrong(said: &[u8], words: &[Txt], out: &mut Txt) -> Result<(), AllocError>
+    ensures ok { OnOk result (out.new ≡ out.old ++ what_is_wrong said.now words.now) }
+    ensures front { (more : List ℕ) × (out.new ≡ out.old ++ more) }
+{
+    match words {
+        [] => put_examples(out),
+        [name, rest @ ..] => {
+            if name.as_bytes() == b"try".as_slice() {
+                return put_about_campaigns(rest, out);
+            }
+            if name.as_bytes() == b"serve".as_slice() {
+                return put_about_options(said, SERVE_EXAMPLE, out);
+            }
+            if name.as_bytes() == b"recover".as_slice() {
+                return put_about_options(said, RECOVER_EXAMPLE, out);
+            }
+            put_about_word(name, b" is no command\n", out)
+        }
+    }
 }
 
 const EXAMPLE: &[u8] = b"rtbx: a right command is: rtbx try 2.50@news.example 1.00\n";
 
-// Appends the explanation, or a front of it.
-fn put_explanation(words: &[Txt], out: &mut Txt) -> Result<(), AllocError>
-    ensures ok { OnOk result (out.new ≡ out.old ++ explanation words.now) }
+const SERVE_EXAMPLE: &[u8] =
+    b"rtbx: a right command is: rtbx serve --listen 127.0.0.1:8080 --journal exchange.journal --public http://ads.example\n";
+
+const RECOVER_EXAMPLE: &[u8] =
+    b"rtbx: a right command is: rtbx recover --journal exchange.journal\n";
+
+fn put_examples(out: &mut Txt) -> Result<(), AllocError>
+    ensures ok { OnOk result (out.new ≡ out.old ++ examples) }
     ensures front { (more : List ℕ) × (out.new ≡ out.old ++ more) }
 {
-    match words {
-        [] => {
-            out.extend(b"rtbx: no command is named\n")?;
-            out.extend(EXAMPLE)?;
-            Ok(())
-        }
-        [name, campaigns @ ..] => {
-            if name.as_bytes() == b"try".as_slice() {
-                put_about_campaigns(campaigns, out)
-            } else {
-                put_about_word(name, b" is no command\n", out)
-            }
-        }
-    }
+    out.extend(b"rtbx: no command is named\n")?;
+    out.extend(EXAMPLE)?;
+    out.extend(SERVE_EXAMPLE)?;
+    out.extend(RECOVER_EXAMPLE)?;
+    Ok(())
+}
+
+// What is said of options, and the example.
+fn put_about_options(said: &[u8], example: &[u8], out: &mut Txt) -> Result<(), AllocError>
+    ensures ok { OnOk result (out.new ≡ out.old ++ about_options said.now example.now) }
+    ensures front { (more : List ℕ) × (out.new ≡ out.old ++ more) }
+{
+    out.extend(b"rtbx: ")?;
+    out.extend(said)?;
+    out.extend(b"\n")?;
+    out.extend(example)?;
+    Ok(())
 }
 
 fn put_about_campaigns(words: &[Txt], out: &mut Txt) -> Result<(), AllocError>

@@ -4,9 +4,10 @@
 ghost use Rattle.std.specs.Prelude.{◌≢◌};
 ghost use Rattle.rtb_io.specs.declared.status.Status.TheVariants.{NotWritten};
 
-use exchange_run::{end_with, explain, try_run};
+use exchange_run::{end_with, explain, run};
+use link_door::{NoPause, OsWorld, World};
 use rtb_io::Status;
-use rtb_num::{StdSink, StdSource, Txt};
+use rtb_num::{Sink, Source, StdSink, StdSource, Txt};
 use std::alloc::Global;
 use std::env;
 use std::io::{self, Write};
@@ -19,12 +20,36 @@ fn main(rt: HostRuntime) -> ExitCode {
     match words_of(&rt) {
         Ok(words) => {
             let mut source = StdSource::new(rt.reader());
-            let status = try_run(alloc, words.as_slice(), &mut source, &mut sink);
-            complain(alloc, words.as_slice(), &mut rt.stderr());
+            let mut world = OsWorld::new(&rt);
+            let words = words.as_slice();
+            let status = status_of_run(alloc, words, &mut world, &mut source, &mut sink);
+            complain(alloc, words, &mut rt.stderr());
             ExitCode::from(status)
         }
-        Err(fault) => ExitCode::from(end_with(status_of(&fault), &mut sink).code()),
+        Err(fault) => {
+            let status = end_with(status_of(&fault), &mut sink);
+            complain_of(status, &mut rt.stderr());
+            ExitCode::from(status.code())
+        }
     }
+}
+
+// Runs the command, and lets go of what the world handed out.
+fn status_of_run<W: World, S: Source, K: Sink>(
+    alloc: Global,
+    words: &[Txt],
+    world: &mut W,
+    source: &mut S,
+    sink: &mut K,
+) -> u8
+where
+    W::Door: Drop,
+    W::Disk: Drop,
+{
+    let outcome = run(alloc, words, world, &NoPause, source, sink);
+    let status = outcome.status;
+    drop(outcome);
+    status
 }
 
 // The words behind the program's name.
@@ -49,7 +74,16 @@ fn status_of(fault: &io::Error) -> Status
 // Says what is wrong with words that are of no command, where that can be written.
 fn complain<W: Write>(alloc: Global, words: &[Txt], errors: &mut W) {
     let mut text = Txt::new(alloc);
-    if explain(words, &mut text).is_ok() && !text.is_empty() {
+    if explain(alloc, words, &mut text).is_ok() && !text.is_empty() {
         let _ = errors.write_all(text.as_bytes());
+    }
+}
+
+// Says what is wrong with words that are not UTF-8, where that can be written.
+fn complain_of<W: Write>(status: Status, errors: &mut W) {
+    if let Status::Usage = status {
+        let _ = errors.write_all(
+            b"rtbx: each word has to be UTF-8\nrtbx: a right command is: rtbx recover --journal exchange.journal\n",
+        );
     }
 }

@@ -16,16 +16,13 @@ use Rattle.run_words.specs.declared.recover.RecoverOptions.{RecoverOptions}
 abbrev pub required : Text → Rule
 required name = record (new_rule name) { long = Some name; required = true }
 
-abbrev pub number_parser : ValueParser
-number_parser = parser.Unsigned 0 (2 ^ 64 - 1)
+-- an option with a number from the least to the most, which is the default where it is not given
+abbrev pub number_between : ℕ → ℕ → Text → Text → Rule
+number_between least most default name = record (new_rule name) { long = Some name; defaults = default ∷ []; parser = Some (parser.Unsigned least most) }
 
--- an option with a number of 64 bits, which is the default where it is not given
-abbrev pub number_or : Text → Text → Rule
-number_or default name = record (new_rule name) { long = Some name; defaults = default ∷ []; parser = Some number_parser }
-
--- `serve --listen A --journal P --public U --ttl T`
+-- `serve --listen A --journal P --public U --ttl T`, with T from 1 to a year, in milliseconds
 abbrev pub serve_app : App
-serve_app = with_rule (with_rule (with_rule (with_rule (new_app (codes "serve")) (required (codes "listen"))) (required (codes "journal"))) (required (codes "public"))) (number_or (codes "300000") (codes "ttl"))
+serve_app = with_rule (with_rule (with_rule (with_rule (new_app (codes "serve")) (required (codes "listen"))) (required (codes "journal"))) (required (codes "public"))) (number_between 1 31536000000 (codes "300000") (codes "ttl"))
 
 -- `recover --journal P`
 abbrev pub recover_app : App
@@ -42,6 +39,9 @@ given_by app words = unless (fault_of app words) (matches_of app words)
 -- the text of an option
 abbrev pub text_of : Text → List Row → Text
 text_of name rows = unwrap_or (first_of name rows) []
+
+abbrev pub number_parser : ValueParser
+number_parser = parser.Unsigned 0 (2 ^ 64 - 1)
 
 -- decimal digits, behind a plus that may stand there, that tell a number of 64 bits
 abbrev pub number_in : Text → Option ℕ

@@ -1,13 +1,17 @@
-//! Which command the words of `rtbx` are of, where it is one with options.
+//! Which command the words of `rtbx` are of, where it is one with options, and what a person is told of it.
 #![tactic(auto)]
 
+mod commands;
 mod fault;
+mod help;
 mod matched;
 mod options;
 mod recover;
 mod serve;
 mod texts;
 
+pub use commands::{CommandLine, Topic, command_line};
 pub use fault::WordsFault;
+pub use help::{help_text, refusal_line, version_text};
 pub use recover::{RecoverOptions, recover_options};
 pub use serve::{ServeOptions, serve_options};

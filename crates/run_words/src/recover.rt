@@ -5,7 +5,7 @@ ghost use Rattle.run_words.specs.declared.fault.WordsFault.TheVariants.{Usage};
 
 use crate::fault::WordsFault;
 use crate::matched::{match_words, option_text};
-use crate::options::text_option;
+use crate::options::with_text;
 use crate::texts::texts;
 use clap::{ArgMatches, Command};
 use rtb_num::Txt;
@@ -43,9 +43,12 @@ fn options(alloc: Global, matches: &ArgMatches<'_>) -> Result<RecoverOptions, Al
     Ok(RecoverOptions { journal })
 }
 
-fn recover_command<'a>(alloc: Global) -> Result<Command<'a>, AllocError>
+const JOURNAL_HELP: &str = "The file that keeps the exchange, as exchange.journal";
+
+/// The command, as `clap` reads it.
+pub(crate) fn recover_command<'a>(alloc: Global) -> Result<Command<'a>, AllocError>
     ensures { IfOk result (λ c. app_of c ≡ recover_app) }
 {
-    let journal = text_option(alloc, "journal");
-    Command::new(alloc, "recover").arg(journal)
+    let command = Command::new(alloc, "recover");
+    with_text(alloc, command, "journal", JOURNAL_HELP)
 }

@@ -5,7 +5,7 @@ ghost use Rattle.run_words.specs.declared.fault.WordsFault.TheVariants.{Usage};
 
 use crate::fault::WordsFault;
 use crate::matched::{match_words, number, option_text};
-use crate::options::{number_option, text_option};
+use crate::options::{with_number, with_text};
 use crate::texts::texts;
 use clap::{ArgMatches, Command};
 use rtb_num::Txt;
@@ -20,7 +20,7 @@ pub struct ServeOptions {
     pub journal: Txt,
     /// What stands before `/bill/N` and `/lose/N` in notices, as `http://ads.example`.
     pub public: Txt,
-    /// How many milliseconds a sale is held.
+    /// How many milliseconds a sale is held: 1 to 31,536,000,000, a year.
     pub ttl: u64,
 }
 
@@ -37,7 +37,11 @@ fn options_in<'a>(alloc: Global, words: &'a [&'a str]) -> Result<ServeOptions, W
 {
     let command = serve_command(alloc)?;
     match match_words(command, words) {
-        Ok(matches) => options(alloc, &matches),
+        Ok(matches) => {
+            let given = options(alloc, &matches);
+            drop(matches);
+            given
+        }
         Err(fault) => Err(fault),
     }
 }
@@ -59,13 +63,27 @@ fn options(alloc: Global, matches: &ArgMatches<'_>) -> Result<ServeOptions, Word
     }
 }
 
-fn serve_command<'a>(alloc: Global) -> Result<Command<'a>, AllocError>
+const LISTEN_HELP: &str = "The host and the port to listen at, as 127.0.0.1:8080";
+
+const JOURNAL_HELP: &str =
+    "The file that keeps the exchange, as exchange.journal; it is made where there is none";
+
+const PUBLIC_HELP: &str =
+    "What stands before /bill/N and /lose/N in notices, as http://ads.example";
+
+/// A year, in milliseconds.
+const MAX_TTL: u64 = 31_536_000_000;
+
+const TTL_HELP: &str =
+    "For how many milliseconds a sale waits for its notice, as 300000, up to a year";
+
+/// The command, as `clap` reads it.
+pub(crate) fn serve_command<'a>(alloc: Global) -> Result<Command<'a>, AllocError>
     ensures { IfOk result (λ c. app_of c ≡ serve_app) }
 {
-    let listen = text_option(alloc, "listen");
-    let journal = text_option(alloc, "journal");
-    let public = text_option(alloc, "public");
-    let ttl = number_option(alloc, "ttl", "300000");
-    let command = Command::new(alloc, "serve").arg(listen)?;
-    command.arg(journal)?.arg(public)?.arg(ttl)
+    let command = Command::new(alloc, "serve");
+    let with_listen = with_text(alloc, command, "listen", LISTEN_HELP)?;
+    let with_journal = with_text(alloc, with_listen, "journal", JOURNAL_HELP)?;
+    let with_public = with_text(alloc, with_journal, "public", PUBLIC_HELP)?;
+    with_number(alloc, with_public, "ttl", 1, MAX_TTL, "300000", TTL_HELP)
 }

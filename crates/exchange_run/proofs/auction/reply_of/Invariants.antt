@@ -1,5 +1,5 @@
 use Rattle.exchange_run.proofs.auction.reply_of.Given as goal
 
 -- the counter of steps that the blank names
-abbrev pub ghosts-found : goal.ghosts-found
-ghosts-found a = record { name = a.blank.name; parts = a.blank.parts }
+abbrev pub ghosts-find_campaigns : goal.ghosts-find_campaigns
+ghosts-find_campaigns a = record { name = a.blank.name; parts = a.blank.parts }

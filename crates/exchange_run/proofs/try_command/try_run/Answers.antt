@@ -2,7 +2,7 @@ use Rattle.std.proofs.Common.{◌∙◌, Err, ap, inl, inr, subst, sym}
 use Rattle.std.specs.Io.KnownBytes.{Appends}
 use Rattle.rtb_io.specs.Fronts.{AppendsFront}
 use Rattle.rtb_io.specs.Statuses.{code_of}
-use Rattle.exchange_run.specs.Answer.{line_of}
+use Rattle.run_commands.specs.Endings.{line_of}
 use Rattle.exchange_run.proofs.Endings.{no_input, no_usage, not_read, not_written, other, usage}
 use Rattle.exchange_run.proofs.try_command.try_run.Goals as goal
 

@@ -1,13 +1,14 @@
-use Rattle.std.proofs.Common.{rules, ap₂, ◌∙◌}
+use Rattle.std.proofs.Common.{ap, ◌∙◌}
+use Rattle.std.specs.Prelude.{codes}
 use Rattle.std.proofs.lemmas.Result.{IfOk-weaker}
 use Rattle.clap.specs.Words.{with_rule}
+use Rattle.run_words.specs.Commands.{number_between, required}
 use Rattle.run_words.proofs.serve.serve_command.Goals as goal
 
 pub returns : goal.returns
 returns c =
-    IfOk-weaker c.arg-4.result _ _ (λ m h. h.shape c.number_option-ttl.ensures.local
-    ∙ ap₂ with_rule (c.in_ok-arg-2.ensures.shape c.text_option-public.ensures.local
-    ∙ ap₂ with_rule (c.in_ok-arg.ensures.shape c.text_option-journal.ensures.local
-    ∙ ap₂ with_rule (c.in_ok-command.ensures.shape c.text_option-listen.ensures.local
-    ∙ ap₂ with_rule c.new.ensures.app c.text_option-listen.ensures.rule)
-    c.text_option-journal.ensures.rule) c.text_option-public.ensures.rule) c.number_option-ttl.ensures.rule) c.arg-4.ensures
+    IfOk-weaker c.with_number.result _ _ (λ m h. h
+    ∙ ap (λ app. with_rule app (number_between 1 31536000000 (codes "300000") (codes "ttl"))) (c.in_ok-with_public.ensures
+    ∙ ap (λ app. with_rule app (required (codes "public"))) (c.in_ok-with_journal.ensures
+    ∙ ap (λ app. with_rule app (required (codes "journal"))) (c.in_ok-with_listen.ensures
+    ∙ ap (λ app. with_rule app (required (codes "listen"))) c.new-command.ensures.app)))) c.with_number.ensures

@@ -1,0 +1,121 @@
+ghost use Rattle.std.specs.Prelude.{◌≡◌, ◌⊎◌, ℕ, List, None, Some, true, false};
+ghost use Rattle.rtb_base.specs.Faults.{RisesOnlyWhere};
+ghost use Rattle.rtb_io.specs.Statuses.{code_of};
+ghost use Rattle.rtb_io.specs.declared.status.Status.TheVariants.{Memory, NotWritten, Usage};
+ghost use Rattle.exchange_run.specs.Run.{Runs, Shows, Tries, names_try, other, words_of};
+
+use crate::try_command::try_run;
+use link_door::{Door, Link, Pause, World};
+use rtb_disk::Disk;
+use rtb_io::Status;
+use rtb_num::{Sink, Source, Txt};
+use run_commands::{Outcome, end_with, recover, serve, tell};
+use run_words::{CommandLine, WordsFault, command_line, help_text, version_text};
+use std::alloc::{AllocError, Global};
+
+/// Runs the command that the words name, the first of which is its name, and gives back all that the world
+/// handed out.
+///
+/// `try` is `try_run`; `serve` and `recover` are those of `run_commands`. `--help` and `--version`, alone or
+/// behind the name of such a command, print a text. Other words end with status 2 and its line.
+pub fn run<W: World, P: Pause, S: Source, K: Sink>(
+    alloc: Global,
+    words: &[Txt],
+    world: &mut W,
+    pause: &P,
+    source: &mut S,
+    sink: &mut K,
+) -> Outcome<W>
+    ensures runs { Runs ⟦<W::Disk as Disk>⟧ ⟦<W::Door as Door>⟧ ⟦<<W::Door as Door>::Link as Link>⟧ words.now (W.disks_left world.old) (W.disks_left world.new) (W.doors_left world.old) (W.doors_left world.new) (W.faults world.old) (W.faults world.new) (K.written sink.old) (K.written sink.new) result.status result.doors result.disk }
+    ensures cause { RisesOnlyWhere (result.status ≡ code_of NotWritten) (K.faults sink.old) (K.faults sink.new) }
+
+    // With `try` it is `try_run`; the source is for that command alone.
+    ensures tries { names_try words.now ≡ true → Tries words.now (S.left source.old) (S.left source.new) (S.faults source.old) (S.faults source.new) (K.written sink.old) (K.written sink.new) result.status }
+    ensures unread { names_try words.now ≡ false → source.new ≡ source.old }
+
+    // It is usage exactly where the words are of no command, unless the sink fails or memory is refused.
+    ensures usage { words_of words.now ≡ None → (result.status ≡ code_of Usage) ⊎ (result.status ≡ code_of NotWritten) ⊎ (result.status ≡ code_of Memory) }
+    ensures named { result.status ≡ code_of Usage → words_of words.now ≡ None }
+{
+    if is_try(words) {
+        return Outcome::without_world(alloc, try_run(alloc, words, source, sink));
+    }
+    run_other(alloc, words, world, pause, sink)
+}
+
+fn is_try(words: &[Txt]) -> bool
+    ensures { result ≡ names_try words.now }
+{
+    match words {
+        [] => false,
+        [name, ..] => name.as_bytes() == b"try".as_slice(),
+    }
+}
+
+// The same, of words that do not name `try`.
+fn run_other<W: World, P: Pause, K: Sink>(
+    alloc: Global,
+    words: &[Txt],
+    world: &mut W,
+    pause: &P,
+    sink: &mut K,
+) -> Outcome<W>
+    requires { names_try words.now ≡ false }
+    ensures runs { Runs ⟦<W::Disk as Disk>⟧ ⟦<W::Door as Door>⟧ ⟦<<W::Door as Door>::Link as Link>⟧ words.now (W.disks_left world.old) (W.disks_left world.new) (W.doors_left world.old) (W.doors_left world.new) (W.faults world.old) (W.faults world.new) (K.written sink.old) (K.written sink.new) result.status result.doors result.disk }
+    ensures cause { RisesOnlyWhere (result.status ≡ code_of NotWritten) (K.faults sink.old) (K.faults sink.new) }
+{
+    match command_line(alloc, words) {
+        Ok(line) => {
+            let outcome = run_line(alloc, &line, world, pause, sink);
+            drop(line);
+            outcome
+        }
+        Err(fault) => Outcome::without_world(alloc, end_with(status_of(fault), sink).code()),
+    }
+}
+
+fn status_of(fault: WordsFault) -> Status
+    ensures usage { fault ≡ WordsFault.Usage → result ≡ Usage }
+    ensures memory { fault ≡ WordsFault.Memory → result ≡ Memory }
+{
+    match fault {
+        WordsFault::Usage => Status::Usage,
+        WordsFault::Memory => Status::Memory,
+    }
+}
+
+// Runs what is read by `clap`.
+fn run_line<W: World, P: Pause, K: Sink>(
+    alloc: Global,
+    line: &CommandLine,
+    world: &mut W,
+    pause: &P,
+    sink: &mut K,
+) -> Outcome<W>
+    ensures runs { (words : List (List ℕ)) → words_of words ≡ Some (other line.now) → Runs ⟦<W::Disk as Disk>⟧ ⟦<W::Door as Door>⟧ ⟦<<W::Door as Door>::Link as Link>⟧ words (W.disks_left world.old) (W.disks_left world.new) (W.doors_left world.old) (W.doors_left world.new) (W.faults world.old) (W.faults world.new) (K.written sink.old) (K.written sink.new) result.status result.doors result.disk }
+    ensures cause { RisesOnlyWhere (result.status ≡ code_of NotWritten) (K.faults sink.old) (K.faults sink.new) }
+{
+    match line {
+        CommandLine::Serve(options) => serve(alloc, options, world, pause, sink),
+        CommandLine::Recover(options) => recover(alloc, options, world, sink),
+        CommandLine::Help(topic) => {
+            let text = help_text(alloc, *topic);
+            Outcome::without_world(alloc, show(text, sink).code())
+        }
+        CommandLine::Version => {
+            let text = version_text(alloc);
+            Outcome::without_world(alloc, show(text, sink).code())
+        }
+    }
+}
+
+// Writes the text, where there was memory for it.
+fn show<K: Sink>(text: Result<Txt, AllocError>, sink: &mut K) -> Status
+    ensures shows { Shows (K.written sink.old) (K.written sink.new) (code_of result) }
+    ensures cause { RisesOnlyWhere (result ≡ NotWritten) (K.faults sink.old) (K.faults sink.new) }
+{
+    match text {
+        Ok(text) => tell(Status::Done, text.as_bytes(), sink),
+        Err(AllocError) => end_with(Status::Memory, sink),
+    }
+}

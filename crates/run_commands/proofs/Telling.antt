@@ -1,0 +1,35 @@
+-- From what was called to what a command comes to.
+use Rattle.std.proofs.Common.{◌≡◌, ◌⊎◌, ◌≢◌, ℕ, List, [], ◌∷◌, Option, None, Some, Result, Ok, Err, true, refl, sym, subst, ap}
+use Rattle.std.specs.Prelude.{MatchResult}
+use Rattle.journal_file.specs.declared.faults.JournalFault.{JournalFault}
+use Rattle.journal_file.specs.declared.faults.JournalFault.TheVariants as fault
+use Rattle.link_door.specs.Worlds.{HandsOut}
+use Rattle.link_door.specs.declared.world.WorldFault.{WorldFault}
+use Rattle.link_door.specs.declared.world.WorldFault.TheVariants as world
+use Rattle.recovery.specs.Damage.{IsDamagedAt}
+use Rattle.recovery.specs.Openings.{Opens as Opens', Recovers as Recovers'}
+use Rattle.rtb_base.specs.Faults.{RisesOnlyWhere, Rose}
+use Rattle.rtb_disk.specs.Stores.{Store}
+use Rattle.rtb_io.specs.declared.status.Status.TheVariants as status
+use Rattle.run_commands.specs.Endings.{Ends}
+use Rattle.run_commands.specs.Journals.{EndsAt, HasCause}
+use Rattle.run_commands.specs.Recover.{Tells, counted, faulty}
+use Rattle.run_commands.specs.Serve.{GivesNoDoor}
+
+pub tells : (store : Store) (faults faults' : ℕ) (text : List ℕ) (w w' : Option (List ℕ)) (code : ℕ) (r : Result (Unit {0}) JournalFault)
+    → (store.told ≡ true → Recovers' store.reads [] text r) → RisesOnlyWhere (r ≡ Err fault.DiskFailed) faults faults'
+    → MatchResult r (λ _. Ends status.Done text w w' code) (λ f. EndsAt f w w' code) → Tells store faults faults' w w' code
+tells store faults faults' text w w' code (Ok u) says cause h = counted text says (cause.2 (λ e. cc)) h
+tells store faults faults' text w w' code (Err fault.DiskFailed) says cause h = faulty fault.DiskFailed (cause.1 refl) h
+tells store faults faults' text w w' code (Err (fault.Damaged at)) says cause h = faulty (fault.Damaged at) (cause.2 (λ e. cc), says) h
+tells store faults faults' text w w' code (Err fault.Memory) says cause h = faulty fault.Memory (cause.2 (λ e. cc)) h
+
+pub has_cause : (store : Store) (faults faults' : ℕ) (f : JournalFault) → (store.told ≡ true → Opens' store.reads (Err f)) → (f ≡ fault.DiskFailed → Rose faults faults')
+    → (f ≢ fault.DiskFailed → faults' ≡ faults) → HasCause store faults faults' f
+has_cause store faults faults' fault.DiskFailed says rose quiet = rose refl
+has_cause store faults faults' (fault.Damaged at) says rose quiet = (quiet (λ e. cc), says)
+has_cause store faults faults' fault.Memory says rose quiet = quiet (λ e. cc)
+
+pub gives_no_door : {A : Type 0} (f : WorldFault) (count count' : ℕ) → RisesOnlyWhere (◌≡◌ {A = Result A WorldFault} (Err f) (Err world.Failed)) count count' → GivesNoDoor f count count'
+gives_no_door world.Failed count count' h = h.1 refl
+gives_no_door world.Memory count count' h = h.2 (λ e. cc)

@@ -1,0 +1,4 @@
+pub mod Endings
+pub mod Journals
+pub mod Recover
+pub mod Serve

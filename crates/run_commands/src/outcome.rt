@@ -1,0 +1,46 @@
+ghost use Rattle.std.specs.Prelude.{◌≡◌, [], None, Some};
+ghost use Rattle.rtb_io.specs.Statuses.{code_of};
+
+use link_door::World;
+use rtb_io::Status;
+use rtb_num::List;
+use std::alloc::Global;
+
+/// How a run ended, and all that the world handed out to it.
+#[derive(Drop)]
+pub struct Outcome<W: World> {
+    /// The status, which the program gives to the system.
+    pub status: u8,
+    /// The doors, in the order in which the world gave them.
+    pub doors: List<W::Door>,
+    /// The disk of the journal.
+    pub disk: Option<W::Disk>,
+}
+
+impl<W: World> Outcome<W> {
+    /// A run that was handed out nothing.
+    pub fn without_world(alloc: Global, status: u8) -> Outcome<W>
+        ensures status { result.status ≡ status }
+        ensures doors { result.doors ≡ [] }
+        ensures disk { result.disk ≡ None }
+    {
+        Outcome {
+            status,
+            doors: List::new(alloc),
+            disk: None,
+        }
+    }
+
+    /// A run that was handed out a disk, and no door.
+    pub fn with_disk(alloc: Global, status: Status, disk: W::Disk) -> Outcome<W>
+        ensures status { result.status ≡ code_of status }
+        ensures doors { result.doors ≡ [] }
+        ensures disk { result.disk ≡ Some disk }
+    {
+        Outcome {
+            status: status.code(),
+            doors: List::new(alloc),
+            disk: Some(disk),
+        }
+    }
+}

@@ -1,0 +1,37 @@
+-- What words ask for, where the command is read by `clap`.
+use Rattle.std.specs.Prelude.{List, [], ◌∷◌, Option, None, Some, if◌then◌else◌, codes, option_map}
+use Rattle.std.specs.Str.{bytes_eq}
+use Rattle.clap.specs.Words.{Text}
+use Rattle.run_words.specs.Commands.{recover_options, serve_options}
+use Rattle.run_words.specs.declared.commands.CommandLine.{CommandLine}
+use Rattle.run_words.specs.declared.commands.CommandLine.TheVariants.{Serve, Recover, Help, Version}
+use Rattle.run_words.specs.declared.commands.Topic.{Topic}
+use Rattle.run_words.specs.declared.commands.Topic.TheVariants as topic
+
+-- `--help` and `--version`
+abbrev pub about : Topic → Text → Option CommandLine
+about t word = if bytes_eq word (codes "--help") then Some (Help t) else (if bytes_eq word (codes "--version") then Some Version else None)
+
+-- what is asked about the topic: by one word alone
+abbrev pub asked : Topic → List Text → Option CommandLine
+asked t [] = None
+asked t (word ∷ []) = about t word
+asked t (word ∷ more ∷ words) = None
+
+abbrev pub or_else : Option CommandLine → Option CommandLine → Option CommandLine
+or_else None other = other
+or_else (Some line) other = Some line
+
+-- `serve` with its options, or with what is asked about it behind its name
+abbrev pub serve_line : List Text → List Text → Option CommandLine
+serve_line words rest = or_else (asked topic.Serve rest) (option_map Serve (serve_options words))
+
+abbrev pub recover_line : List Text → List Text → Option CommandLine
+recover_line words rest = or_else (asked topic.Recover rest) (option_map Recover (recover_options words))
+
+-- what the words ask for, the first of which names the command
+abbrev pub command_line : List Text → Option CommandLine
+command_line [] = None
+command_line (name ∷ rest) =
+    if bytes_eq name (codes "serve") then serve_line (name ∷ rest) rest
+    else (if bytes_eq name (codes "recover") then recover_line (name ∷ rest) rest else asked topic.Program (name ∷ rest))

@@ -1,0 +1,100 @@
+ghost use Rattle.std.specs.Prelude.{◌≡◌, MatchResult, None, Some};
+ghost use Rattle.run_words.specs.CommandLines.{about, asked, command_line, recover_line, serve_line};
+ghost use Rattle.run_words.specs.declared.fault.WordsFault.TheVariants.{Usage};
+
+use crate::fault::WordsFault;
+use crate::recover::{RecoverOptions, recover_options};
+use crate::serve::{ServeOptions, serve_options};
+use rtb_num::Txt;
+use std::alloc::Global;
+
+/// What is asked about.
+#[derive(Clone, Copy, Debug, PartialEq, Eq)]
+pub enum Topic {
+    /// The whole program.
+    Program,
+    /// The command `serve`.
+    Serve,
+    /// The command `recover`.
+    Recover,
+}
+
+/// What words ask for, where they are of no command that is read by hand.
+#[derive(Debug, Drop)]
+pub enum CommandLine {
+    /// `serve` with its options.
+    Serve(ServeOptions),
+    /// `recover` with its options.
+    Recover(RecoverOptions),
+    /// `--help`, alone or behind a command's name.
+    Help(Topic),
+    /// `--version`, likewise.
+    Version,
+}
+
+/// What the words ask for, the first of which names the command.
+pub fn command_line(alloc: Global, words: &[Txt]) -> Result<CommandLine, WordsFault>
+    ensures { MatchResult result (λ line. command_line words.now ≡ Some line) (λ e. e ≡ Usage → command_line words.now ≡ None) }
+{
+    match words {
+        [] => Err(WordsFault::Usage),
+        [name, rest @ ..] => {
+            if name.as_bytes() == b"serve".as_slice() {
+                return serve_line(alloc, words, rest);
+            }
+            if name.as_bytes() == b"recover".as_slice() {
+                return recover_line(alloc, words, rest);
+            }
+            match asked(Topic::Program, words) {
+                Some(line) => Ok(line),
+                None => Err(WordsFault::Usage),
+            }
+        }
+    }
+}
+
+fn serve_line(alloc: Global, words: &[Txt], rest: &[Txt]) -> Result<CommandLine, WordsFault>
+    ensures { MatchResult result (λ line. serve_line words.now rest.now ≡ Some line) (λ e. e ≡ Usage → serve_line words.now rest.now ≡ None) }
+{
+    match asked(Topic::Serve, rest) {
+        Some(line) => Ok(line),
+        None => match serve_options(alloc, words) {
+            Ok(options) => Ok(CommandLine::Serve(options)),
+            Err(fault) => Err(fault),
+        },
+    }
+}
+
+fn recover_line(alloc: Global, words: &[Txt], rest: &[Txt]) -> Result<CommandLine, WordsFault>
+    ensures { MatchResult result (λ line. recover_line words.now rest.now ≡ Some line) (λ e. e ≡ Usage → recover_line words.now rest.now ≡ None) }
+{
+    match asked(Topic::Recover, rest) {
+        Some(line) => Ok(line),
+        None => match recover_options(alloc, words) {
+            Ok(options) => Ok(CommandLine::Recover(options)),
+            Err(fault) => Err(fault),
+        },
+    }
+}
+
+// What a lone word asks about the topic.
+fn asked(topic: Topic, words: &[Txt]) -> Option<CommandLine>
+    ensures { result ≡ asked topic words.now }
+{
+    match words {
+        [word] => about(topic, word.as_bytes()),
+        _ => None,
+    }
+}
+
+fn about(topic: Topic, word: &[u8]) -> Option<CommandLine>
+    ensures { result ≡ about topic word.now }
+{
+    if word == b"--help".as_slice() {
+        return Some(CommandLine::Help(topic));
+    }
+    if word == b"--version".as_slice() {
+        return Some(CommandLine::Version);
+    }
+    None
+}

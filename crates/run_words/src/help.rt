@@ -1,0 +1,186 @@
+//! Texts for a person, of which no contract speaks.
+use crate::commands::Topic;
+use crate::fault::WordsFault;
+use crate::recover::recover_command;
+use crate::serve::serve_command;
+use crate::texts::texts;
+use clap::{Command, Error};
+use rtb_num::Txt;
+use std::alloc::{AllocError, Global};
+
+/// The text of `--help`, written by `clap`.
+pub fn help_text(alloc: Global, topic: Topic) -> Result<Txt, AllocError> {
+    match told_command(alloc, topic) {
+        Ok(command) => help_of(alloc, command),
+        Err(error) => Err(error),
+    }
+}
+
+fn help_of(alloc: Global, command: Command<'_>) -> Result<Txt, AllocError> {
+    let mut command = command;
+    let text = command.render_help();
+    drop(command);
+    text_of(alloc, text)
+}
+
+/// The text of `--version`, written by `clap`.
+pub fn version_text(alloc: Global) -> Result<Txt, AllocError> {
+    let command = Command::new(alloc, "rtbx").version("0.1.0");
+    let text = command.render_version();
+    drop(command);
+    text_of(alloc, text)
+}
+
+fn text_of(alloc: Global, text: Result<String, AllocError>) -> Result<Txt, AllocError> {
+    match text {
+        Ok(text) => Txt::from_slice(alloc, text.as_bytes()),
+        Err(error) => Err(error),
+    }
+}
+
+const PROGRAM_ABOUT: &str = "An ad exchange for OpenRTB 2.5";
+
+const SERVE_ABOUT: &str = "Serves the exchange over HTTP, with one worker, until it is stopped";
+
+const RECOVER_ABOUT: &str =
+    "Reads a journal, changes nothing, and prints the counts of its exchange";
+
+const TRY_ABOUT: &str =
+    "Sells one bid request of standard input to the campaigns BID or BID@DOMAIN";
+
+const PROGRAM_END: &str = "\
+Examples:
+  rtbx try 2.50@news.example 1.00 < request.json
+  rtbx serve --listen 127.0.0.1:8080 --journal exchange.journal --public http://ads.example
+  rtbx recover --journal exchange.journal
+  rtbx serve --help";
+
+const SERVE_END: &str = "\
+Example:
+  rtbx serve --listen 127.0.0.1:8080 --journal exchange.journal --public http://ads.example --ttl 300000";
+
+const RECOVER_END: &str = "\
+Example:
+  rtbx recover --journal exchange.journal";
+
+// The command with what is told of it.
+fn told_command<'a>(alloc: Global, topic: Topic) -> Result<Command<'a>, AllocError> {
+    match topic {
+        Topic::Program => program_command(alloc),
+        Topic::Serve => told_serve(serve_command(alloc)),
+        Topic::Recover => told_recover(recover_command(alloc)),
+    }
+}
+
+fn told_serve<'a>(command: Result<Command<'a>, AllocError>) -> Result<Command<'a>, AllocError> {
+    match command {
+        Ok(command) => described(command, "rtbx serve", SERVE_ABOUT, SERVE_END),
+        Err(error) => Err(error),
+    }
+}
+
+fn told_recover<'a>(command: Result<Command<'a>, AllocError>) -> Result<Command<'a>, AllocError> {
+    match command {
+        Ok(command) => described(command, "rtbx recover", RECOVER_ABOUT, RECOVER_END),
+        Err(error) => Err(error),
+    }
+}
+
+fn program_command<'a>(alloc: Global) -> Result<Command<'a>, AllocError> {
+    let command = Command::new(alloc, "rtbx").disable_help_subcommand(true);
+    let with_try = with_command(alloc, command, "try", TRY_ABOUT)?;
+    let with_serve = with_command(alloc, with_try, "serve", SERVE_ABOUT)?;
+    let with_all = with_command(alloc, with_serve, "recover", RECOVER_ABOUT)?;
+    described(with_all, "rtbx", PROGRAM_ABOUT, PROGRAM_END)
+}
+
+fn with_command<'a>(
+    alloc: Global,
+    command: Command<'a>,
+    name: &'a str,
+    about: &'a str,
+) -> Result<Command<'a>, AllocError> {
+    let named = Command::new(alloc, name).about(about);
+    command.subcommand(named)
+}
+
+fn described<'a>(
+    command: Command<'a>,
+    name: &str,
+    about: &'a str,
+    end: &'a str,
+) -> Result<Command<'a>, AllocError> {
+    command
+        .disable_help_flag(true)
+        .about(about)
+        .after_help(end)
+        .bin_name(name)
+}
+
+/// What `clap` says of words that it refuses, the first of which is the command's name, as one line without
+/// its line feed. It is empty where the words are of no command with options, or not refused.
+pub fn refusal_line(alloc: Global, words: &[Txt]) -> Result<Txt, AllocError> {
+    match texts(alloc, words) {
+        Ok(texts) => refusal_of(alloc, texts.as_slice()),
+        Err(WordsFault::Usage) => Txt::from_slice(alloc, b"each word has to be UTF-8"),
+        Err(WordsFault::Memory) => Err(AllocError),
+    }
+}
+
+fn refusal_of<'a>(alloc: Global, words: &'a [&'a str]) -> Result<Txt, AllocError> {
+    match words {
+        ["serve", ..] => refusal_by(alloc, serve_command(alloc), words),
+        ["recover", ..] => refusal_by(alloc, recover_command(alloc), words),
+        _ => Ok(Txt::new(alloc)),
+    }
+}
+
+fn refusal_by<'a>(
+    alloc: Global,
+    command: Result<Command<'a>, AllocError>,
+    words: &'a [&'a str],
+) -> Result<Txt, AllocError> {
+    match command {
+        Ok(command) => match command.try_get_matches_from(words) {
+            Ok(matches) => {
+                drop(matches);
+                Ok(Txt::new(alloc))
+            }
+            Err(error) => told_refusal(alloc, error),
+        },
+        Err(error) => Err(error),
+    }
+}
+
+fn told_refusal(alloc: Global, error: Error) -> Result<Txt, AllocError> {
+    let text = format!(in alloc; "{error}");
+    drop(error);
+    match text {
+        Ok(text) => first_paragraph(alloc, text.as_str()),
+        Err(error) => Err(error),
+    }
+}
+
+// Its lines up to an empty one, joined to one line.
+fn first_paragraph(alloc: Global, text: &str) -> Result<Txt, AllocError> {
+    let mut joined = Txt::new(alloc);
+    for line in text.lines() {
+        let line = line.trim_start();
+        if line.is_empty() {
+            return Ok(joined);
+        }
+        if !joined.is_empty() {
+            joined.push(b' ')?;
+        }
+        joined.extend(without_front(line).as_bytes())?;
+    }
+    Ok(joined)
+}
+
+// Without `error: ` at its front.
+fn without_front(line: &str) -> &str {
+    match line.strip_prefix("error: ") {
+        Some(rest) => rest,
+        None => line,
+    }
+}
