@@ -36,10 +36,9 @@ const PUBLIC: &[u8] = b"http://x.example";
 /// Appends the answers to the fields' messages.
 pub fn put_answers(alloc: Global, fields: &[Txt], out: &mut Txt) -> Result<(), AllocError> {
     let mut exchange = Exchange::new(alloc, ttl_of(fields))?;
-    for field in fields {
-        exchange.take(alloc, field.as_bytes(), out)?;
-    }
-    Ok(())
+    let answered = exchange.take_all(alloc, fields, out);
+    drop(exchange);
+    answered
 }
 
 fn ttl_of(fields: &[Txt]) -> u64 {
@@ -75,6 +74,13 @@ impl Exchange {
             follower: Core::new(alloc, ttl),
             public,
         })
+    }
+
+    fn take_all(&mut self, alloc: Global, fields: &[Txt], out: &mut Txt) -> Result<(), AllocError> {
+        for field in fields {
+            self.take(alloc, field.as_bytes(), out)?;
+        }
+        Ok(())
     }
 
     fn take(&mut self, alloc: Global, field: &[u8], out: &mut Txt) -> Result<(), AllocError> {
@@ -160,7 +166,11 @@ impl Exchange {
     #[tactic(auto, using(crate::proofs::Valid::valid_as_read))]
     fn answer(&mut self, alloc: Global, sent: &Sent, out: &mut Txt) -> Result<(), AllocError> {
         match read_command(alloc, &sent.message) {
-            Ok(command) => self.answer_to(alloc, &command, sent.moment, out),
+            Ok(command) => {
+                let answered = self.answer_to(alloc, &command, sent.moment, out);
+                drop(command);
+                answered
+            }
             Err(CommandFault::Refused { refusal }) => put_answer(&refusal, out),
             Err(CommandFault::Memory) => Err(AllocError),
         }
@@ -184,7 +194,9 @@ impl Exchange {
             moment,
             out,
         )?;
-        put_reply(alloc, command, &reply, &self.public, out)
+        let answered = put_reply(alloc, command, &reply, &self.public, out);
+        drop(reply);
+        answered
     }
 }
 
@@ -250,8 +262,13 @@ fn carry_out(
 {
     let followed = follow(alloc, follower, &draft, out);
     let reply = core.commit(draft);
-    followed?;
-    Ok(reply)
+    match followed {
+        Ok(()) => Ok(reply),
+        Err(refused) => {
+            drop(reply);
+            Err(refused)
+        }
+    }
 }
 
 // The live campaigns whose expressions are true of an auction's impressions.

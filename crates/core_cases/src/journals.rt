@@ -18,7 +18,8 @@ pub fn put_recovery(
     tell(alloc, disk, out)
 }
 
-fn tell<D: Disk + Drop>(alloc: Global, disk: D, out: &mut Txt) -> Result<(), AllocError> {
+/// Appends the line that is told of the journal on the disk, or why there is none.
+pub fn tell<D: Disk + Drop>(alloc: Global, disk: D, out: &mut Txt) -> Result<(), AllocError> {
     let (_disk, told) = recover(alloc, disk, out);
     match told {
         Ok(()) => Ok(()),

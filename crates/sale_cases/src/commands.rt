@@ -30,7 +30,7 @@ pub fn answer(alloc: Global, call: &[u8], args: &[Txt], out: &mut Txt) -> Result
 
 fn tell_words(alloc: Global, line: &[u8], out: &mut Txt) -> Result<(), AllocError> {
     let words = words_in(alloc, line)?;
-    explain(words.as_slice(), out)
+    explain(alloc, words.as_slice(), out)
 }
 
 fn of_two(
@@ -123,7 +123,7 @@ impl Run {
 }
 
 // The status, and what was written, if anything was.
-fn tell(status: u8, written: &Txt, out: &mut Txt) -> Result<(), AllocError> {
+pub(crate) fn tell(status: u8, written: &Txt, out: &mut Txt) -> Result<(), AllocError> {
     write_decimal(u64::from(status), out)?;
     if !written.is_empty() {
         out.push(b' ')?;
@@ -188,7 +188,7 @@ fn count_left(source: &mut MemSource) -> usize {
 }
 
 // The words of a line; no word stands on an empty line.
-fn words_in(alloc: Global, line: &[u8]) -> Result<Vec<Txt>, AllocError> {
+pub(crate) fn words_in(alloc: Global, line: &[u8]) -> Result<Vec<Txt>, AllocError> {
     let mut words = Vec::new(alloc);
     if line.is_empty() {
         return Ok(words);

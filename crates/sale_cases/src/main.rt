@@ -6,6 +6,7 @@
 
 mod commands;
 mod markup;
+mod runs;
 mod sales;
 
 use case_lines::{Areas, run_cases};
@@ -30,6 +31,9 @@ impl Areas for Sale {
             return Ok(true);
         }
         if sales::answer(alloc, call, args, out)? {
+            return Ok(true);
+        }
+        if runs::answer(alloc, call, args, out)? {
             return Ok(true);
         }
         commands::answer(alloc, call, args, out)

@@ -1,0 +1,92 @@
+//! Runs of all commands over a world in memory, which has one disk and one door.
+ghost use Rattle.std.specs.Prelude.{◌≢◌, [], IfOk};
+
+use crate::commands::{tell, words_in};
+use case_lines::{done, numbers_in};
+use exchange_run::run;
+use link_door::{MemDoor, MemWorld, NoPause};
+use rtb_disk::MemDisk;
+use rtb_num::{List, MemSink, MemSource, Txt};
+use std::alloc::{AllocError, Global};
+
+/// Answers a call of this area, or tells that it is none.
+///
+/// - `run | WORDS | JOURNAL | WORLD | DISK | DOOR | WRITES`: the status, and what is written, where the disk has
+///   the bytes JOURNAL, no link comes through the door, and the source has no byte. Behind that are the numbers of
+///   the calls of the world, the disk and the door and of the writes that fail, from 1 on.
+pub fn answer(alloc: Global, call: &[u8], args: &[Txt], out: &mut Txt) -> Result<bool, AllocError> {
+    match args {
+        [line, journal, world, disk, door, writes] if call == b"run".as_slice() => {
+            let disks = disks_of(alloc, journal, disk.as_bytes());
+            let doors = doors_of(alloc, door.as_bytes());
+            let world = world_of(alloc, disks, doors, world.as_bytes());
+            done(put_run(alloc, line.as_bytes(), world, writes.as_bytes(), out))
+        }
+        _ => Ok(false),
+    }
+}
+
+fn disks_of(alloc: Global, journal: &Txt, fails: &[u8]) -> Result<List<MemDisk>, AllocError> {
+    let fails = numbers_in(alloc, fails)?;
+    let disk = MemDisk::new(alloc, journal.copy()?, fails);
+    let mut disks = List::new(alloc);
+    disks.push(disk)?;
+    Ok(disks)
+}
+
+fn doors_of(alloc: Global, fails: &[u8]) -> Result<List<MemDoor>, AllocError> {
+    let fails = numbers_in(alloc, fails)?;
+    let moments = one_moment(alloc)?;
+    let door = MemDoor::new(alloc, List::new(alloc), moments, fails)?;
+    let mut doors = List::new(alloc);
+    doors.push(door)?;
+    Ok(doors)
+}
+
+fn one_moment(alloc: Global) -> Result<List<u64>, AllocError>
+    ensures { IfOk result (λ moments. moments ≢ []) }
+{
+    let mut moments = List::new(alloc);
+    moments.push(1000)?;
+    Ok(moments)
+}
+
+fn world_of(
+    alloc: Global,
+    disks: Result<List<MemDisk>, AllocError>,
+    doors: Result<List<MemDoor>, AllocError>,
+    fails: &[u8],
+) -> Result<MemWorld, AllocError> {
+    match (disks, doors, numbers_in(alloc, fails)) {
+        (Ok(disks), Ok(doors), Ok(fails)) => Ok(MemWorld::new(alloc, doors, disks, fails)),
+        _ => Err(AllocError),
+    }
+}
+
+fn put_run(
+    alloc: Global,
+    line: &[u8],
+    world: Result<MemWorld, AllocError>,
+    writes: &[u8],
+    out: &mut Txt,
+) -> Result<(), AllocError> {
+    let mut sink = MemSink::new(alloc, numbers_in(alloc, writes)?);
+    let words = words_in(alloc, line)?;
+    match world {
+        Ok(world) => {
+            let status = status_of(alloc, words.as_slice(), world, &mut sink);
+            tell(status, sink.written(), out)
+        }
+        Err(error) => Err(error),
+    }
+}
+
+fn status_of(alloc: Global, words: &[Txt], world: MemWorld, sink: &mut MemSink) -> u8 {
+    let mut world = world;
+    let mut source = MemSource::new(Txt::new(alloc), List::new(alloc));
+    let outcome = run(alloc, words, &mut world, &NoPause, &mut source, sink);
+    let status = outcome.status;
+    drop(outcome);
+    drop(world);
+    status
+}
