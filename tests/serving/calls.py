@@ -1,0 +1,60 @@
+"""The calls of the system that a message takes, as strace tells them: nothing is answered before it is synced."""
+
+import re
+import select
+import shutil
+import signal
+import subprocess
+
+from serving.checks import CHECKS, LIMIT
+from serving.messages import A, SELL, get, new, post, report, settled, won_by_a
+from serving.program import running
+
+NAMES = {"recvfrom": "read", "sendto": "write", "read": "read", "write": "write", "pwrite64": "keep", "fdatasync": "sync"}
+ANSWERED = ["read", "write"]
+# The length, the payload and a closed gate; then the gate that opens them.
+KEPT = ["read", "keep", "keep", "keep", "sync", "keep", "sync", "write"]
+
+
+def steps():
+    """Messages with their answers, and the calls that each takes."""
+    return [
+        ("a campaign", post("/campaign", A), new(1), KEPT),
+        ("a report", get("/campaign/1"), report(1), ANSWERED),
+        ("a sale", SELL, won_by_a(1, "0.3"), KEPT),
+        ("a billing", post("/bill/1"), settled(1, "billed"), KEPT),
+        ("the same again", post("/bill/1"), settled(1, "billed"), ANSWERED),
+    ]
+
+
+def try_calls(program, folder):
+    """Each message by itself: a change is synced twice before its answer is sent, and others keep nothing."""
+    if shutil.which("strace") is None:
+        print("calls: left out, since there is no strace")
+        return
+    told = folder / "strace"
+    with running(program, folder / "calls") as server, server.link() as link:
+        link.send(get("/campaign/1"))
+        link.answer()
+        with subprocess.Popen(["strace", "-f", "-o", told, "-p", str(server.process.pid)], stderr=subprocess.PIPE) as tracer:
+            said = tracer.stderr.readline() if select.select([tracer.stderr], [], [], LIMIT)[0] else b""
+            if b"attached" not in said:
+                print(f"calls: left out, since strace may not look: {said.decode(errors='replace').strip()}")
+                tracer.kill()
+                return
+            answers = []
+            for _, data, _, _ in steps():
+                link.send(data)
+                answers.append(link.answer())
+            tracer.send_signal(signal.SIGINT)
+            tracer.wait(LIMIT)
+    CHECKS.same("the answers", answers, [wanted for _, _, wanted, _ in steps()])
+    # The first read was waiting already.
+    wanted = [name for it in steps() for name in it[3]][1:]
+    CHECKS.same("the calls", calls_in(told.read_text())[-len(wanted) :], wanted)
+
+
+def calls_in(told):
+    """The calls that succeeded and that a message takes, in their order."""
+    names = re.findall(r"^(?:\d+ +)?(?:<\.\.\. )?(\w+)(?:\(| resumed>).* = \d+$", told, re.MULTILINE)
+    return [NAMES.get(name, name) for name in names if name in NAMES]

@@ -1,0 +1,96 @@
+"""Words of no command, and each cause with its status and its line."""
+
+import os
+import resource
+import socket
+import subprocess
+from contextlib import suppress
+
+from serving.checks import CHECKS, LIMIT
+from serving.messages import get
+from serving.program import counts, ended, free_port, recovered, running, serve_words
+from serving.journals import HEAD
+
+
+def try_usage(program, folder):
+    """Words of no command, and those that ask for help."""
+    full = ["--listen", "127.0.0.1:1", "--journal", folder / "j", "--public", "u"]
+    wrong = [
+        [],
+        ["x"],
+        ["serve"],
+        ["serve", *full[:-2]],
+        ["serve", *full, "more"],
+        ["serve", *full, "--ttl", "x"],
+        ["serve", *full, "--ttl", "-1"],
+        ["serve", *full, "--ttl", "0"],
+        ["serve", *full, "--ttl", "31536000001"],
+        ["serve", *full, "--listen", "127.0.0.1:2"],
+        ["serve", *full, "--workers", "2"],
+        ["recover"],
+        ["recover", "--journal"],
+        ["recover", "--listen", "127.0.0.1:1"],
+        ["recover", "--journal", b"\xff"],
+        ["Serve", *full],
+        ["try", "x"],
+        ["--help", "x"],
+    ]
+    for words in wrong:
+        status, out, errors = ended([program, *words])
+        step = " ".join(str(it) for it in ["rtbx", *words])
+        CHECKS.same(step, (status, out), (2, b"rtbx: usage\n"))
+        CHECKS.holds(f"{step}: says a right command on standard error: {errors!r}", b"rtbx " in errors)
+    CHECKS.holds("no file was made", not (folder / "j").exists())
+    with running(program, folder / "year", ttl=31536000000):
+        CHECKS.same("a year is no wrong time", recovered(program, folder / "year"), counts())
+    for words in [["--help"], ["--version"], ["serve", "--help"], ["recover", "--help"], ["serve", "--version"]]:
+        status, out, errors = ended([program, *words])
+        CHECKS.same(f"rtbx {' '.join(words)}", (status, out.startswith(b"rtbx") or b"Usage" in out, errors), (0, True, b""))
+    named = {"serve": [b"--listen", b"--journal", b"--public", b"--ttl"], "recover": [b"--journal"]}
+    for command, options in named.items():
+        out = ended([program, command, "--help"])[1]
+        CHECKS.same(f"rtbx {command} --help names its options", [it for it in options if it not in out], [])
+
+
+def try_statuses(program, folder):
+    """Each cause with its status and its line."""
+    journal = folder / "statuses"
+    with socket.socket() as taken:
+        taken.bind(("127.0.0.1", 0))
+        taken.listen()
+        came = ended(serve_words(program, journal, taken.getsockname()[1]))
+    CHECKS.same("an address that is taken", came[:2], (3, b"rtbx: cannot listen\n"))
+    came = ended([program, "serve", "--listen", "nowhere", "--journal", journal, "--public", "u"])
+    CHECKS.same("no address", came[:2], (3, b"rtbx: cannot listen\n"))
+    CHECKS.same("the journal was made before", journal.read_bytes(), HEAD + b"\x00")
+    for place in [folder, folder / "none" / "journal"]:
+        for command in [serve_words(program, place, free_port()), [program, "recover", "--journal", place]]:
+            CHECKS.same(f"{command[1]}: {place.name}", ended(command)[:2], (4, b"rtbx: cannot open journal\n"))
+    for command in [serve_words(program, "/dev/null", free_port()), [program, "recover", "--journal", "/dev/null"]]:
+        CHECKS.same(f"{command[1]}: what cannot be synced", ended(command)[:2], (5, b"rtbx: journal failed\n"))
+    with open("/dev/full", "wb") as full:
+        CHECKS.same("output that fails", ended(serve_words(program, journal, free_port()), stdout=full)[0], 7)
+        CHECKS.same("recover with it", ended([program, "recover", "--journal", journal], stdout=full)[0], 7)
+        CHECKS.same("usage with it", ended([program, "x"], stdout=full)[0], 7)
+    unreadable = os.open(folder, os.O_RDONLY)
+    CHECKS.same("input that fails", ended([program, "try", "1"], stdin=unreadable)[:2], (10, b"rtbx: input failed\n"))
+    os.close(unreadable)
+    no_descriptors(program, journal)
+
+
+def no_descriptors(program, journal):
+    """A door that cannot accept ends the server, whether or not it still took the link that it waited for."""
+    with running(program, journal) as server:
+        most = resource.getrlimit(resource.RLIMIT_NOFILE)[1]
+        resource.prlimit(server.process.pid, resource.RLIMIT_NOFILE, (0, most))
+        with suppress(OSError), server.link() as link:
+            link.send(get("/campaign/1"))
+            link.answer()
+        try:
+            status = server.process.wait(LIMIT)
+        except subprocess.TimeoutExpired:
+            status = None
+        CHECKS.same("no descriptor is left", (status, server.process.stdout.read() if status else b""), (8, b"rtbx: accept failed\n"))
+
+
+PARTS = {name.removeprefix("part_"): part for name, part in globals().items() if name.startswith("part_")}
