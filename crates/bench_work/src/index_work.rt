@@ -3,7 +3,7 @@ ghost use Rattle.target_expr.specs.declared.attr.Attr.{Attr};
 ghost use Rattle.conj_index.specs.Campaigns.{Campaigns, DoRise, conjunctions_in};
 ghost use Rattle.conj_index.specs.Content.{IsIndexOf};
 
-use conj_index::{Builder, Index, IndexFault, scan};
+use conj_index::{Builder, Index, IndexFault, Scratch, scan};
 use rtb_base::Steps;
 use rtb_num::{Txt, write_decimal};
 use std::alloc::{AllocError, Global};
@@ -114,8 +114,9 @@ pub(crate) fn find_all<L: Ledger>(
     ensures { IfOk result (λ sums. (added : Campaigns) → IsIndexOf added index.now → AreSums (all_found added asked.now) sums) }
 {
     let mut sums = Sums::zero();
+    let mut scratch = Scratch::new(alloc);
     for assignment in asked {
-        let numbers = index.find(alloc, assignment, steps)?;
+        let numbers = index.find_with(alloc, &mut scratch, assignment, steps)?;
         sums = sums.with_numbers(numbers.as_slice());
     }
     Ok(sums)

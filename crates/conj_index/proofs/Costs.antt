@@ -1,10 +1,9 @@
 -- What a find costs is the same for every index of the same campaigns.
-use Rattle.std.proofs.Common.{◌≡◌, ℕ, suc, zero, ◌+◌, ◌<◌, ◌≤◌, min, max, List, [], ◌∷◌, length, get_or, take, slice_get, Some, refl, sym, ◌∙◌, ap, subst, arith}
+use Rattle.std.proofs.Common.{◌≡◌, ℕ, suc, ◌+◌, min, max, List, [], ◌∷◌, length, take, slice_get, Some, refl, ◌∙◌, ap, subst, arith}
 use Rattle.std.specs.Prelude.{sum_by}
 use Rattle.std.specs.List.{enumerate_from, range_with_len}
 use Rattle.std.proofs.lemmas.List.{length-take}
 use Rattle.std.proofs.lemmas.List.Sums.{sum_by-cons}
-use Rattle.target_expr.specs.declared.attr.Attr.{Attr}
 use Rattle.conj_match.specs.Matching.{cost_of}
 use Rattle.conj_index.specs.declared.index.Index.{Index}
 use Rattle.conj_index.specs.declared.part.Part.{Part}

@@ -1,57 +1,23 @@
 -- One part more in a search.
-use Rattle.std.proofs.Common.{◌≡◌, ℕ, zero, suc, ◌+◌, ◌<◌, ◌≤◌, ◌==◌, ◌||◌, inl, inr, max, List, [], ◌∷◌, ◌++◌, length, get_or, slice_get, take, Bool, true, false, not, Some, map, sym, ◌∙◌, ap, subst, arith, sum_by, eqb}
-use Rattle.std.specs.List.{AllByRecursion, Contains, IsDistinct, filter_map, list_any}
-use Rattle.std.proofs.lemmas.Bool.{and_parts, cases_eq, eqb-true, not-true, or_parts}
+use Rattle.std.proofs.Common.{◌≡◌, ℕ, zero, suc, ◌+◌, ◌<◌, ◌≤◌, ◌==◌, ◌||◌, List, [], ◌∷◌, length, get_or, slice_get, take, Bool, true, false, not, Some, map, sym, ◌∙◌, ap, arith, sum_by, eqb}
+use Rattle.std.specs.List.{AllByRecursion, IsDistinct, list_any}
+use Rattle.std.proofs.lemmas.Bool.{and_parts, eqb-true, not-true, or_parts}
 use Rattle.std.proofs.lemmas.Bool.Decides.{nat_tests}
 use Rattle.std.proofs.lemmas.List.{length-map, take_all, take_more}
 use Rattle.std.proofs.lemmas.List.FromFn.{get_or-enumerate_from, length-enumerate_from}
 use Rattle.std.proofs.lemmas.List.Sums.{sum_by-append, sum_by-cons, sum_by-take-le}
 use Rattle.std.proofs.lemmas.Map.Steps.{length-le_from_distinct_below}
-use Rattle.std.proofs.lemmas.Option.{same_Some}
 use Rattle.target_expr.proofs.Attributes.{in_table}
-use Rattle.conj_match.specs.Matching.{IsAnswer, is_match}
 use Rattle.target_expr.specs.declared.attr.Attr.{Attr}
 use Rattle.target_expr.specs.Attributes.{number_of}
 use Rattle.target_expr.specs.Truth.{are_single, same_attr}
 use Rattle.conj_index.specs.declared.part.Part.{Part}
 use Rattle.conj_index.specs.declared.index.Index.{Index}
-use Rattle.conj_index.specs.Find.{found_lists, looked_at, match_cost}
-use Rattle.conj_index.specs.Searching.{AreFound}
-use Rattle.conj_index.proofs.Members.{any_has, contains_from_has, found_has, has_either, has_found, has_from_contains, has_left, has_right, mapped_has}
+use Rattle.conj_index.specs.Find.{looked_at, match_cost}
+use Rattle.conj_index.proofs.Members.{any_has, mapped_has}
 
 abbrev Pairs : Type 0
 Pairs = List (Attr × List ℕ)
-
--- ---- what is found
-
-pub found_none : (a : Pairs) (owners : List ℕ) (parts : List Part) → AreFound a owners parts 0 []
-found_none a owners parts = record {
-  sound = λ z h. absurd (has_from_contains [] z h);
-  whole = λ k id z part h at f. absurd (omega arith);
-}
-
-pub found_next : (a : Pairs) (owners : List ℕ) (parts : List Part) (n : ℕ) (part : Part) (numbers ids new : List ℕ) → AreFound a owners parts n numbers → slice_get parts n ≡ Some part
-    → IsAnswer (found_lists a n part) (max n 1) ids → new ≡ numbers ++ filter_map (slice_get owners) ids → AreFound a owners parts (n + 1) new
-found_next a owners parts n part numbers ids new found there answer is = record {
-  sound = λ z h.
-      elim (has_either numbers (filter_map (slice_get owners) ids) z (has_from_contains (numbers ++ filter_map (slice_get owners) ids) z (subst (λ (l : List ℕ). Contains l z) is h))) [
-        | inl l ↦ let (k, id, at, below, is_at, f) = found.sound z (contains_from_has numbers z l) in (k, id, at, omega (arith, below), is_at, f)
-        | inr r ↦
-            let (id, has, with_owner) = found_has (slice_get owners) ids z r in
-            (n, id, part, omega arith, there, record { matched = (answer.exact id).0 (contains_from_has ids id has); with_owner = with_owner })
-      ];
-  whole = λ k id z at h is_at f. subst (λ (l : List ℕ). Contains l z) (sym is) (contains_from_has (numbers ++ filter_map (slice_get owners) ids) z (
-      elim (cases_eq k n) [
-        | inl e ↦
-            let same : at ≡ part = same_Some at part (sym is_at ∙ ap (slice_get parts) e ∙ there) in
-            let matched : is_match (found_lists a n part) (max n 1) id ≡ true = ap (λ (m : ℕ). is_match (found_lists a m part) (max m 1) id) (sym e) ∙ ap (λ (p : Part). is_match (found_lists a k p) (max k 1) id) (sym same) ∙ f.matched in
-            has_right numbers (filter_map (slice_get owners) ids) z (has_found (slice_get owners) ids id z (has_from_contains ids id ((answer.exact id).1 matched)) f.with_owner)
-        | inr other ↦ has_left numbers (filter_map (slice_get owners) ids) z (has_from_contains numbers z (found.whole k id z at (below k n h other) is_at f))
-      ]));
-}
-  where
-    below : (k n : ℕ) → k < n + 1 → (k ≡ n → ⊥) → k < n
-    below k n h other = grind (arith, h, other)
 
 pub at_place : {X : Type 0} (xs : List X) (n : ℕ) (x : X) → n < length xs → x ≡ get_or xs n x → slice_get xs n ≡ Some x
 at_place [] n x h e = absurd (omega arith)

@@ -9,6 +9,7 @@ pub mod Loops
 pub mod KeyEq
 pub mod Places
 pub mod Finding
+pub mod Hits
 pub mod BuildLoops
 pub mod Pairs
 pub mod Entering

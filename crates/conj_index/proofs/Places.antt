@@ -1,20 +1,16 @@
 -- The chosen places are those of lists, and differ from each other.
-use Rattle.std.proofs.Common.{◌≡◌, ℕ, zero, suc, ◌-◌, ◌<◌, ◌≤◌, ◌==◌, ◌&&◌, ◌||◌, not, inl, inr, List, [], ◌∷◌, ◌++◌, length, get_or, slice_index, position, Bool, true, false, cond, map, Option, Some, None, refl, sym, ◌∙◌, ap, subst, arith, nat_lt}
+use Rattle.std.proofs.Common.{◌≡◌, ℕ, zero, suc, ◌-◌, ◌<◌, ◌≤◌, ◌==◌, ◌&&◌, inl, inr, List, [], ◌∷◌, length, get_or, position, Bool, true, false, cond, Option, Some, None, refl, subst, arith, nat_lt}
 use Rattle.std.specs.Prelude.{option_and_then}
-use Rattle.std.specs.List.{All, cons_option, filter_map, list_any}
-use Rattle.std.proofs.lemmas.Bool.{and_parts, false≢true, ltb-true}
-use Rattle.std.proofs.lemmas.Bool.Decides.{nat_tests}
+use Rattle.std.specs.List.{All, cons_option, filter_map}
+use Rattle.std.proofs.lemmas.Bool.{ltb-true}
 use Rattle.std.proofs.lemmas.List.Quantifiers.{position-Some}
 use Rattle.std.proofs.lemmas.Option.{same_Some}
 use Rattle.indexmap.specs.IndexMap.{keys}
-use Rattle.target_expr.specs.declared.attr.Attr.{Attr}
-use Rattle.target_expr.specs.Attributes.{number_of}
-use Rattle.target_expr.specs.Truth.{are_single, same_attr}
 use Rattle.conj_index.specs.declared.key.Key.{Key}
 use Rattle.conj_index.specs.declared.part.Part.{Part}
 use Rattle.conj_index.specs.Content.{same_key}
-use Rattle.conj_index.specs.Find.{key_lists, key_of, key_place, places_of, zero_place}
-use Rattle.conj_index.proofs.Members.{Has, found_has, has_any, has_either}
+use Rattle.conj_index.specs.Find.{key_lists, key_place, places_of, zero_place}
+use Rattle.conj_index.proofs.Members.{Has, found_has, has_either}
 use Rattle.conj_index.proofs.Served.{key_same}
 
 -- ---- each item of a list, and no item twice

@@ -1,15 +1,12 @@
 -- An entry stands in a posting list where its conjunction has that size and names the key.
-use Rattle.std.proofs.Common.{◌≡◌, ℕ, zero, suc, ◌+◌, ◌≤◌, ◌<◌, ◌==◌, ◌⊎◌, inl, inr, ◌&&◌, ◌||◌, not, List, [], ◌∷◌, Bool, true, false, cond, Option, Some, None, find, slice_get, refl, sym, ◌∙◌, ap, subst, arith}
+use Rattle.std.proofs.Common.{◌≡◌, ℕ, zero, suc, ◌+◌, ◌==◌, inl, inr, List, [], ◌∷◌, Bool, true, false, cond, Option, Some, None, find, slice_get, refl, sym, ◌∙◌, ap, subst, arith}
 use Rattle.std.specs.Prelude.{option_map}
-use Rattle.std.specs.List.{Contains, enumerate_from, list_any}
-use Rattle.std.proofs.lemmas.Bool.{cases_Bool, false≢true}
+use Rattle.std.specs.List.{enumerate_from}
 use Rattle.std.proofs.lemmas.Bool.Decides.{nat_tests}
 use Rattle.std.proofs.lemmas.Option.{same_Some}
 use Rattle.postings.specs.declared.entry.Entry.{Entry}
-use Rattle.target_expr.specs.declared.attr.Attr.{Attr}
 use Rattle.target_expr.specs.declared.pred.Pred.{Pred}
 use Rattle.target_expr.specs.Pairs.{size_of}
-use Rattle.target_expr.specs.Truth.{same_attr}
 use Rattle.conj_index.specs.declared.key.Key.{Key}
 use Rattle.conj_index.specs.Campaigns.{AreKept, Campaigns}
 use Rattle.conj_index.specs.Content.{Listed, conjunctions_of, entries_of, entry_under, names, of_size}

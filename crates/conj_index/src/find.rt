@@ -1,17 +1,19 @@
-ghost use Rattle.std.specs.Prelude.{◌≡◌, ◌≤◌, ◌<◌, ◌+◌, [], ◌++◌, ℕ, map, max, length, take, position, slice_get, IfOk, IsTrue, OnOk};
+ghost use Rattle.std.specs.Prelude.{◌≡◌, ◌≤◌, ◌<◌, ◌+◌, ◌*◌, [], ◌++◌, ℕ, map, max, length, take, position, slice_get, IfOk, IsTrue, OnOk};
 ghost use Rattle.std.specs.List.{cons_option, enumerate_from, filter_map};
-ghost use Rattle.conj_match.specs.Matching.{IsAnswer, cost_of, lists_at};
+ghost use Rattle.conj_match.specs.Bits.{AreSet};
+ghost use Rattle.conj_match.specs.Matching.{cost_of, is_match, lists_at};
 ghost use Rattle.target_expr.specs.Truth.{are_single};
 ghost use Rattle.conj_index.specs.Campaigns.{Campaigns};
 ghost use Rattle.conj_index.specs.Content.{IsIndexOf, same_key};
 ghost use Rattle.indexmap.specs.IndexMap.{keys};
 ghost use Rattle.conj_index.specs.Find.{find_cost, key_lists, key_of, key_place, places_of, true_under, zero_place};
-ghost use Rattle.conj_index.specs.Searching.{AreFound};
+ghost use Rattle.conj_index.specs.Searching.{AreFound, AreHit, AreOwners};
 
 use crate::index::Index;
 use crate::key::Key;
 use crate::part::Part;
-use conj_match::match_lists;
+use crate::scratch::Scratch;
+use conj_match::Tally;
 use rtb_base::Steps;
 use rtb_num::{List, Txt};
 use std::alloc::{AllocError, Global};
@@ -33,39 +35,98 @@ impl Index {
         ensures answer { IfOk result (λ numbers. (added : Campaigns) → IsIndexOf added self.now → numbers ≡ true_under assignment.now added) }
         ensures cost { steps.new ≤ steps.old + find_cost self.now assignment.now }
     {
-        let mut numbers = find_all(alloc, self, assignment.pairs(), steps)?;
+        let mut scratch = Scratch::new(alloc);
+        self.find_with(alloc, &mut scratch, assignment, steps)
+    }
+
+    /// The same, in room that is kept from find to find, of this index or of others: memory is taken
+    /// for the answer alone, and where the room has to grow.
+    pub fn find_with<L: Ledger>(
+        &self,
+        alloc: Global,
+        scratch: &mut Scratch,
+        assignment: &Assignment,
+        steps: &mut Steps<L>,
+    ) -> Result<List<u32>, AllocError>
+        ensures answer { IfOk result (λ numbers. (added : Campaigns) → IsIndexOf added self.now → numbers ≡ true_under assignment.now added) }
+        ensures cost { steps.new ≤ steps.old + find_cost self.now assignment.now }
+    {
+        let mut numbers = find_all(alloc, self, assignment.pairs(), scratch, steps)?;
         numbers.sort_unstable();
         numbers.dedup();
         Ok(List::from_vec(numbers))
     }
 }
 
-// The campaigns of the conjunctions that are found, some more than once.
+// The campaigns of the conjunctions that are found, some more than once. Those of an index of campaigns
+// come in rising order.
 fn find_all<L: Ledger>(
     alloc: Global,
     index: &Index,
     pairs: &[(Attr, Txt)],
+    scratch: &mut Scratch,
     steps: &mut Steps<L>,
 ) -> Result<Vec<u32>, AllocError>
     requires { IsTrue (are_single pairs.now) }
     ensures found { IfOk result (λ numbers. AreFound pairs.now index.now.owners (take (length pairs.now + 1) index.now.parts) (length (take (length pairs.now + 1) index.now.parts)) numbers.items) }
     ensures cost { steps.new ≤ steps.old + find_cost index.now pairs.now }
 {
-    let looked = keys_of(alloc, pairs)?;
-    let mut places = Vec::with_capacity(alloc, looked.len() + 1)?;
-    let mut numbers = Vec::new(alloc);
-    for (size, part) in first_parts(index, pairs.len() + 1).iter().enumerate() {
-        let ids = find_in(
-            alloc,
-            part,
-            size as u32,
-            looked.as_slice(),
-            &mut places,
-            steps,
-        )?;
-        push_owners(&mut numbers, index.owners.as_slice(), ids.as_slice())?;
-    }
+    look_up(pairs, &mut scratch.looked)?;
+    match_all(
+        alloc,
+        index,
+        pairs,
+        scratch.looked.as_slice(),
+        &mut scratch.places,
+        &mut scratch.tally,
+        steps,
+    )?;
+    let numbers = owners_in(
+        alloc,
+        &scratch.tally,
+        index.owners.as_slice(),
+        &mut scratch.ids,
+    )?;
     Ok(numbers)
+}
+
+// The campaigns of the conjunctions that are found.
+fn owners_in(
+    alloc: Global,
+    tally: &Tally,
+    owners: &[u32],
+    ids: &mut Vec<u32>,
+) -> Result<Vec<u32>, AllocError>
+    ensures { IfOk result (λ numbers. AreOwners owners.now tally.now numbers.items) }
+{
+    ids.clear();
+    tally.push_found(ids)?;
+    let mut numbers = Vec::with_capacity(alloc, ids.len())?;
+    push_owners(&mut numbers, owners, ids.as_slice())?;
+    Ok(numbers)
+}
+
+// Finds the conjunctions, part by part.
+fn match_all<L: Ledger>(
+    alloc: Global,
+    index: &Index,
+    pairs: &[(Attr, Txt)],
+    looked: &[Key],
+    places: &mut Vec<usize>,
+    tally: &mut Tally,
+    steps: &mut Steps<L>,
+) -> Result<(), AllocError>
+    requires single { IsTrue (are_single pairs.now) }
+    requires looked { looked.now ≡ map key_of pairs.now }
+    ensures room { OnOk result (length index.now.owners ≤ 64 * length tally.new) }
+    ensures found { OnOk result (AreHit pairs.now (take (length pairs.now + 1) index.now.parts) (length (take (length pairs.now + 1) index.now.parts)) tally.new) }
+    ensures cost { steps.new ≤ steps.old + find_cost index.now pairs.now }
+{
+    tally.begin(alloc, index.owners.len())?;
+    for (size, part) in first_parts(index, pairs.len() + 1).iter().enumerate() {
+        find_in(alloc, part, size as u32, looked, places, tally, steps)?;
+    }
+    Ok(())
 }
 
 // The first `n` parts, or all where there are fewer.
@@ -77,33 +138,35 @@ fn first_parts(index: &Index, n: usize) -> &[Part]
 }
 
 // The keys of these pairs.
-fn keys_of(alloc: Global, pairs: &[(Attr, Txt)]) -> Result<Vec<Key>, AllocError>
-    ensures { IfOk result (λ looked. looked.items ≡ map key_of pairs.now) }
+fn look_up(pairs: &[(Attr, Txt)], looked: &mut Vec<Key>) -> Result<(), AllocError>
+    ensures { OnOk result (looked.new.items ≡ map key_of pairs.now) }
 {
-    let mut looked = Vec::with_capacity(alloc, pairs.len())?;
+    looked.clear();
     for (attr, value) in pairs {
         looked.push(Key {
             attr: *attr,
             value: value.copy()?,
         })?;
     }
-    Ok(looked)
+    Ok(())
 }
 
-// The conjunctions of this size that are true where these keys are all that is so.
+// Finds the conjunctions of this size that are true where these keys are all that is so.
 fn find_in<L: Ledger>(
     alloc: Global,
     part: &Part,
     size: u32,
     looked: &[Key],
     places: &mut Vec<usize>,
+    tally: &mut Tally,
     steps: &mut Steps<L>,
-) -> Result<Vec<u32>, AllocError>
-    ensures answer { IfOk result (λ ids. IsAnswer (lists_at part.now.lists (places_of looked.now size part.now)) (max size 1) ids.items) }
+) -> Result<(), AllocError>
+    ensures len { length tally.new ≡ length tally.old }
+    ensures found { OnOk result (AreSet (is_match (lists_at part.now.lists (places_of looked.now size part.now)) (max size 1)) tally.old tally.new) }
     ensures cost { steps.new ≤ steps.old + cost_of (lists_at part.now.lists (places_of looked.now size part.now)) (max size 1) }
 {
     choose(part, size, looked, places)?;
-    match_lists(
+    tally.add_matches(
         alloc,
         part.lists.as_slice(),
         places.as_slice(),

@@ -14,6 +14,7 @@ mod key;
 mod laws;
 mod part;
 mod scanning;
+mod scratch;
 
 pub use builder::Builder;
 pub use fault::IndexFault;
@@ -25,3 +26,4 @@ pub use laws::{
 };
 pub use part::Part;
 pub use scanning::scan;
+pub use scratch::Scratch;

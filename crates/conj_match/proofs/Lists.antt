@@ -30,7 +30,7 @@ rising_pairs es r i (suc j) h k =
       ]
     ]
 
-some_at : (p : Entry → Bool) (es : List Entry) → list_any p es ≡ true → (i : ℕ) × (i < length es) × (p (entry_at es i) ≡ true)
+pub some_at : (p : Entry → Bool) (es : List Entry) → list_any p es ≡ true → (i : ℕ) × (i < length es) × (p (entry_at es i) ≡ true)
 some_at p [] h = absurd (false≢true h)
 some_at p (e ∷ es) h =
     elim (cases_Bool (p e)) [

@@ -1,35 +1,27 @@
 -- What the marks of a tally say of the lists.
-use Rattle.std.proofs.Common.{◌≡◌, ◌≢◌, ℕ, ◌+◌, ◌-◌, ◌*◌, ◌<◌, ◌≤◌, ◌==◌, ◌&&◌, ◌||◌, not, min, nat_le, inl, inr, List, [], ◌∷◌, ◌++◌, Bool, true, false, cond, Some, None, Ok, Err, Result, IfOk, All, Contains, count_by, get_or, drop, drop_of_length-le, length, replicate, set, slice_get, slice_index, sum_by, take, take_all, refl, sym, ◌∙◌, ap, subst, arith, suc}
+use Rattle.std.proofs.Common.{◌≡◌, ◌≢◌, ℕ, ◌+◌, ◌-◌, ◌*◌, ◌<◌, ◌≤◌, ◌==◌, ◌&&◌, ◌||◌, not, nat_le, inl, inr, List, [], ◌∷◌, ◌++◌, Bool, true, false, cond, Some, None, Ok, Err, Result, IfOk, All, count_by, get_or, drop, drop_of_length-le, length, replicate, set, slice_get, slice_index, sum_by, take, take_all, refl, sym, ◌∙◌, ap, subst, arith, suc}
 use Rattle.std.specs.List.{list_any}
 use Rattle.std.proofs.lemmas.Bool.{cases_Bool, cases_lt, cases_eq, and_right, false≢true, lt-leb, le-leb}
 use Rattle.std.proofs.lemmas.Bool.Decides.{nat_tests}
 use Rattle.std.proofs.lemmas.Option.{slice_get-get_or}
 use Rattle.std.proofs.lemmas.List.{append-nil, append_assoc, flat_map_more, get_or-map, get_or-replicate, get_or-set_other, get_or-set_same, get_or_default, length-replicate, length-set, map-append, take_more}
-use Rattle.std.proofs.lemmas.List.Elements.{All-head, All-push, All-tail, Contains-append_left, Contains-push, Contains-push_cases}
+use Rattle.std.proofs.lemmas.List.Elements.{All-head, All-push, All-tail}
 use Rattle.std.proofs.lemmas.List.Folds.{list_any-append, list_any_none}
-use Rattle.std.proofs.lemmas.List.Sums.{sum_by-append, sum_by-cons, sum_by_push}
+use Rattle.std.proofs.lemmas.List.Sums.{count_by-le-length, sum_by-append, sum_by-cons, sum_by_push}
 use Rattle.postings.specs.declared.entry.Entry.{Entry}
 use Rattle.postings.specs.Order.{IsRising, entry_at, rank_of}
-use Rattle.conj_match.specs.Matching.{IsAnswer, lists_at, has_negated, has_plain, is_match}
-use Rattle.conj_match.specs.Tally.{AreHits, AreTallied, IsBelow, all_in, asks, excludes, is_hit, next_mark, tally_of}
+use Rattle.postings.specs.Packed.{is_marked}
+use Rattle.conj_match.specs.Bits.{AreSet}
+use Rattle.conj_match.specs.Matching.{lists_at, has_negated, has_plain, is_match}
+use Rattle.conj_match.specs.Tally.{AreBlank, AreTaken, AreTallied, IsBelow, all_in, asks, excludes, is_hit, is_of, next_mark, tally_of}
 use Rattle.conj_match.proofs.Lists.{ids_rise, rising_pairs}
-use Rattle.conj_match.proofs.Merge.{below_push, rising_push}
 
 -- one more entry of the number
-counted : (a negated : Bool) (n m : ℕ) → m ≡ cond a 255 (min n 254) → next_mark m negated ≡ cond (a || negated) 255 (min (n + cond (not negated) 1 0) 254)
-counted true true n m h = refl
-counted false true n m h = refl
-counted true false n m h =
-    ap (λ b. cond b m (m + 1)) (le-leb 254 m (omega arith)) ∙ h
-counted false false n m h =
-    elim (cases_lt m 254) [
-      | inl lt ↦
-          let is : m + 1 ≡ min (n + 1) 254 = omega arith in
-          ap (λ b. cond b m (m + 1)) (lt-leb 254 m lt) ∙ is
-      | inr ge ↦
-          let is : m ≡ min (n + 1) 254 = omega arith in
-          ap (λ b. cond b m (m + 1)) (le-leb 254 m ge) ∙ is
-    ]
+counted : (a negated : Bool) (n m : ℕ) → n + cond (not negated) 1 0 < 128 → m ≡ cond a 0 128 + n → next_mark m negated ≡ cond (a || negated) 0 128 + (n + cond (not negated) 1 0)
+counted true true n m few h = omega arith
+counted false true n m few h = omega arith
+counted true false n m few h = omega arith
+counted false false n m few h = omega arith
 
 same_sign : (a b : ℕ) (s : Bool) → a ≡ b → ((a == b) && s) ≡ s
 same_sign a b true e = grind (arith, nat_tests)
@@ -39,7 +31,7 @@ other_sign : (a b : ℕ) (s : Bool) → a ≢ b → ((a == b) && s) ≡ false
 other_sign a b true e = grind (arith, nat_tests)
 other_sign a b false e = grind (arith, nat_tests)
 
-or_false : (x : Bool) → (x || false) ≡ x
+pub or_false : (x : Bool) → (x || false) ≡ x
 or_false true = refl
 or_false false = refl
 
@@ -49,87 +41,60 @@ any_more p es e = list_any-append p es (e ∷ []) ∙ ap (λ b. list_any p es ||
 count_more : (p : Entry → Bool) (es : List Entry) (e : Entry) → count_by p (es ++ e ∷ []) ≡ count_by p es + cond (p e) 1 0
 count_more p es e = sum_by_push (λ x. cond (p x) 1 0) es e
 
-tally_more : (id : ℕ) (es : List Entry) (e : Entry) → tally_of id (es ++ e ∷ []) ≡ cond (list_any (excludes id) es || excludes id e) 255 (min (count_by (asks id) es + cond (asks id e) 1 0) 254)
+tally_more : (id : ℕ) (es : List Entry) (e : Entry) → tally_of id (es ++ e ∷ []) ≡ cond (list_any (excludes id) es || excludes id e) 0 128 + (count_by (asks id) es + cond (asks id e) 1 0)
 tally_more id es e =
-    ap (λ b. cond b 255 (min (count_by (asks id) (es ++ e ∷ [])) 254)) (any_more (excludes id) es e)
-    ∙ ap (λ n. cond (list_any (excludes id) es || excludes id e) 255 (min n 254)) (count_more (asks id) es e)
+    ap (λ b. cond b 0 128 + count_by (asks id) (es ++ e ∷ [])) (any_more (excludes id) es e)
+    ∙ ap (λ n. cond (list_any (excludes id) es || excludes id e) 0 128 + n) (count_more (asks id) es e)
 
-tally_same : (id : ℕ) (es : List Entry) (e : Entry) (m : ℕ) → e.id ≡ id → m ≡ tally_of id es → next_mark m e.negated ≡ tally_of id (es ++ e ∷ [])
-tally_same id es e m is before =
-    counted (list_any (excludes id) es) e.negated (count_by (asks id) es) m before
-    ∙ ap (λ b. cond (list_any (excludes id) es || b) 255 (min (count_by (asks id) es + cond (not e.negated) 1 0) 254)) (sym (same_sign e.id id e.negated is))
-    ∙ ap (λ b. cond (list_any (excludes id) es || excludes id e) 255 (min (count_by (asks id) es + cond b 1 0) 254)) (sym (same_sign e.id id (not e.negated) is))
+tally_same : (id : ℕ) (es : List Entry) (e : Entry) (m : ℕ) → e.id ≡ id → count_by (asks id) (es ++ e ∷ []) < 128 → m ≡ tally_of id es → next_mark m e.negated ≡ tally_of id (es ++ e ∷ [])
+tally_same id es e m is few before =
+    let sign = same_sign e.id id (not e.negated) is in
+    let more : count_by (asks id) (es ++ e ∷ []) ≡ count_by (asks id) es + cond (not e.negated) 1 0 = count_more (asks id) es e ∙ ap (λ b. count_by (asks id) es + cond b 1 0) sign in
+    counted (list_any (excludes id) es) e.negated (count_by (asks id) es) m (omega arith) before
+    ∙ ap (λ b. cond (list_any (excludes id) es || b) 0 128 + (count_by (asks id) es + cond (not e.negated) 1 0)) (sym (same_sign e.id id e.negated is))
+    ∙ ap (λ b. cond (list_any (excludes id) es || excludes id e) 0 128 + (count_by (asks id) es + cond b 1 0)) (sym sign)
     ∙ sym (tally_more id es e)
+
+count_other : (id : ℕ) (es : List Entry) (e : Entry) → e.id ≢ id → count_by (asks id) (es ++ e ∷ []) ≡ count_by (asks id) es
+count_other id es e other = count_more (asks id) es e ∙ none (count_by (asks id) es) (asks id e) (other_sign e.id id (not e.negated) other)
+  where
+    none : (n : ℕ) (b : Bool) → b ≡ false → n + cond b 1 0 ≡ n
+    none n true h = absurd (false≢true (sym h))
+    none n false h = omega arith
 
 tally_other : (id : ℕ) (es : List Entry) (e : Entry) → e.id ≢ id → tally_of id es ≡ tally_of id (es ++ e ∷ [])
 tally_other id es e other =
-    ap (λ b. cond b 255 (min (count_by (asks id) es) 254)) (sym (or_false (list_any (excludes id) es)))
-    ∙ ap (λ b. cond (list_any (excludes id) es || b) 255 (min (count_by (asks id) es) 254)) (sym (other_sign e.id id e.negated other))
-    ∙ ap (λ n. cond (list_any (excludes id) es || excludes id e) 255 (min n 254)) (plus_none (count_by (asks id) es) (asks id e) (other_sign e.id id (not e.negated) other))
-    ∙ sym (tally_more id es e)
-  where
-    plus_none : (n : ℕ) (b : Bool) → b ≡ false → n ≡ n + cond b 1 0
-    plus_none n true h = absurd (false≢true (sym h))
-    plus_none n false h = omega arith
+    ap (λ b. cond b 0 128 + count_by (asks id) es) (sym (any_more (excludes id) es e ∙ ap (λ b. list_any (excludes id) es || b) (other_sign e.id id e.negated other) ∙ or_false (list_any (excludes id) es)))
+    ∙ ap (λ n. cond (list_any (excludes id) (es ++ e ∷ [])) 0 128 + n) (sym (count_other id es e other))
+
+fewer_before : (id : ℕ) (es : List Entry) (e : Entry) → count_by (asks id) (es ++ e ∷ []) < 128 → count_by (asks id) es < 128
+fewer_before id es e few =
+    let more = count_more (asks id) es e in
+    omega arith
 
 pub tallied_more : (marks : List ℕ) (before : List Entry) (e : Entry) (m : ℕ) → e.id < length marks → m ≡ next_mark (slice_index marks e.id) e.negated
     → AreTallied marks before → AreTallied (set marks e.id m) (before ++ e ∷ [])
-tallied_more marks before e m within is tallied id h =
+tallied_more marks before e m within is tallied id h few =
     let here : id < length marks = omega (arith, length-set marks e.id m) in
     elim (cases_eq e.id id) [
       | inl same ↦
-          let old : slice_index marks e.id ≡ tally_of id before = subst (λ n. slice_index marks e.id ≡ tally_of n before) same (tallied e.id within) in
+          let old : slice_index marks e.id ≡ tally_of id before = ap (slice_index marks) same ∙ tallied id here (fewer_before id before e few) in
           ap (λ n. slice_index (set marks e.id m) n) (sym same)
           ∙ get_or-set_same marks e.id m 0 within
           ∙ is
-          ∙ tally_same id before e (slice_index marks e.id) same old
+          ∙ tally_same id before e (slice_index marks e.id) same few old
       | inr other ↦
           let apart : id ≢ e.id = λ q. other (sym q) in
           get_or-set_other marks e.id id m 0 apart
-          ∙ tallied id here
+          ∙ tallied id here (fewer_before id before e few)
           ∙ tally_other id before e other
     ]
 
--- the numbers marked as matches
-pub hits_none : (marks : List ℕ) (k : ℕ) (ids : List ℕ) → ids ≡ [] → AreHits marks k 0 ids
-hits_none marks k ids none = subst (AreHits marks k 0) (sym none) (record {
-  rising = λ i h. absurd (omega arith);
-  below = λ i h. absurd (omega arith);
-  sound = λ id among. absurd (omega (arith, among.1));
-  whole = λ id h is. absurd (omega arith);
-})
-
-pub hits_yes : (marks : List ℕ) (k n : ℕ) (ids : List ℕ) → is_hit k (slice_index marks n) ≡ true → AreHits marks k n ids → AreHits marks k (n + 1) (ids ++ n ∷ [])
-hits_yes marks k n ids is hits = record {
-  rising = rising_push ids n hits.rising hits.below;
-  below = below_push ids n hits.below;
-  sound = λ id among. elim (Contains-push_cases ids n id among) [
-    | inl old ↦ hits.sound id old
-    | inr e ↦ subst (λ x. is_hit k (slice_index marks x) ≡ true) e is
-  ];
-  whole = λ id h yes. elim (cases_lt id n) [
-    | inl lt ↦ Contains-append_left ids (n ∷ []) id (hits.whole id lt yes)
-    | inr ge ↦
-        let e : n ≡ id = omega arith in
-        subst (Contains (ids ++ n ∷ [])) e (Contains-push ids n)
-  ];
-}
-
-pub hits_no : (marks : List ℕ) (k n : ℕ) (ids : List ℕ) → is_hit k (slice_index marks n) ≡ false → AreHits marks k n ids → AreHits marks k (n + 1) ids
-hits_no marks k n ids is hits = record {
-  rising = hits.rising;
-  below = λ i h. less (slice_index ids i) n (hits.below i h);
-  sound = hits.sound;
-  whole = λ id h yes. elim (cases_lt id n) [
-    | inl lt ↦ hits.whole id lt yes
-    | inr ge ↦
-        let e : n ≡ id = omega arith in
-        absurd (false≢true (sym is ∙ ap (λ x. is_hit k (slice_index marks x)) e ∙ yes))
-  ];
-}
-  where
-    less : (x n : ℕ) → x < n → x < n + 1
-    less x n h = omega arith
+-- an entry without a mark
+pub tallied_beyond : (marks : List ℕ) (before : List Entry) (e : Entry) → length marks ≤ e.id → AreTallied marks before → AreTallied marks (before ++ e ∷ [])
+tallied_beyond marks before e past tallied id h few =
+    let other : e.id ≢ id = omega arith in
+    tallied id h (fewer_before id before e few) ∙ tally_other id before e other
 
 -- over all lists, as many entries ask as there are lists that do
 any_in : (id : ℕ) (lists : List (List Entry)) → list_any (excludes id) (all_in lists) ≡ list_any (has_negated id) lists
@@ -203,19 +168,179 @@ count_in id (es ∷ lists) r =
     ∙ ap (λ n. cond (has_plain id es) 1 0 + n) (count_in id lists (All-tail IsRising es lists r))
     ∙ sym (sum_by-cons (λ x. cond (has_plain id x) 1 0) es lists)
 
-hit_is : (k n : ℕ) (a : Bool) → 1 ≤ k → k < 255 → is_hit k (cond a 255 (min n 254)) ≡ (not a && nat_le k n)
-hit_is k n true some few = refl
-hit_is k n false some few =
-    elim (cases_lt n 254) [
-      | inl lt ↦
-          let is : min n 254 ≡ n = omega arith in
-          grind (arith, nat_tests)
-      | inr ge ↦
-          let is : min n 254 ≡ 254 = omega arith in
-          grind (arith, nat_tests)
+hit_is : (k n : ℕ) (a : Bool) → n < 128 → is_hit k (cond a 0 128 + n) ≡ (not a && nat_le k n)
+hit_is k n true few = lt-leb (128 + k) (0 + n) (omega arith)
+hit_is k n false few =
+    elim (cases_lt n k) [
+      | inl lt ↦ lt-leb (128 + k) (128 + n) (omega arith) ∙ sym (lt-leb k n lt)
+      | inr ge ↦ le-leb (128 + k) (128 + n) (omega arith) ∙ sym (le-leb k n ge)
     ]
 
-beyond : (lists : List (List Entry)) (k width id : ℕ) → 1 ≤ k → All (IsBelow width) lists → width ≤ id → is_match lists k id ≡ false
+-- a mark of a match is the mark of a number that matches
+pub hit_agrees : (marks : List ℕ) (lists : List (List Entry)) (k id : ℕ) → length lists < 128 → All IsRising lists → AreTallied marks (all_in lists) → id < length marks → is_hit k (slice_index marks id) ≡ is_match lists k id
+hit_agrees marks lists k id few rising tallied within =
+    let count = count_in id lists rising in
+    let low : count_by (has_plain id) lists < 128 = omega (arith, count_by-le-length (has_plain id) lists) in
+    ap (is_hit k) (tallied id within (omega arith))
+    ∙ ap (λ b. is_hit k (cond b 0 128 + count_by (asks id) (all_in lists))) (any_in id lists)
+    ∙ ap (λ n. is_hit k (cond (list_any (has_negated id) lists) 0 128 + n)) count
+    ∙ hit_is k (count_by (has_plain id) lists) (list_any (has_negated id) lists) low
+
+pub swept : (marks hits found : List ℕ) (lists : List (List Entry)) (k : ℕ) → length lists < 128 → All IsRising lists → AreTallied marks (all_in lists) → length marks ≡ 64 * length hits
+    → AreSet (λ i. is_hit k (slice_index marks i)) hits found → AreSet (is_match lists k) hits found
+swept marks hits found lists k few rising tallied len set i h =
+    set i h ∙ ap (λ b. is_marked hits i || b) (hit_agrees marks lists k i few rising tallied (omega arith))
+
+-- fewer lists than asked for match nothing
+pub too_few : (old : List ℕ) (lists : List (List Entry)) (k : ℕ) → length lists < k → AreSet (is_match lists k) old old
+too_few old lists k few i h =
+    let low : count_by (has_plain i) lists < k = omega (arith, count_by-le-length (has_plain i) lists) in
+    sym (ap (λ b. is_marked old i || (not (list_any (has_negated i) lists) && b)) (lt-leb k (count_by (has_plain i) lists) low)
+    ∙ ap (λ b. is_marked old i || b) (and_right (not (list_any (has_negated i) lists)) false refl)
+    ∙ or_false (is_marked old i))
+
+-- the marks and bits while entries are taken
+pub taken_none : (k : ℕ) (marks hits : List ℕ) → AreTaken k marks hits [] marks hits
+taken_none k marks hits = record { blank = λ i h. refl; bits = λ i h. sym (or_false (is_marked hits i)) }
+
+taken_step : (f any x : Bool) → ((f || (any && x)) || cond any false x) ≡ (f || (true && x))
+taken_step true any x = refl
+taken_step false true true = refl
+taken_step false true false = refl
+taken_step false false x = refl
+
+blank_hit : (k m : ℕ) (any : Bool) → 1 ≤ k → is_hit k (cond any 128 m) ≡ cond any false (is_hit k m)
+blank_hit k m true some = lt-leb (128 + k) 128 (omega arith)
+blank_hit k m false some = refl
+
+pub same_is : (a b : ℕ) → a ≡ b → (a == b) ≡ true
+same_is a b h = grind (arith, nat_tests)
+
+pub other_is : (a b : ℕ) → a ≢ b → (a == b) ≡ false
+other_is a b h = grind (arith, nat_tests)
+
+pub or_true : (x : Bool) → (x || true) ≡ true
+or_true true = refl
+or_true false = refl
+
+pub taken_more : (k : ℕ) (first found : List ℕ) (before : List Entry) (e : Entry) (marks hits new more : List ℕ) → 1 ≤ k → length first ≡ length marks → length marks ≡ 64 * length hits → AreTaken k first found before marks hits
+    → ((i : ℕ) → i < length marks → slice_index new i ≡ cond (i == e.id) 128 (slice_index marks i)) → AreSet (λ i. (i == e.id) && is_hit k (slice_index marks e.id)) hits more
+    → AreTaken k first found (before ++ e ∷ []) new more
+taken_more k first found before e marks hits new more some all len taken blank set = record {
+  blank = λ i h. elim (cases_eq e.id i) [
+    | inl same ↦
+        blank i (omega arith)
+        ∙ ap (λ b. cond b 128 (slice_index marks i)) (same_is i e.id (sym same))
+        ∙ sym (ap (λ b. cond b 128 (slice_index first i)) (any_more (is_of i) before e ∙ ap (λ b. list_any (is_of i) before || b) (same_is e.id i same) ∙ or_true (list_any (is_of i) before)))
+    | inr other ↦
+        blank i (omega arith)
+        ∙ ap (λ b. cond b 128 (slice_index marks i)) (other_is i e.id (λ q. other (sym q)))
+        ∙ taken.blank i h
+        ∙ sym (ap (λ b. cond b 128 (slice_index first i)) (any_more (is_of i) before e ∙ ap (λ b. list_any (is_of i) before || b) (other_is e.id i other) ∙ or_false (list_any (is_of i) before)))
+  ];
+  bits = λ i h. elim (cases_eq e.id i) [
+    | inl same ↦
+        let mark : slice_index marks e.id ≡ cond (list_any (is_of i) before) 128 (slice_index first i) = ap (slice_index marks) same ∙ taken.blank i h in
+        set i (omega arith)
+        ∙ ap (λ b. is_marked hits i || (b && is_hit k (slice_index marks e.id))) (same_is i e.id (sym same))
+        ∙ ap (λ b. b || is_hit k (slice_index marks e.id)) (taken.bits i h)
+        ∙ ap (λ m. (is_marked found i || (list_any (is_of i) before && is_hit k (slice_index first i))) || is_hit k m) mark
+        ∙ ap (λ b. (is_marked found i || (list_any (is_of i) before && is_hit k (slice_index first i))) || b) (blank_hit k (slice_index first i) (list_any (is_of i) before) some)
+        ∙ taken_step (is_marked found i) (list_any (is_of i) before) (is_hit k (slice_index first i))
+        ∙ sym (ap (λ b. is_marked found i || (b && is_hit k (slice_index first i))) (any_more (is_of i) before e ∙ ap (λ b. list_any (is_of i) before || b) (same_is e.id i same) ∙ or_true (list_any (is_of i) before)))
+    | inr other ↦
+        set i (omega arith)
+        ∙ ap (λ b. is_marked hits i || (b && is_hit k (slice_index marks e.id))) (other_is i e.id (λ q. other (sym q)))
+        ∙ or_false (is_marked hits i)
+        ∙ taken.bits i h
+        ∙ sym (ap (λ b. is_marked found i || (b && is_hit k (slice_index first i))) (any_more (is_of i) before e ∙ ap (λ b. list_any (is_of i) before || b) (other_is e.id i other) ∙ or_false (list_any (is_of i) before)))
+  ];
+}
+
+pub taken_list : (k : ℕ) (first found marks hits : List ℕ) (lists more : List (List Entry)) (es : List Entry) → more ≡ lists ++ es ∷ [] → AreTaken k first found (all_in lists ++ es) marks hits → AreTaken k first found (all_in more) marks hits
+taken_list k first found marks hits lists more es is taken =
+    subst (λ l. AreTaken k first found (all_in l) marks hits) (sym is) (subst (λ l. AreTaken k first found l marks hits) (flat_map_more (λ (x : List Entry). x) [] lists es) taken)
+
+-- one mark made blank, and the bit of its number
+pub blank_at : (marks : List ℕ) (n i : ℕ) → n < length marks → slice_index (set marks n 128) i ≡ cond (i == n) 128 (slice_index marks i)
+blank_at marks n i within =
+    elim (cases_eq i n) [
+      | inl same ↦ ap (slice_index (set marks n 128)) same ∙ get_or-set_same marks n 128 0 within ∙ sym (ap (λ b. cond b 128 (slice_index marks i)) (same_is i n same))
+      | inr other ↦ get_or-set_other marks n i 128 0 other ∙ sym (ap (λ b. cond b 128 (slice_index marks i)) (other_is i n other))
+    ]
+
+pub blank_beyond : (marks : List ℕ) (n i : ℕ) → length marks ≤ n → i < length marks → slice_index marks i ≡ cond (i == n) 128 (slice_index marks i)
+blank_beyond marks n i past h =
+    let other : i ≢ n = omega arith in
+    sym (ap (λ b. cond b 128 (slice_index marks i)) (other_is i n other))
+
+pub hit_set : (old new : List ℕ) (n : ℕ) (hit : Bool) → hit ≡ true → AreSet (λ i. i == n) old new → AreSet (λ i. (i == n) && hit) old new
+hit_set old new n hit is set i h = set i h ∙ ap (λ b. is_marked old i || b) (sym (ap (λ b. (i == n) && b) is ∙ and_true (i == n)))
+  where
+    and_true : (x : Bool) → (x && true) ≡ x
+    and_true true = refl
+    and_true false = refl
+
+pub hit_unset : (old : List ℕ) (n : ℕ) (hit : Bool) → hit ≡ false → AreSet (λ i. (i == n) && hit) old old
+hit_unset old n hit is i h = sym (ap (λ b. is_marked old i || ((i == n) && b)) is ∙ ap (λ b. is_marked old i || b) (and_false (i == n)) ∙ or_false (is_marked old i))
+  where
+    and_false : (x : Bool) → (x && false) ≡ false
+    and_false true = refl
+    and_false false = refl
+
+pub hit_beyond : (old : List ℕ) (n : ℕ) (hit : Bool) → 64 * length old ≤ n → AreSet (λ i. (i == n) && hit) old old
+hit_beyond old n hit past i h =
+    let other : i ≢ n = omega arith in
+    sym (ap (λ b. is_marked old i || (b && hit)) (other_is i n other) ∙ or_false (is_marked old i))
+
+-- a number that no entry has
+none_excludes : (id : ℕ) (es : List Entry) → list_any (is_of id) es ≡ false → list_any (excludes id) es ≡ false
+none_excludes id [] h = refl
+none_excludes id (e ∷ es) h = fewer (e.id == id) e.negated (list_any (is_of id) es) (list_any (excludes id) es) h (none_excludes id es)
+  where
+    fewer : (b s x y : Bool) → (b || x) ≡ false → (x ≡ false → y ≡ false) → ((b && s) || y) ≡ false
+    fewer true s x y h f = absurd (false≢true (sym h))
+    fewer false s x y h f = f h
+
+none_asks_of : (id : ℕ) (es : List Entry) → list_any (is_of id) es ≡ false → count_by (asks id) es ≡ 0
+none_asks_of id [] h = refl
+none_asks_of id (e ∷ es) h =
+    sum_by-cons (λ x. cond (asks id x) 1 0) e es
+    ∙ lacks (e.id == id) (not e.negated) (list_any (is_of id) es) (count_by (asks id) es) h (none_asks_of id es)
+  where
+    lacks : (b s x : Bool) (n : ℕ) → (b || x) ≡ false → (x ≡ false → n ≡ 0) → cond (b && s) 1 0 + n ≡ 0
+    lacks true s x n h f = absurd (false≢true (sym h))
+    lacks false s x n h f = let z = f h in omega arith
+
+untouched : (marks : List ℕ) (es : List Entry) (id : ℕ) → AreTallied marks es → id < length marks → list_any (is_of id) es ≡ false → slice_index marks id ≡ 128
+untouched marks es id tallied within none =
+    let zero_asks = none_asks_of id es none in
+    tallied id within (omega arith)
+    ∙ ap (λ b. cond b 0 128 + count_by (asks id) es) (none_excludes id es none)
+    ∙ ap (λ n. 128 + n) zero_asks
+
+pub taken_blank : (k : ℕ) (marks hits new found : List ℕ) (es : List Entry) → length new ≡ length marks → AreTallied marks es → AreTaken k marks hits es new found → AreBlank new
+taken_blank k marks hits new found es len tallied taken i h =
+    let within : i < length marks = omega arith in
+    elim (cases_Bool (list_any (is_of i) es)) [
+      | inl any ↦ taken.blank i within ∙ ap (λ b. cond b 128 (slice_index marks i)) any
+      | inr none ↦ taken.blank i within ∙ ap (λ b. cond b 128 (slice_index marks i)) none ∙ untouched marks es i tallied within none
+    ]
+
+pub taken_hits : (k : ℕ) (marks hits new found : List ℕ) (lists : List (List Entry)) → 1 ≤ k → length lists < 128 → All IsRising lists → length marks ≡ 64 * length hits → AreTallied marks (all_in lists)
+    → AreTaken k marks hits (all_in lists) new found → AreSet (is_match lists k) hits found
+taken_hits k marks hits new found lists some few rising len tallied taken i h =
+    let within : i < length marks = omega arith in
+    let agree = hit_agrees marks lists k i few rising tallied within in
+    elim (cases_Bool (list_any (is_of i) (all_in lists))) [
+      | inl any ↦ taken.bits i within ∙ ap (λ b. is_marked hits i || (b && is_hit k (slice_index marks i))) any ∙ ap (λ b. is_marked hits i || b) agree
+      | inr none ↦
+          taken.bits i within
+          ∙ ap (λ b. is_marked hits i || (b && is_hit k (slice_index marks i))) none
+          ∙ ap (λ b. is_marked hits i || b) (sym (sym agree ∙ ap (is_hit k) (untouched marks (all_in lists) i tallied within none) ∙ lt-leb (128 + k) 128 (omega arith)))
+    ]
+
+pub beyond : (lists : List (List Entry)) (k width id : ℕ) → 1 ≤ k → All (IsBelow width) lists → width ≤ id → is_match lists k id ≡ false
 beyond lists k width id some below h =
     ap (λ n. not (list_any (has_negated id) lists) && nat_le k n) (none_asks lists (λ j d within. lacks (get_or lists j d) (below j d within)))
     ∙ and_right (not (list_any (has_negated id) lists)) (nat_le k 0) (lt-leb k 0 some)
@@ -234,35 +359,6 @@ beyond lists k width id some below h =
         let less : (get_or es j d).id < width = subst (λ (x : Entry). x.id < width) same (low j within) in
         let other : (get_or es j d).id ≢ id = omega arith in
         other_sign (get_or es j d).id id (not (get_or es j d).negated) other)
-
-pub answer : (lists : List (List Entry)) (k : ℕ) (marks ids : List ℕ) → 1 ≤ k → k < 255 → All (IsBelow (length marks)) lists → All IsRising lists
-    → AreTallied marks (all_in lists) → AreHits marks k (length marks) ids → IsAnswer lists k ids
-answer lists k marks ids some few below rising tallied hits = record {
-  rising = hits.rising;
-  exact = λ id. (
-    λ among. elim (cases_lt id (length marks)) [
-      | inl lt ↦ sym (agree id lt) ∙ hits.sound id among
-      | inr ge ↦ absurd (past id ge among)
-    ],
-    λ is. elim (cases_lt id (length marks)) [
-      | inl lt ↦ hits.whole id lt (agree id lt ∙ is)
-      | inr ge ↦ absurd (false≢true (sym (beyond lists k (length marks) id some below ge) ∙ is))
-    ],
-  );
-}
-  where
-    agree : (id : ℕ) → id < length marks → is_hit k (slice_index marks id) ≡ is_match lists k id
-    agree id lt =
-        ap (is_hit k) (tallied id lt)
-        ∙ ap (λ b. is_hit k (cond b 255 (min (count_by (asks id) (all_in lists)) 254))) (any_in id lists)
-        ∙ ap (λ n. is_hit k (cond (list_any (has_negated id) lists) 255 (min n 254))) (count_in id lists rising)
-        ∙ hit_is k (count_by (has_plain id) lists) (list_any (has_negated id) lists) some few
-
-    past : (id : ℕ) → length marks ≤ id → Contains ids id → ⊥
-    past id ge (i, within, is) =
-        let low = hits.below i within in
-        let same : slice_index ids i ≡ id = get_or_default ids i 0 id within ∙ is in
-        omega arith
 
 pub entry_more : (before es : List Entry) (i : ℕ) (e : Entry) → i < length es → e ≡ entry_at es i → (before ++ take i es) ++ e ∷ [] ≡ before ++ take (i + 1) es
 entry_more before es i e h is =
@@ -284,16 +380,14 @@ list_more lists chosen i es within h is =
     ∙ map-append (λ m. get_or lists m []) (take i chosen) (get_or chosen i 0 ∷ [])
     ∙ ap (λ l. lists_at lists (take i chosen) ++ l ∷ []) (sym (chosen_is lists chosen i es within h is))
 
-lists_length : (lists : List (List Entry)) (chosen : List ℕ) → length (lists_at lists chosen) ≡ length chosen
+pub lists_length : (lists : List (List Entry)) (chosen : List ℕ) → length (lists_at lists chosen) ≡ length chosen
 lists_length lists [] = refl
 lists_length lists (n ∷ chosen) =
     let rest = lists_length lists chosen in
     omega arith
 
-pub list_is_below : (width : ℕ) (lists : List (List Entry)) (chosen : List ℕ) (i : ℕ) (es : List Entry) → All (λ n. n < length lists) chosen → i < length chosen → es ≡ get_or lists (get_or chosen i 0) es
-    → All (IsBelow width) (lists_at lists chosen) → IsBelow width es
-list_is_below width lists chosen i es within h is below =
-    subst (IsBelow width) (get_or-map (λ m. get_or lists m []) chosen i 0 [] h ∙ sym (chosen_is lists chosen i es within h is)) (below i [] (omega (arith, lists_length lists chosen)))
+pub list_is : (lists : List (List Entry)) (chosen : List ℕ) (i : ℕ) (es : List Entry) → All (λ n. n < length lists) chosen → i < length chosen → es ≡ get_or lists (get_or chosen i 0) es → es ≡ get_or (lists_at lists chosen) i []
+list_is lists chosen i es within h is = chosen_is lists chosen i es within h is ∙ sym (get_or-map (λ m. get_or lists m []) chosen i 0 [] h)
 
 pub tallied_list : (marks : List ℕ) (lists more : List (List Entry)) (es : List Entry) → more ≡ lists ++ es ∷ [] → AreTallied marks (all_in lists ++ es) → AreTallied marks (all_in more)
 tallied_list marks lists more es is tallied =
@@ -320,10 +414,13 @@ written_back new old n is also =
     ∙ ap (take n) (append-nil new)
     ∙ take_all n new (omega arith)
 
-pub tallied_zeros : (marks : List ℕ) (n : ℕ) → marks ≡ replicate n 0 → AreTallied marks []
-tallied_zeros marks n is id h =
-    let within : id < n = omega (arith, ap (length {A = ℕ}) is, length-replicate {A = ℕ} n 0) in
-    ap (λ l. slice_index l id) is ∙ get_or-replicate n id 0 0 within
+pub tallied_blank : (marks : List ℕ) → AreBlank marks → AreTallied marks []
+tallied_blank marks blank id h few = blank id h
+
+pub blank_marks : (marks : List ℕ) (n : ℕ) → marks ≡ replicate n 128 → AreBlank marks
+blank_marks marks n is i h =
+    let within : i < n = omega (arith, ap (length {A = ℕ}) is, length-replicate {A = ℕ} n 128) in
+    ap (λ l. slice_index l i) is ∙ get_or-replicate n i 128 0 within
 
 -- a list goes as far as its last entry
 pub below_last : (es : List Entry) (e : Entry) → IsRising es → slice_get es (length es - 1) ≡ Some e → IsBelow (e.id + 1) es

@@ -1,5 +1,7 @@
+pub mod Bits
 pub mod Matching
 pub mod Merge
 pub mod Place
+pub mod Skip
 pub mod Tally
 pub mod Turn

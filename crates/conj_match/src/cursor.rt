@@ -1,9 +1,12 @@
-ghost use Rattle.std.specs.Prelude.{◌≡◌, ◌≤◌, ◌<◌, ◌+◌, ◌-◌, ◌*◌, length, false, true, None};
+ghost use Rattle.std.specs.Prelude.{◌≡◌, ◌≤◌, ◌<◌, ◌+◌, ◌-◌, ◌*◌, length, false, true, None, slice_get};
 ghost use Rattle.conj_match.specs.Place.{HasHead, IsFirstFrom, head_of, number_of, current};
 ghost use Rattle.conj_match.specs.Merge.{Passed, current_id, shows_negated, shows_plain};
+ghost use Rattle.conj_match.specs.Matching.{digits};
+ghost use Rattle.conj_match.specs.Skip.{falls_short};
 ghost use Rattle.conj_match.specs.Turn.{reaches};
 ghost use Rattle.postings.specs.Order.{IsRising};
 
+use crate::leaping::{halve, leap};
 use postings::{Entry, Postings};
 use rtb_base::Steps;
 use std::marker::Model;
@@ -90,19 +93,66 @@ impl<'a> Cursor<'a> {
 
     /// Goes to the first entry, from the present one on, whose number is at least `id`, or past the
     /// end where there is none.
+    ///
+    /// It looks 1, 2, 4 and so on entries ahead until one is far enough, and then halves the interval.
+    /// One step is one entry that is looked at.
     pub fn skip_to<L: Ledger>(&mut self, id: u32, steps: &mut Steps<L>)
         requires { self.old.loaded ≡ true }
         ensures entries { self.new.entries ≡ self.old.entries }
         ensures loaded { self.new.loaded ≡ true }
         ensures first { IsFirstFrom self.old.entries self.old.place id self.new.place }
         ensures cost { steps.new ≤ steps.old + 2 * (self.new.place - self.old.place) }
+        ensures digits { steps.new ≤ steps.old + (2 * digits (self.new.place - self.old.place) + 2) }
     {
-        while let Some(entry) = self.current()
-            && entry.id < id
-        {
-            self.advance(steps);
+        if !self.falls_short(id) {
+            return;
         }
+        self.skip_ahead(id, steps);
     }
+
+    // Skips, where the present entry is not far enough.
+    fn skip_ahead<L: Ledger>(&mut self, id: u32, steps: &mut Steps<L>)
+        requires loaded { self.old.loaded ≡ true }
+        requires short { falls_short id self.old ≡ true }
+        ensures entries { self.new.entries ≡ self.old.entries }
+        ensures loaded { self.new.loaded ≡ true }
+        ensures first { IsFirstFrom self.old.entries self.old.place id self.new.place }
+        ensures further { self.old.place < self.new.place }
+        ensures cost { steps.new ≤ steps.old + 2 * (self.new.place - self.old.place) }
+        ensures digits { steps.new ≤ steps.old + (2 * digits (self.new.place - self.old.place) + 2) }
+    {
+        let origin = self.place;
+        self.advance(steps);
+        if !self.falls_short(id) {
+            return;
+        }
+        let reach = leap(self.list, origin, id, steps);
+        let reach = halve(self.list, origin, id, reach, steps);
+        self.stand(origin + reach.high, reach.entry);
+    }
+
+    // Stands on the entry at the place.
+    fn stand(&mut self, place: usize, entry: Option<Entry>)
+        requires loaded { self.old.loaded ≡ true }
+        requires within { place ≤ length self.old.entries }
+        requires shown { entry ≡ slice_get self.old.entries place }
+        ensures { self.new ≡ record self.old { place = place } }
+    {
+        self.place = place;
+        self.entry = entry;
+        self.head = head_of(entry);
+    }
+
+    // Whether the entry at the place has a number below `id`.
+    fn falls_short(&self, id: u32) -> bool
+        ensures value { result ≡ falls_short id self.now }
+        ensures within { self.now.place ≤ length self.now.entries }
+        ensures rising { IsRising self.now.entries }
+    {
+        let _ = self.list.len();
+        self.head < u64::from(id)
+    }
+
     /// Goes past each entry whose number is at most `id`, from the present one on.
     pub(crate) fn pass<L: Ledger>(&mut self, id: u32, steps: &mut Steps<L>)
         requires { self.old.loaded ≡ true }

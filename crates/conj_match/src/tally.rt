@@ -1,126 +1,254 @@
-ghost use Rattle.std.specs.Prelude.{◌≡◌, ◌≤◌, ◌<◌, ◌+◌, ◌^◌, ◌++◌, ◌∷◌, [], All, IfOk, List, length, ◌&&◌};
-ghost use Rattle.std.specs.List.{sum_by};
-ghost use Rattle.postings.specs.Order.{IsRising, entry_at};
-ghost use Rattle.postings.specs.declared.entry.Entry.{Entry};
-ghost use Rattle.conj_match.specs.Matching.{IsAnswer, lists_at};
-ghost use Rattle.conj_match.specs.Tally.{AreHits, AreTallied, IsBelow, all_in, is_hit, next_mark};
+ghost use Rattle.std.specs.Prelude.{◌≡◌, ◌==◌, ◌≤◌, ◌<◌, ◌+◌, ◌*◌, [], ℕ, All, false, length, sum_by, OnOk};
+ghost use Rattle.postings.specs.Packed.{is_marked};
+ghost use Rattle.conj_match.specs.Bits.{AreSet, AreThose};
+ghost use Rattle.conj_match.specs.Matching.{cost_of, is_match, lists_at, reading_cost};
+ghost use Rattle.conj_match.specs.Skip.{SkipsFrom};
+ghost use Rattle.conj_match.specs.Tally.{AreBlank};
+ghost use Rattle.std.specs.List.{list_any};
 
-use postings::{Entry, Postings};
+use crate::bits::{push_numbers, set_bits};
+use crate::lengths::entries_in;
+use crate::marking::mark_lists;
+use crate::merging::merge_lists;
+use crate::skipping::{skip_from, skip_lists};
+use crate::taking::{BLANK, sweep, take_lists};
+use postings::Postings;
 use rtb_base::Steps;
 use std::alloc::{AllocError, Global};
+use std::marker::Model;
 use std::sync::ledger::Ledger;
 
-/// The mark of a number that a list has a negated entry of.
-pub(crate) const EXCLUDED: u8 = 255;
+// One more than the greatest number of a conjunction.
+const NUMBERS: usize = 1 << 32;
 
-/// The conjunctions that match, by a mark for each number below `width`. It takes time for each entry
-/// and for each number, however many lists there are.
-pub(crate) fn tally_lists<L: Ledger>(
-    alloc: Global,
-    lists: &[Postings],
-    chosen: &[usize],
-    k: u32,
-    width: usize,
-    steps: &mut Steps<L>,
-) -> Result<Vec<u32>, AllocError>
-    requires some { 1 ≤ k }
-    requires few { k < 255 }
-    requires within { All (λ n. n < length lists.now) chosen.now }
-    requires below { All (IsBelow width) (lists_at lists.now chosen.now) }
-    requires short { width ≤ 2 ^ 32 }
-    ensures answer { IfOk result (λ ids. IsAnswer (lists_at lists.now chosen.now) k ids.items) }
-    ensures cost { steps.new ≤ steps.old + sum_by length (lists_at lists.now chosen.now) }
-{
-    let mut marks = vec![in alloc; 0u8; width]?;
-    mark_lists(marks.as_mut_slice(), lists, chosen, steps);
-    hits_in(alloc, marks.as_slice(), k)
+// Counting serves fewer lists than this: a mark has seven bits for their number.
+pub(crate) const FEW: usize = 128;
+
+/// The conjunctions that were found by a run of matches, and the marks in which they are counted. It is
+/// kept from run to run, so that its memory is taken once.
+///
+/// Contracts see the bits of what was found, 64 to a word, the lowest first.
+#[derive(Drop)]
+pub struct Tally {
+    // A mark for each number: 128 and how many lists ask for it, without the 128 where one excludes it.
+    marks: Vec<u8>,
+    hits: Vec<u64>,
 }
 
-// Marks the entries of the chosen lists.
-fn mark_lists<L: Ledger>(
-    marks: &mut [u8],
-    lists: &[Postings],
-    chosen: &[usize],
-    steps: &mut Steps<L>,
-)
-    requires within { All (λ n. n < length lists.now) chosen.now }
-    requires below { All (IsBelow (length marks.old)) (lists_at lists.now chosen.now) }
-    ensures len { length marks.new ≡ length marks.old }
-    ensures rising { All IsRising (lists_at lists.now chosen.now) }
-    ensures marks { AreTallied marks.old [] → AreTallied marks.new (all_in (lists_at lists.now chosen.now)) }
-    ensures cost { steps.new ≤ steps.old + sum_by length (lists_at lists.now chosen.now) }
-{
-    for place in chosen {
-        mark_list(marks, &lists[*place], steps);
-    }
+impl Model for Tally {
+    ghost use Rattle.std.specs.Prelude.{ℕ, List, ◌≡◌, ◌≤◌, ◌*◌, ◌^◌, length};
+    ghost use Rattle.conj_match.specs.Tally.{AreBlank};
+
+    ghost Value = { List ℕ };
+
+    ghost view = { λ t. t.hits.items };
+
+    ghost invariant = { λ t. (length t.marks.items ≡ 64 * length t.hits.items) × (length t.hits.items ≤ 2 ^ 26) × AreBlank t.marks.items };
 }
 
-// Marks the entries of the list.
-fn mark_list<L: Ledger>(marks: &mut [u8], list: &Postings, steps: &mut Steps<L>)
-    requires below { IsBelow (length marks.old) list.now }
-    ensures len { length marks.new ≡ length marks.old }
-    ensures rising { IsRising list.now }
-    ensures marks { (before : List Entry) → AreTallied marks.old before → AreTallied marks.new (before ++ list.now) }
-    ensures cost { steps.new ≤ steps.old + length list.now }
-{
-    for place in 0..list.len() {
-        mark_entry(marks, entry_at(list, place, steps));
-    }
-}
-
-// The entry at the place.
-fn entry_at<L: Ledger>(list: &Postings, place: usize, steps: &mut Steps<L>) -> Entry
-    requires { place < length list.now }
-    ensures value { result ≡ entry_at list.now place }
-    ensures rising { IsRising list.now }
-    ensures cost { steps.new ≡ steps.old + 1 }
-{
-    match list.at(place, steps) {
-        Some(entry) => entry,
-        None => unreachable!(),
-    }
-}
-
-// Marks the entry.
-fn mark_entry(marks: &mut [u8], entry: Entry)
-    requires { entry.id < length marks.old }
-    ensures len { length marks.new ≡ length marks.old }
-    ensures marks { (before : List Entry) → AreTallied marks.old before → AreTallied marks.new (before ++ entry ∷ []) }
-{
-    let place = entry.id as usize;
-    marks[place] = next_mark(marks[place], entry.negated);
-}
-
-// The mark after an entry. Below `EXCLUDED` a mark counts, up to the number before it.
-fn next_mark(mark: u8, negated: bool) -> u8
-    ensures { result ≡ next_mark mark negated }
-{
-    if negated {
-        EXCLUDED
-    } else if mark < EXCLUDED - 1 {
-        mark + 1
-    } else {
-        mark
-    }
-}
-
-// The numbers that are marked as matches.
-fn hits_in(alloc: Global, marks: &[u8], k: u32) -> Result<Vec<u32>, AllocError>
-    requires { length marks.now ≤ 2 ^ 32 }
-    ensures { IfOk result (λ ids. AreHits marks.now k (length marks.now) ids.items) }
-{
-    let mut ids = Vec::new(alloc);
-    for (id, mark) in marks.iter().enumerate() {
-        if is_hit(*mark, k) {
-            ids.push(id as u32)?;
+impl Tally {
+    /// Room for no number. It takes no memory.
+    pub fn new(alloc: Global) -> Tally
+        ensures { result ≡ [] }
+    {
+        Tally {
+            marks: Vec::new(alloc),
+            hits: Vec::new(alloc),
         }
     }
-    Ok(ids)
+
+    /// Begins a run: nothing is found, and there is room for the numbers below `numbers`.
+    ///
+    /// More numbers than conjunctions can have, which are those below 2^32, are refused.
+    pub fn begin(&mut self, alloc: Global, numbers: usize) -> Result<(), AllocError>
+        ensures room { OnOk result (numbers ≤ 64 * length self.new) }
+        ensures none { OnOk result ((i : ℕ) → is_marked self.new i ≡ false) }
+    {
+        if numbers > NUMBERS {
+            return Err(AllocError);
+        }
+        let words = numbers.div_ceil(64);
+        if words <= self.hits.len() {
+            self.hits.as_mut_slice().fill(0);
+            return Ok(());
+        }
+        let marks = vec![in alloc; BLANK; 64 * words]?;
+        let hits = vec![in alloc; 0u64; words]?;
+        self.marks = marks;
+        self.hits = hits;
+        Ok(())
+    }
+
+    /// Adds the conjunctions that match: those that no chosen list has a negated entry of, and of which
+    /// at least `k` chosen lists have another entry. Those for which there is no room are left out.
+    ///
+    /// `chosen` has places in `lists`, and a list counts as often as it is chosen. One step is one entry
+    /// read.
+    pub fn add_matches<L: Ledger>(
+        &mut self,
+        alloc: Global,
+        lists: &[Postings],
+        chosen: &[usize],
+        k: u32,
+        steps: &mut Steps<L>,
+    ) -> Result<(), AllocError>
+        requires some { 1 ≤ k }
+        requires within { All (λ n. n < length lists.now) chosen.now }
+        ensures len { length self.new ≡ length self.old }
+        ensures found { OnOk result (AreSet (is_match (lists_at lists.now chosen.now) k) self.old self.new) }
+        ensures cost { steps.new ≤ steps.old + cost_of (lists_at lists.now chosen.now) k }
+    {
+        if chosen.len() < k as usize {
+            return Ok(());
+        }
+        match skip_from(lists, chosen, k) {
+            Some(first) => self.skip(alloc, lists, chosen, k, first, steps),
+            None => self.read(alloc, lists, chosen, k, steps),
+        }
+    }
+
+    // Adds the conjunctions that match, by skips from the shortest list.
+    fn skip<L: Ledger>(
+        &mut self,
+        alloc: Global,
+        lists: &[Postings],
+        chosen: &[usize],
+        k: u32,
+        first: usize,
+        steps: &mut Steps<L>,
+    ) -> Result<(), AllocError>
+        requires some { 1 ≤ k }
+        requires within { All (λ n. n < length lists.now) chosen.now }
+        requires skips { SkipsFrom lists.now chosen.now k first }
+        ensures len { length self.new ≡ length self.old }
+        ensures found { OnOk result (AreSet (is_match (lists_at lists.now chosen.now) k) self.old self.new) }
+        ensures cost { steps.new ≤ steps.old + cost_of (lists_at lists.now chosen.now) k }
+    {
+        let ids = skip_lists(alloc, lists, chosen, k, first, steps)?;
+        self.set(ids.as_slice());
+        Ok(())
+    }
+
+    // Adds the conjunctions that match, from all entries of the lists.
+    fn read<L: Ledger>(
+        &mut self,
+        alloc: Global,
+        lists: &[Postings],
+        chosen: &[usize],
+        k: u32,
+        steps: &mut Steps<L>,
+    ) -> Result<(), AllocError>
+        requires some { 1 ≤ k }
+        requires enough { k ≤ length chosen.now }
+        requires within { All (λ n. n < length lists.now) chosen.now }
+        ensures len { length self.new ≡ length self.old }
+        ensures found { OnOk result (AreSet (is_match (lists_at lists.now chosen.now) k) self.old self.new) }
+        ensures cost { steps.new ≤ steps.old + reading_cost (lists_at lists.now chosen.now) }
+    {
+        if chosen.len() < FEW {
+            self.count(lists, chosen, k as u8, steps);
+            return Ok(());
+        }
+        self.merge(alloc, lists, chosen, k, steps)
+    }
+
+    // Adds the conjunctions that match, by merging.
+    fn merge<L: Ledger>(
+        &mut self,
+        alloc: Global,
+        lists: &[Postings],
+        chosen: &[usize],
+        k: u32,
+        steps: &mut Steps<L>,
+    ) -> Result<(), AllocError>
+        requires some { 1 ≤ k }
+        requires within { All (λ n. n < length lists.now) chosen.now }
+        ensures len { length self.new ≡ length self.old }
+        ensures found { OnOk result (AreSet (is_match (lists_at lists.now chosen.now) k) self.old self.new) }
+        ensures cost { steps.new ≤ steps.old + (sum_by length (lists_at lists.now chosen.now) + length chosen.now) }
+    {
+        let ids = merge_lists(alloc, lists, chosen, k, steps)?;
+        self.set(ids.as_slice());
+        Ok(())
+    }
+
+    // Adds these conjunctions.
+    fn set(&mut self, ids: &[u32])
+        ensures len { length self.new ≡ length self.old }
+        ensures set { AreSet (λ i. list_any (λ n. i == n) ids.now) self.old self.new }
+    {
+        set_bits(self.hits.as_mut_slice(), ids);
+    }
+
+    // Adds the conjunctions that match, by counting.
+    pub(crate) fn count<L: Ledger>(
+        &mut self,
+        lists: &[Postings],
+        chosen: &[usize],
+        k: u8,
+        steps: &mut Steps<L>,
+    )
+        requires some { 1 ≤ k }
+        requires few { length chosen.now < 128 }
+        requires enough { k ≤ length chosen.now }
+        requires within { All (λ n. n < length lists.now) chosen.now }
+        ensures len { length self.new ≡ length self.old }
+        ensures found { AreSet (is_match (lists_at lists.now chosen.now) k) self.old self.new }
+        ensures cost { steps.new ≤ steps.old + 2 * sum_by length (lists_at lists.now chosen.now) }
+    {
+        count_lists(
+            self.marks.as_mut_slice(),
+            self.hits.as_mut_slice(),
+            lists,
+            chosen,
+            k,
+            steps,
+        );
+    }
+
+    /// Appends the conjunctions that were found, in rising order.
+    pub fn push_found(&self, ids: &mut Vec<u32>) -> Result<(), AllocError>
+        requires { length ids.old.items ≡ 0 }
+        ensures { OnOk result (AreThose (is_marked self.now) (64 * length self.now) ids.new.items) }
+    {
+        push_numbers(self.hits.as_slice(), ids)
+    }
 }
 
-// Whether the mark is that of a match.
-fn is_hit(mark: u8, k: u32) -> bool
-    ensures { result ≡ is_hit k mark }
+// Sets the bits of the conjunctions that match. The marks are blank before and after.
+fn count_lists<L: Ledger>(
+    marks: &mut [u8],
+    hits: &mut [u64],
+    lists: &[Postings],
+    chosen: &[usize],
+    k: u8,
+    steps: &mut Steps<L>,
+)
+    requires some { 1 ≤ k }
+    requires few { length chosen.now < 128 }
+    requires enough { k ≤ length chosen.now }
+    requires within { All (λ n. n < length lists.now) chosen.now }
+    requires len { length marks.old ≡ 64 * length hits.old }
+    requires blank { AreBlank marks.old }
+    ensures len { length hits.new ≡ length hits.old }
+    ensures marks_len { length marks.new ≡ length marks.old }
+    ensures blank { AreBlank marks.new }
+    ensures found { AreSet (is_match (lists_at lists.now chosen.now) k) hits.old hits.new }
+    ensures cost { steps.new ≤ steps.old + 2 * sum_by length (lists_at lists.now chosen.now) }
 {
-    mark != EXCLUDED && k <= u32::from(mark)
+    mark_lists(marks, lists, chosen, steps);
+    if is_dense(marks.len(), lists, chosen) {
+        sweep(marks, k, hits);
+        marks.fill(BLANK);
+    } else {
+        take_lists(marks, hits, lists, chosen, k, steps);
+    }
+}
+
+// Whether so many of the numbers have entries that going over all marks takes less than reading the
+// entries again.
+fn is_dense(marks: usize, lists: &[Postings], chosen: &[usize]) -> bool
+    requires { All (λ n. n < length lists.now) chosen.now }
+{
+    (marks / 16) as u128 <= entries_in(lists, chosen)
 }

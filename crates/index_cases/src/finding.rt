@@ -1,25 +1,27 @@
 //! Calls that count their steps: of `conj_index`, an index of campaigns and what is found in it, and those
 //! of `matching`.
 //!
-//! A campaign is written as its expression, as `case_exprs` says, and the campaigns are numbered from 1.
+//! A campaign is written as its expression, as `case_exprs` says, and `5000*` before it stands for so many
+//! campaigns with that expression. The campaigns are numbered from 1.
 ghost use Rattle.std.specs.Prelude.{◌≡◌, ◌≤◌, ◌<◌, ◌+◌, All, IfOk};
 ghost use Rattle.conj_index.specs.Campaigns.{conjunctions_in};
 
 use crate::matching::{answer_with, put_numbers};
 use case_exprs::{assignment_in, make_expr};
 use case_lines::done;
-use conj_index::{Builder, Index, IndexFault, Part, scan};
+use conj_index::{Builder, Index, IndexFault, Part, Scratch, scan};
 use rtb_base::Steps;
-use rtb_num::{Txt, write_decimal};
+use rtb_num::{List, Txt, write_decimal};
 use std::alloc::{AllocError, Global};
 use std::marker::Brand;
 use std::sync::ledger::{Blank, Ledger};
-use target_expr::{Expr, ExprFault};
+use target_expr::{Assignment, Expr, ExprFault};
 
 /// Answers a call of this area or of `matching`, or tells that it is none.
 ///
 /// - `find | ASSIGNMENT | CAMPAIGN | .. | CAMPAIGN`: the numbers of the campaigns that the index of these
-///   finds, or `none`, and `, but ` and what asking each gives where that is something else.
+///   finds, or `none`; `, but ` and what asking each gives where that is something else; and `, then ` and
+///   what the second of two finds in one room gives where that is.
 /// - `index_build | CAMPAIGN | .. | CAMPAIGN`: the owners of the conjunctions, and of each part how many
 ///   keys and lists it has, as `1 1, 0 keys 1 lists, 2 keys 2 lists`.
 pub fn answer(alloc: Global, call: &[u8], args: &[Txt], out: &mut Txt) -> Result<bool, AllocError> {
@@ -62,33 +64,82 @@ fn find<L: Ledger>(
     let assignment = assignment_in(alloc, assigned)?;
     let index = index_of(alloc, &campaigns, steps)?;
     let found = index.find(alloc, &assignment, steps)?;
+    let again = find_again(alloc, &index, &assignment, steps)?;
     let asked = scan(alloc, &campaigns, &assignment, steps)?;
-    tell_both(found.as_slice(), asked.as_slice(), out)
+    put_numbers(found.as_slice(), out)?;
+    tell_other(b", but ", found.as_slice(), asked.as_slice(), out)?;
+    tell_other(b", then ", found.as_slice(), again.as_slice(), out)
 }
 
-// What is found, and what asking each gives where that is something else.
-fn tell_both(found: &[u32], asked: &[u32], out: &mut Txt) -> Result<(), AllocError> {
-    put_numbers(found, out)?;
-    if found == asked {
+// What the second of two finds in one room gives.
+fn find_again<L: Ledger>(
+    alloc: Global,
+    index: &Index,
+    assignment: &Assignment,
+    steps: &mut Steps<L>,
+) -> Result<List<u32>, AllocError> {
+    let mut scratch = Scratch::new(alloc);
+    let _ = index.find_with(alloc, &mut scratch, assignment, steps)?;
+    index.find_with(alloc, &mut scratch, assignment, steps)
+}
+
+// The words and the other numbers, where these are not the same.
+fn tell_other(words: &[u8], found: &[u32], other: &[u32], out: &mut Txt) -> Result<(), AllocError> {
+    if found == other {
         return Ok(());
     }
-    out.extend(b", but ")?;
-    put_numbers(asked, out)
+    out.extend(words)?;
+    put_numbers(other, out)
 }
 
 // The campaigns of these expressions, or none where one is none.
 fn campaigns_in(alloc: Global, texts: &[Txt]) -> Result<Option<Vec<(u32, Expr)>>, AllocError> {
     let mut all = Vec::new(alloc);
-    let mut number: u32 = 0;
     for text in texts {
-        number = number.saturating_add(1);
-        match make_expr(alloc, text.as_bytes())? {
-            Ok(expr) => all.push((number, expr))?,
-            Err(ExprFault::Memory) => return Err(AllocError),
-            Err(_) => return Ok(None),
+        let (times, expression) = repetition(text.as_bytes());
+        if !push_campaigns(alloc, &mut all, times, expression)? {
+            return Ok(None);
         }
     }
     Ok(Some(all))
+}
+
+// How many campaigns a text stands for, and their expression.
+fn repetition(text: &[u8]) -> (u32, &[u8]) {
+    match times_in(text) {
+        Some(found) => found,
+        None => (1, text),
+    }
+}
+
+fn times_in(text: &[u8]) -> Option<(u32, &[u8])> {
+    let (times, expression) = str::from_utf8(text).ok()?.split_once("*")?;
+    Some((times.parse::<u32>().ok()?, expression.as_bytes()))
+}
+
+// Appends so many campaigns with the expression, or tells that it is none.
+fn push_campaigns(
+    alloc: Global,
+    all: &mut Vec<(u32, Expr)>,
+    times: u32,
+    expression: &[u8],
+) -> Result<bool, AllocError> {
+    for _ in 0..times {
+        let number = next_number(all.as_slice());
+        match make_expr(alloc, expression)? {
+            Ok(expr) => all.push((number, expr))?,
+            Err(ExprFault::Memory) => return Err(AllocError),
+            Err(_) => return Ok(false),
+        }
+    }
+    Ok(true)
+}
+
+fn next_number(all: &[(u32, Expr)]) -> u32 {
+    match all {
+        [] => 1,
+        [.., (number, _)] => number.saturating_add(1),
+    }
 }
 
 fn index_of<L: Ledger>(
