@@ -1,5 +1,5 @@
 -- The live campaigns among the first ones of a table, and what they hold.
-use Rattle.std.proofs.Common.{◌≡◌, ℕ, zero, suc, ◌+◌, ◌-◌, ◌<◌, ◌≤◌, ◌==◌, List, [], ◌∷◌, ◌++◌, length, take, map, get_or, Bool, true, false, cond, nat_lt, Option, None, Some, option_map, refl, sym, ap, subst, ◌∙◌, arith, length-append, append-nil}
+use Rattle.std.proofs.Common.{◌≡◌, ℕ, zero, suc, ◌+◌, ◌-◌, ◌<◌, ◌≤◌, ◌==◌, List, [], ◌∷◌, ◌++◌, length, take, get_or, Bool, true, false, cond, nat_lt, Option, None, Some, option_map, refl, ap, ◌∙◌, arith, length-append, append-nil}
 use Rattle.std.specs.Prelude.{slice_get, sum_by}
 use Rattle.std.specs.List.{All, enumerate_from, flat_map}
 use Rattle.std.proofs.lemmas.Bool.Decides.{nat_tests}
@@ -8,9 +8,8 @@ use Rattle.std.proofs.lemmas.List.Concat.{flat_map-append}
 use Rattle.std.proofs.lemmas.List.FromFn.{get_or-enumerate_from, length-enumerate_from}
 use Rattle.std.proofs.lemmas.List.Sums.{sum_by-cons}
 use Rattle.std.proofs.lemmas.Option.{get_or_from_slice_get}
-use Rattle.campaign_store.specs.Limits.{bytes_of, passed_limit}
+use Rattle.campaign_store.specs.Limits.{passed_limit}
 use Rattle.campaign_store.specs.Table.{campaign_at, entries_of}
-use Rattle.campaign_store.specs.declared.limit.Limit.{Limit}
 use Rattle.campaign_store.specs.declared.listed.Listed.{Listed}
 use Rattle.campaign_store.specs.declared.record.Record.{Record}
 use Rattle.conj_index.specs.Campaigns.{Campaigns, conjunctions_in, expression_of}

@@ -1,8 +1,9 @@
 -- What is found in the index of a state's live campaigns.
-use Rattle.std.proofs.Common.{◌≡◌, ℕ, ◌+◌, ◌<◌, ◌&&◌, List, [], ◌∷◌, ◌++◌, length, take, map, filter, get_or, Bool, true, false, cond, Some, refl, sym, ap, ◌∙◌}
-use Rattle.std.specs.Prelude.{slice_get}
+use Rattle.std.proofs.Common.{◌≡◌, ℕ, zero, suc, ◌+◌, ◌<◌, ◌≤◌, ◌&&◌, List, [], ◌∷◌, ◌++◌, length, take, map, filter, get_or, Bool, true, false, cond, Some, refl, sym, ap, ◌∙◌, arith}
+use Rattle.std.specs.Prelude.{slice_get, sum_by}
 use Rattle.std.specs.List.{enumerate_from, flat_map}
 use Rattle.std.proofs.lemmas.List.{map-append, take_more}
+use Rattle.std.proofs.lemmas.List.Sums.{sum_by-append, sum_by-cons}
 use Rattle.std.proofs.lemmas.Option.{get_or_from_slice_get}
 use Rattle.assign.specs.Rows.{pairs_of}
 use Rattle.auction_core.specs.Core.{listed, listed_as}
@@ -58,3 +59,19 @@ pushed {B} f imps k i found next inside at so_far is =
     ap (λ (l : List B). l ++ next ∷ []) so_far
     ∙ ap (λ (x : B). map f (take k imps) ++ x ∷ []) (is ∙ ap f (sym (get_or_from_slice_get imps k i i at)))
     ∙ sym (ap (map f) (take_more imps k i inside) ∙ map-append f (take k imps) (get_or imps k i ∷ []))
+
+-- what the next costs beside those before it, which with it cost no more than all
+pub cost_of_one_more : (f : Imp → ℕ) (imps : List Imp) (k : ℕ) (i : Imp) → k < length imps → slice_get imps k ≡ Some i → sum_by f (take (k + 1) imps) ≡ sum_by f (take k imps) + f i
+cost_of_one_more f imps k i inside at =
+    let split = ap (sum_by f) (take_more imps k i inside) ∙ sum_by-append f (take k imps) (get_or imps k i ∷ []) in
+    let one = sum_by-cons f (get_or imps k i) [] in
+    let item = ap f (get_or_from_slice_get imps k i i at) in
+    omega (arith, split, one, item)
+
+cost_of_front : (f : Imp → ℕ) (imps : List Imp) (k : ℕ) → sum_by f (take k imps) ≤ sum_by f imps
+cost_of_front f imps zero = omega arith
+cost_of_front f [] (suc k) = omega arith
+cost_of_front f (i ∷ imps) (suc k) = omega (arith, sum_by-cons f i (take k imps), sum_by-cons f i imps, cost_of_front f imps k)
+
+pub cost_within : (f : Imp → ℕ) (imps : List Imp) (k : ℕ) (i : Imp) → k < length imps → slice_get imps k ≡ Some i → sum_by f (take k imps) + f i ≤ sum_by f imps
+cost_within f imps k i inside at = omega (arith, cost_of_one_more f imps k i inside at, cost_of_front f imps (k + 1))

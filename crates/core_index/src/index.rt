@@ -1,10 +1,10 @@
 // The index of a table's live campaigns.
-ghost use Rattle.std.specs.Prelude.{◌≡◌, ◌≤◌, ◌<◌, ◌++◌, [], ◌∷◌, All, IfOk, OnOk, Some};
+ghost use Rattle.std.specs.Prelude.{◌≡◌, ◌≤◌, ◌<◌, ◌+◌, ◌++◌, [], ◌∷◌, All, IfOk, OnOk, Some, length};
 ghost use Rattle.campaign_store.specs.Table.{campaign_at};
 ghost use Rattle.campaign_store.specs.declared.listed.Listed.{Listed as AListed};
 ghost use Rattle.conj_index.specs.Campaigns.{conjunctions_in};
 ghost use Rattle.conj_index.specs.Content.{IsIndexOf};
-ghost use Rattle.core_index.specs.Reached.{live_expression, live_expressions};
+ghost use Rattle.core_index.specs.Reached.{index_cost, live_expression, live_expressions};
 
 use campaign_store::Table;
 use conj_index::{Builder, Index, IndexFault};
@@ -13,12 +13,15 @@ use std::alloc::{AllocError, Global};
 use std::sync::ledger::Ledger;
 
 /// The index of the table's live campaigns, by their numbers in the table.
+///
+/// One step is one campaign of the table, or one pair of a live campaign's expression.
 pub fn index_of_live<L: Ledger>(
     alloc: Global,
     table: &Table,
     steps: &mut Steps<L>,
 ) -> Result<Index, AllocError>
-    ensures { IfOk result (IsIndexOf (live_expressions table.now.campaigns)) }
+    ensures content { IfOk result (IsIndexOf (live_expressions table.now.campaigns)) }
+    ensures cost { steps.new ≤ steps.old + index_cost table.now.campaigns }
 {
     let builder = builder_of(alloc, table, steps)?;
     match Index::build(alloc, builder, steps) {
@@ -33,7 +36,8 @@ fn builder_of<L: Ledger>(
     table: &Table,
     steps: &mut Steps<L>,
 ) -> Result<Builder, AllocError>
-    ensures { IfOk result (λ b. b ≡ live_expressions table.now.campaigns) }
+    ensures content { IfOk result (λ b. b ≡ live_expressions table.now.campaigns) }
+    ensures cost { steps.new ≤ steps.old + length table.now.campaigns }
 {
     let mut builder = Builder::new(alloc);
     for place in 0..table.count() {
@@ -51,7 +55,8 @@ fn add_where_live<L: Ledger>(
 ) -> Result<(), AllocError>
     requires above { All (λ p. p.0 < n) builder.old }
     requires room { (c : AListed) → campaign_at table.now.campaigns n ≡ Some c → conjunctions_in (builder.old ++ (n, c.entry.expr) ∷ []) ≤ 1000000 }
-    ensures { (c : AListed) → campaign_at table.now.campaigns n ≡ Some c → OnOk result (builder.new ≡ builder.old ++ live_expression (n, c)) }
+    ensures ok { (c : AListed) → campaign_at table.now.campaigns n ≡ Some c → OnOk result (builder.new ≡ builder.old ++ live_expression (n, c)) }
+    ensures cost { steps.new ≤ steps.old + 1 }
 {
     if !is_live(table, n) {
         return Ok(());
@@ -74,7 +79,8 @@ fn add_there<L: Ledger>(
 ) -> Result<(), AllocError>
     requires above { All (λ p. p.0 < n) builder.old }
     requires room { (c : AListed) → campaign_at table.now.campaigns n ≡ Some c → conjunctions_in (builder.old ++ (n, c.entry.expr) ∷ []) ≤ 1000000 }
-    ensures { (c : AListed) → campaign_at table.now.campaigns n ≡ Some c → OnOk result (builder.new ≡ builder.old ++ (n, c.entry.expr) ∷ []) }
+    ensures ok { (c : AListed) → campaign_at table.now.campaigns n ≡ Some c → OnOk result (builder.new ≡ builder.old ++ (n, c.entry.expr) ∷ []) }
+    ensures cost { steps.new ≤ steps.old + 1 }
 {
     match table.get(n) {
         Some(entry) => builder.add(n, &entry.record().expr, steps),

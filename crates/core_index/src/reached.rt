@@ -1,9 +1,9 @@
 // Which campaigns the impressions of an auction reach.
-ghost use Rattle.std.specs.Prelude.{◌≡◌, ◌<◌, IfOk, Some, length, map, slice_get};
+ghost use Rattle.std.specs.Prelude.{◌≡◌, ◌≤◌, ◌<◌, ◌+◌, IfOk, Some, length, map, slice_get, sum_by};
 ghost use Rattle.auction_core.specs.Core.{listed};
 ghost use Rattle.auction_core.specs.Draft.{found_for, found_of};
 ghost use Rattle.conj_index.specs.Content.{IsIndexOf};
-ghost use Rattle.core_index.specs.Reached.{live_expressions};
+ghost use Rattle.core_index.specs.Reached.{imp_cost, live_expressions, reach_cost};
 ghost use Rattle.plain_exchange.specs.State.{State};
 ghost use Rattle.rtb_types.specs.declared.request.Imp.{Imp as Impression};
 
@@ -19,13 +19,16 @@ use std::sync::ledger::Ledger;
 /// For each impression of an auction, the numbers of the live campaigns whose expression is true of it,
 /// rising; for any other command nothing. It is what `Core::prepare` wants to be told, for an exchange
 /// with just the campaigns of the index.
+///
+/// One step is one entry of the index that is read.
 pub fn find_by_index<L: Ledger>(
     alloc: Global,
     index: &Index,
     command: &Command,
     steps: &mut Steps<L>,
 ) -> Result<Vec<List<u32>>, AllocError>
-    ensures { IfOk result (λ found. (s : State) → IsIndexOf (live_expressions (listed s)) index.now → found.items ≡ found_of s command.now) }
+    ensures answer { IfOk result (λ found. (s : State) → IsIndexOf (live_expressions (listed s)) index.now → found.items ≡ found_of s command.now) }
+    ensures cost { steps.new ≤ steps.old + reach_cost index.now command.now }
 {
     match command {
         Command::Auction(request) => find_for_imps(alloc, index, request, steps),
@@ -40,7 +43,8 @@ fn find_for_imps<L: Ledger>(
     request: &BidRequest,
     steps: &mut Steps<L>,
 ) -> Result<Vec<List<u32>>, AllocError>
-    ensures { IfOk result (λ found. (s : State) → IsIndexOf (live_expressions (listed s)) index.now → found.items ≡ map (found_for s request.now) request.now.imps) }
+    ensures answer { IfOk result (λ found. (s : State) → IsIndexOf (live_expressions (listed s)) index.now → found.items ≡ map (found_for s request.now) request.now.imps) }
+    ensures cost { steps.new ≤ steps.old + sum_by (imp_cost index.now request.now) request.now.imps }
 {
     let mut found = Vec::with_capacity(alloc, request.imps.len())?;
     for imp in 0..request.imps.len() {
@@ -59,7 +63,8 @@ fn find_for_imp<L: Ledger>(
     steps: &mut Steps<L>,
 ) -> Result<List<u32>, AllocError>
     requires imp { imp < length request.now.imps }
-    ensures { (i : Impression) → slice_get request.now.imps imp ≡ Some i → IfOk result (λ numbers. (s : State) → IsIndexOf (live_expressions (listed s)) index.now → numbers ≡ found_for s request.now i) }
+    ensures answer { (i : Impression) → slice_get request.now.imps imp ≡ Some i → IfOk result (λ numbers. (s : State) → IsIndexOf (live_expressions (listed s)) index.now → numbers ≡ found_for s request.now i) }
+    ensures cost { (i : Impression) → slice_get request.now.imps imp ≡ Some i → steps.new ≤ steps.old + imp_cost index.now request.now i }
 {
     let assignment = assignment(alloc, request, imp)?;
     let numbers = index.find(alloc, &assignment, steps)?;
