@@ -1,6 +1,6 @@
 -- No attribute stands twice among the present rows, since the rows rise by attribute, and each value is
 -- the text of its row.
-use Rattle.std.proofs.Common.{◌≡◌, ℕ, ◌≤◌, ◌==◌, ◌&&◌, ◌||◌, not, nat_lt, List, [], ◌∷◌, ◌++◌, Bool, true, false, cond, find, Some, None, option_map, option_and_then, refl, ◌∙◌, ap, arith, append-nil}
+use Rattle.std.proofs.Common.{◌≡◌, ℕ, ◌≤◌, ◌==◌, ◌&&◌, ◌||◌, not, nat_lt, List, [], ◌∷◌, ◌++◌, Bool, true, false, cond, find, Some, None, option_map, option_and_then, refl, sym, ◌∙◌, ap, arith, append-nil, append_assoc}
 use Rattle.std.specs.List.{flat_map, list_any}
 use Rattle.std.proofs.lemmas.Bool.{false≢true, or_parts}
 use Rattle.std.proofs.lemmas.Bool.Decides.{nat_tests}
@@ -104,8 +104,17 @@ seven s a p g d u i =
     ∙ ap (λ l. l ++ all_present g) (flat_map-append pair_of (s ++ a) p
     ∙ ap (λ l. l ++ all_present p) (flat_map-append pair_of s a)))))
 
+after : (o s a p g d u i : List (Attr × List ℕ)) → o ++ (((((((s ++ a) ++ p) ++ g) ++ d) ++ u) ++ i)) ≡ ((((((o ++ s) ++ a) ++ p) ++ g) ++ d) ++ u) ++ i
+after o s a p g d u i =
+    sym (ap (λ l. l ++ i) (ap (λ l. l ++ u) (ap (λ l. l ++ d) (ap (λ l. l ++ g) (ap (λ l. l ++ p) (append_assoc o s a)
+    ∙ append_assoc o (s ++ a) p)
+    ∙ append_assoc o ((s ++ a) ++ p) g)
+    ∙ append_assoc o (((s ++ a) ++ p) ++ g) d)
+    ∙ append_assoc o ((((s ++ a) ++ p) ++ g) ++ d) u)
+    ∙ append_assoc o (((((s ++ a) ++ p) ++ g) ++ d) ++ u) i)
+
 -- the groups of rows one after the other
-pub in_groups : (r : BidRequest) (i : Imp) → pairs_of r i ≡ (((((flat_map pair_of (site_rows r.site) ++ flat_map pair_of (app_rows r.app)) ++ pair_of (Publisher, publisher_of r.site r.app))
+in_groups : (r : BidRequest) (i : Imp) → pairs_of r i ≡ (((((flat_map pair_of (site_rows r.site) ++ flat_map pair_of (app_rows r.app)) ++ pair_of (Publisher, publisher_of r.site r.app))
     ++ flat_map pair_of (geo_rows (option_and_then (λ (d : Device). d.geo) r.device))) ++ flat_map pair_of (device_rows r.device)) ++ flat_map pair_of (user_rows r.user)) ++ flat_map pair_of (imp_rows i)
 unfolding pairs_of
 in_groups r i =
@@ -114,3 +123,11 @@ in_groups r i =
     let row : Row = (Publisher, publisher_of r.site r.app) in
     seven (site_rows r.site) (app_rows r.app) (row ∷ []) (geo_rows (option_and_then (λ (d : Device). d.geo) r.device)) (device_rows r.device) (user_rows r.user) (imp_rows i)
     ∙ ap (λ l. ((((front ++ l) ++ g) ++ flat_map pair_of (device_rows r.device)) ++ flat_map pair_of (user_rows r.user)) ++ flat_map pair_of (imp_rows i)) (append-nil (pair_of row))
+
+-- and behind others
+pub behind_groups : (o : List (Attr × List ℕ)) (r : BidRequest) (i : Imp) → o ++ pairs_of r i ≡ ((((((o ++ flat_map pair_of (site_rows r.site)) ++ flat_map pair_of (app_rows r.app)) ++ pair_of (Publisher, publisher_of r.site r.app))
+    ++ flat_map pair_of (geo_rows (option_and_then (λ (d : Device). d.geo) r.device))) ++ flat_map pair_of (device_rows r.device)) ++ flat_map pair_of (user_rows r.user)) ++ flat_map pair_of (imp_rows i)
+behind_groups o r i =
+    ap (λ l. o ++ l) (in_groups r i)
+    ∙ after o (flat_map pair_of (site_rows r.site)) (flat_map pair_of (app_rows r.app)) (pair_of (Publisher, publisher_of r.site r.app)) (flat_map pair_of (geo_rows (option_and_then (λ (d : Device). d.geo) r.device)))
+    (flat_map pair_of (device_rows r.device)) (flat_map pair_of (user_rows r.user)) (flat_map pair_of (imp_rows i))

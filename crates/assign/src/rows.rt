@@ -1,5 +1,3 @@
-#![tactic(auto, unfolding(crate::specs::Rows::site_rows, crate::specs::Rows::app_rows, crate::specs::Rows::publisher_of, crate::specs::Rows::geo_rows, crate::specs::Rows::device_rows, crate::specs::Rows::user_rows, crate::specs::Rows::imp_rows))]
-
 ghost use Rattle.std.specs.Prelude.{◌≡◌, ◌++◌, ◌∷◌, [], option_map, option_and_then, IfOk, OnOk};
 ghost use Rattle.std.specs.Fmt.{signed_decimal};
 ghost use Rattle.std.specs.List.{flat_map};
@@ -12,6 +10,7 @@ use std::alloc::{AllocError, Global};
 use target_expr::Attr;
 
 /// Appends the rows of the site.
+#[tactic(auto, unfolding(crate::specs::Rows::site_rows))]
 pub(crate) fn push_site(
     pairs: &mut List<(Attr, Txt)>,
     site: Option<&Site>,
@@ -41,6 +40,7 @@ fn push_text(
 }
 
 /// Appends the rows of the app.
+#[tactic(auto, unfolding(crate::specs::Rows::app_rows))]
 pub(crate) fn push_app(pairs: &mut List<(Attr, Txt)>, app: Option<&App>) -> Result<(), AllocError>
     ensures { OnOk result (pairs.new ≡ pairs.old ++ flat_map pair_of (app_rows (option_map (λ a. a.now) app.entry))) }
 {
@@ -63,6 +63,7 @@ pub(crate) fn push_publisher(
 }
 
 // The site's publisher, or else the app's.
+#[tactic(auto, unfolding(crate::specs::Rows::publisher_of))]
 fn publisher<'a>(site: Option<&'a Site>, app: Option<&'a App>) -> Option<&'a Txt>
     ensures { option_map (λ t. t.now) result ≡ publisher_of (option_map (λ s. s.now) site.entry) (option_map (λ a. a.now) app.entry) }
 {
@@ -91,6 +92,7 @@ fn app_publisher(app: Option<&App>) -> Option<&Txt>
 }
 
 /// Appends the rows of the device's place.
+#[tactic(auto, unfolding(crate::specs::Rows::geo_rows))]
 pub(crate) fn push_geo(pairs: &mut List<(Attr, Txt)>, geo: Option<&Geo>) -> Result<(), AllocError>
     ensures { OnOk result (pairs.new ≡ pairs.old ++ flat_map pair_of (geo_rows (option_map (λ g. g.now) geo.entry))) }
 {
@@ -105,6 +107,7 @@ pub(crate) fn push_geo(pairs: &mut List<(Attr, Txt)>, geo: Option<&Geo>) -> Resu
 }
 
 /// Appends the rows of the device.
+#[tactic(auto, unfolding(crate::specs::Rows::device_rows))]
 pub(crate) fn push_device(
     alloc: Global,
     pairs: &mut List<(Attr, Txt)>,
@@ -151,6 +154,7 @@ fn decimal_text(alloc: Global, n: i32) -> Result<Txt, AllocError>
 }
 
 /// Appends the rows of the user.
+#[tactic(auto, unfolding(crate::specs::Rows::user_rows))]
 pub(crate) fn push_user(
     alloc: Global,
     pairs: &mut List<(Attr, Txt)>,
@@ -166,6 +170,7 @@ pub(crate) fn push_user(
 }
 
 /// Appends the rows of the impression.
+#[tactic(auto, unfolding(crate::specs::Rows::imp_rows))]
 pub(crate) fn push_imp(
     alloc: Global,
     pairs: &mut List<(Attr, Txt)>,

@@ -28,19 +28,37 @@ pub fn assignment(alloc: Global, request: &BidRequest, imp: usize) -> Result<Ass
 const MOST_ROWS: usize = 22;
 
 // The present rows.
-#[tactic(auto, using(crate::proofs::Rising::in_groups))]
 fn pairs(alloc: Global, request: &BidRequest, imp: &Imp) -> Result<List<(Attr, Txt)>, AllocError>
     ensures { IfOk result (λ pairs. pairs ≡ pairs_of request.now imp.now) }
 {
     let mut pairs = List::from_vec(Vec::with_capacity(alloc, MOST_ROWS)?);
-    push_site(&mut pairs, request.site.as_ref())?;
-    push_app(&mut pairs, request.app.as_ref())?;
-    push_publisher(&mut pairs, request.site.as_ref(), request.app.as_ref())?;
-    push_geo(&mut pairs, geo_of(request.device.as_ref()))?;
-    push_device(alloc, &mut pairs, request.device.as_ref())?;
-    push_user(alloc, &mut pairs, request.user.as_ref())?;
-    push_imp(alloc, &mut pairs, imp)?;
-    Ok(pairs)
+    match push_rows(alloc, &mut pairs, request, imp) {
+        Ok(()) => Ok(pairs),
+        Err(AllocError) => {
+            drop(pairs);
+            Err(AllocError)
+        }
+    }
+}
+
+// Appends the present rows.
+#[tactic(auto, using(crate::proofs::Rising::behind_groups))]
+fn push_rows(
+    alloc: Global,
+    pairs: &mut List<(Attr, Txt)>,
+    request: &BidRequest,
+    imp: &Imp,
+) -> Result<(), AllocError>
+    ensures { OnOk result (pairs.new ≡ pairs.old ++ pairs_of request.now imp.now) }
+{
+    push_site(pairs, request.site.as_ref())?;
+    push_app(pairs, request.app.as_ref())?;
+    push_publisher(pairs, request.site.as_ref(), request.app.as_ref())?;
+    push_geo(pairs, geo_of(request.device.as_ref()))?;
+    push_device(alloc, pairs, request.device.as_ref())?;
+    push_user(alloc, pairs, request.user.as_ref())?;
+    push_imp(alloc, pairs, imp)?;
+    Ok(())
 }
 
 fn geo_of(device: Option<&Device>) -> Option<&Geo>

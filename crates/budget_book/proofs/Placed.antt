@@ -22,6 +22,9 @@ number_here node q h tied = ap (λ o. unwrap_or o 0) (find_here key_cmp keys_tot
 pub number_right : (node : Node) (q : Key) → is_sorted key_cmp (entries_at node) ≡ true → key_cmp q (key_in node) ≡ Greater → number_at q (entries_at node) ≡ number_at q (entries node.right)
 number_right node q h more = ap (λ o. unwrap_or o 0) (find_behind key_cmp keys_total q (entries node.left) (key_in node, node.number) (entries node.right) h more)
 
+-- where a key's number stands
+pub ruleset found = (left_sorted, right_sorted, number_left, number_here, number_right)
+
 pub put_left : (node : Node) (q : Key) (n : ℕ) → key_cmp q (key_in node) ≡ Less → put key_cmp q n (entries_at node) ≡ put key_cmp q n (entries node.left) ++ (key_in node, node.number) ∷ entries node.right
 put_left node q n less = put_before key_cmp keys_total q n (entries node.left) (key_in node, node.number) (entries node.right) less
 
@@ -30,6 +33,9 @@ put_at node q n h tied = put_here key_cmp keys_total q n (entries node.left) (ke
 
 pub put_right : (node : Node) (q : Key) (n : ℕ) → is_sorted key_cmp (entries_at node) ≡ true → key_cmp q (key_in node) ≡ Greater → put key_cmp q n (entries_at node) ≡ entries node.left ++ (key_in node, node.number) ∷ put key_cmp q n (entries node.right)
 put_right node q n h more = put_behind key_cmp keys_total q n (entries node.left) (key_in node, node.number) (entries node.right) h more
+
+-- the same, and where a key is put
+pub ruleset placed = (found, put_left, put_at, put_right)
 
 -- each side has fewer entries than the node
 pub sides_shorter : (node : Node) → (length (entries node.left) < length (entries_at node)) × (length (entries node.right) < length (entries_at node))

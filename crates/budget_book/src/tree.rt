@@ -32,7 +32,7 @@ pub(crate) struct Node {
 }
 
 // The number of the last sale of the campaign to the user, or 0.
-#[tactic(auto, using(crate::proofs::Placed::left_sorted, crate::proofs::Placed::right_sorted, crate::proofs::Placed::number_left, crate::proofs::Placed::number_here, crate::proofs::Placed::number_right))]
+#[tactic(auto, using(crate::proofs::Placed::found))]
 pub(crate) fn number_in(tree: &Tree, word: u16, campaign: u32, user: &[u8]) -> u64
     requires { is_sorted key_cmp (entries tree.now) ≡ true }
     ensures { result ≡ number_at (record { word = word; campaign = campaign; user = user.now }) (entries tree.now) }
@@ -69,7 +69,7 @@ pub(crate) fn put_in(tree: &mut Tree, spare: Box<Node>) -> u64
 }
 
 #[cycle(putting)]
-#[tactic(auto, using(crate::proofs::Placed::left_sorted, crate::proofs::Placed::right_sorted, crate::proofs::Placed::number_left, crate::proofs::Placed::number_here, crate::proofs::Placed::number_right, crate::proofs::Placed::put_left, crate::proofs::Placed::put_at, crate::proofs::Placed::put_right))]
+#[tactic(auto, using(crate::proofs::Placed::placed))]
 fn put_below(node: &mut Node, spare: Box<Node>) -> u64
     requires sorted { is_sorted key_cmp (entries_at node.old) ≡ true }
     requires alone { entries_at spare.value ≡ (key_in spare.value, spare.value.number) ∷ [] }

@@ -1,4 +1,4 @@
-#![tactic(auto, using(json_fields::proofs::First::in_front, json_fields::proofs::First::behind, json_fields::proofs::First::neither), unfolding(crate::specs::Campaign::campaign_faults))]
+#![tactic(auto, using(json_fields::proofs::First::firsts), unfolding(crate::specs::Campaign::campaign_faults))]
 
 ghost use Rattle.std.specs.Prelude.{◌≡◌, ◌%◌, map};
 ghost use Rattle.exact_json.specs.Docs.{doc_tree};
@@ -31,7 +31,7 @@ pub fn read_campaign(alloc: Global, doc: &Doc) -> Result<(Facts, Expr), CampFaul
     }
 }
 
-#[tactic(auto, using(json_fields::proofs::First::in_front, json_fields::proofs::First::behind, json_fields::proofs::First::neither), unfolding(crate::specs::Campaign::body_faults, crate::specs::Campaign::campaign_from))]
+#[tactic(auto, using(json_fields::proofs::First::firsts), unfolding(crate::specs::Campaign::body_faults, crate::specs::Campaign::campaign_from))]
 fn campaign_in(alloc: Global, body: &Value) -> Result<(Facts, Expr), CampFault>
     requires forms { HasForms (tree_of body.now) }
     ensures { Answers CampFault.Memory (body_faults (tree_of body.now)) (campaign_from (tree_of body.now)) result }

@@ -1,5 +1,3 @@
-#![tactic(auto, using(json_fields::proofs::First::in_front, json_fields::proofs::First::behind, json_fields::proofs::First::neither), unfolding(crate::specs::Parts::faults_at, crate::specs::Cap::whole_in, crate::specs::Cap::object_faults, crate::specs::Cap::object_from, crate::specs::Cap::cap_faults, crate::specs::Cap::cap_from))]
-
 ghost use Rattle.std.specs.Prelude.{◌≡◌, pos};
 ghost use Rattle.exact_json.specs.Forms.{HasForms};
 ghost use Rattle.exact_json.specs.View.{tree_of};
@@ -29,6 +27,7 @@ const SECONDS: Bounds = Bounds {
 };
 
 // The cap, which may be absent.
+#[tactic(auto, unfolding(crate::specs::Parts::faults_at, crate::specs::Cap::object_faults, crate::specs::Cap::object_from, crate::specs::Cap::cap_faults, crate::specs::Cap::cap_from))]
 pub(crate) fn cap_field(body: &Value) -> Result<Option<Cap>, CampFault>
     requires forms { HasForms (tree_of body.now) }
     ensures { Answers CampFault.Memory (cap_faults (tree_of body.now)) (cap_from (tree_of body.now)) result }
@@ -41,7 +40,7 @@ pub(crate) fn cap_field(body: &Value) -> Result<Option<Cap>, CampFault>
 }
 
 // The two numbers of a cap, in the order in which they are read.
-#[tactic(auto, using(json_fields::proofs::First::in_front, json_fields::proofs::First::behind, json_fields::proofs::First::neither), unfolding(crate::specs::Cap::terms_faults, crate::specs::Cap::terms_from))]
+#[tactic(auto, using(json_fields::proofs::First::firsts), unfolding(crate::specs::Cap::terms_faults, crate::specs::Cap::terms_from))]
 fn terms_of(cap: &Value) -> Result<Option<Cap>, CampFault>
     requires forms { HasForms (tree_of cap.now) }
     ensures { Answers CampFault.Memory (terms_faults (tree_of cap.now)) (terms_from (tree_of cap.now)) result }
@@ -52,6 +51,7 @@ fn terms_of(cap: &Value) -> Result<Option<Cap>, CampFault>
 }
 
 // A whole number that has to be there.
+#[tactic(auto, unfolding(crate::specs::Parts::faults_at, crate::specs::Cap::whole_in))]
 fn whole_field(object: &Value, field: CampField, bounds: &Bounds) -> Result<i32, CampFault>
     requires forms { HasForms (tree_of object.now) }
     ensures { Answers CampFault.Memory (faults_at field (whole_in (member_name field) bounds.now (tree_of object.now))) (value_or (pos 0) (whole_in (member_name field) bounds.now (tree_of object.now))) result }

@@ -1,4 +1,4 @@
-#![tactic(auto, using(json_fields::proofs::First::in_front, json_fields::proofs::First::behind, json_fields::proofs::First::neither, json_fields::proofs::First::mapped, json_fields::proofs::First::mapped_none), unfolding(crate::specs::Parts::list_faults, crate::specs::Parts::list_from))]
+#![tactic(auto, using(json_fields::proofs::First::firsts_mapped), unfolding(crate::specs::Parts::list_faults, crate::specs::Parts::list_from))]
 
 ghost use Rattle.std.specs.Prelude.{◌≡◌};
 ghost use Rattle.exact_json.specs.Forms.{HasForms};

@@ -1,5 +1,3 @@
-#![tactic(auto, using(json_fields::proofs::First::in_front, json_fields::proofs::First::behind, json_fields::proofs::First::neither), unfolding(crate::specs::Parts::faults_at, crate::specs::Parts::text_faults, crate::specs::Parts::text_from, crate::specs::Parts::amount_faults, crate::specs::Parts::amount_from, crate::specs::Parts::side_faults, crate::specs::Parts::side_from))]
-
 ghost use Rattle.std.specs.Prelude.{◌≡◌, ◌*◌, false, None, option_map, IfOk};
 ghost use Rattle.exact_json.specs.Forms.{HasForms};
 ghost use Rattle.exact_json.specs.View.{tree_of};
@@ -32,6 +30,7 @@ pub(crate) fn fault(field: CampField, flaw: Flaw) -> CampFault
 }
 
 // A text.
+#[tactic(auto, unfolding(crate::specs::Parts::faults_at, crate::specs::Parts::text_faults, crate::specs::Parts::text_from))]
 pub(crate) fn text_field(object: &Value, field: CampField) -> Result<Txt, CampFault>
     ensures { Answers CampFault.Memory (text_faults field (tree_of object.now)) (text_from (member_name field) (tree_of object.now)) result }
 {
@@ -42,7 +41,7 @@ pub(crate) fn text_field(object: &Value, field: CampField) -> Result<Txt, CampFa
 }
 
 // The fields other than the target, in the order in which they are read.
-#[tactic(auto, using(json_fields::proofs::First::in_front, json_fields::proofs::First::behind, json_fields::proofs::First::neither), unfolding(crate::specs::Campaign::parts_faults, crate::specs::Campaign::parts_from))]
+#[tactic(auto, using(json_fields::proofs::First::firsts), unfolding(crate::specs::Campaign::parts_faults, crate::specs::Campaign::parts_from))]
 pub(crate) fn parts_in(alloc: Global, body: &Value) -> Result<FactParts, CampFault>
     requires forms { HasForms (tree_of body.now) }
     ensures { Answers CampFault.Memory (parts_faults (tree_of body.now)) (parts_from (tree_of body.now)) result }
@@ -86,6 +85,7 @@ const SIDE: Bounds = Bounds {
 };
 
 // A side of the creative, which may be absent.
+#[tactic(auto, unfolding(crate::specs::Parts::faults_at, crate::specs::Parts::side_faults, crate::specs::Parts::side_from))]
 fn side_field(body: &Value, field: CampField) -> Result<Option<i32>, CampFault>
     requires forms { HasForms (tree_of body.now) }
     ensures { Answers CampFault.Memory (side_faults field (tree_of body.now)) (side_from (member_name field) (tree_of body.now)) result }
@@ -96,6 +96,7 @@ fn side_field(body: &Value, field: CampField) -> Result<Option<i32>, CampFault>
     }
 }
 
+#[tactic(auto, unfolding(crate::specs::Parts::faults_at))]
 fn secure_field(body: &Value) -> Result<bool, CampFault>
     requires forms { HasForms (tree_of body.now) }
     ensures { Answers CampFault.Memory (faults_at CampField.Secure (or_absent false as_flag (present (member_name CampField.Secure) (tree_of body.now)))) (value_or false (or_absent false as_flag (present (member_name CampField.Secure) (tree_of body.now)))) result }
@@ -107,6 +108,7 @@ fn secure_field(body: &Value) -> Result<bool, CampFault>
 }
 
 // An amount in US dollars.
+#[tactic(auto, unfolding(crate::specs::Parts::faults_at, crate::specs::Parts::amount_faults, crate::specs::Parts::amount_from))]
 fn amount_field(body: &Value, field: CampField) -> Result<Micros, CampFault>
     requires forms { HasForms (tree_of body.now) }
     ensures { Answers CampFault.Memory (amount_faults field (tree_of body.now)) (amount_from (member_name field) (tree_of body.now)) result }
@@ -124,6 +126,7 @@ fn nanos(amount: Micros) -> Nanos
     Nanos::new(amount.get() * 1000).unwrap()
 }
 
+#[tactic(auto, unfolding(crate::specs::Parts::faults_at))]
 fn adid_field(body: &Value) -> Result<Option<Txt>, CampFault>
     ensures { Answers CampFault.Memory (faults_at CampField.Adid (optional as_text (present (member_name CampField.Adid) (tree_of body.now)))) (value_or None (optional as_text (present (member_name CampField.Adid) (tree_of body.now)))) result }
 {

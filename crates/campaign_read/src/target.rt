@@ -1,5 +1,3 @@
-#![tactic(auto, using(json_fields::proofs::First::in_front, json_fields::proofs::First::behind, json_fields::proofs::First::neither), unfolding(crate::specs::Target::conjunction_faults, crate::specs::Target::conjunction_from, crate::specs::Target::conjunctions_faults, crate::specs::Target::conjunctions_of, crate::specs::Target::target_faults, crate::specs::Target::target_from, crate::specs::Parts::element_faults))]
-
 ghost use Rattle.std.specs.Prelude.{◌≡◌, ◌&&◌, [], ◌∷◌, if◌then◌else◌, map, not, IfOk};
 ghost use Rattle.exact_json.specs.View.{tree_of};
 ghost use Rattle.json_fields.specs.Answers.{Answers, map_ok, value_or};
@@ -20,6 +18,7 @@ use std::alloc::{AllocError, Global};
 use target_expr::RawPred;
 
 // The target, where it is absent everything.
+#[tactic(auto, unfolding(crate::specs::Target::conjunctions_faults, crate::specs::Target::conjunctions_of, crate::specs::Target::target_faults, crate::specs::Target::target_from))]
 pub(crate) fn target_field(alloc: Global, body: &Value) -> Result<List<List<RawPred>>, CampFault>
     ensures { Answers CampFault.Memory (target_faults (tree_of body.now)) (target_from (tree_of body.now)) result }
 {
@@ -40,6 +39,7 @@ fn all_conjunctions(alloc: Global, values: &[Value]) -> Result<Vec<List<RawPred>
     Ok(conjunctions)
 }
 
+#[tactic(auto, unfolding(crate::specs::Parts::element_faults))]
 fn conjunction_entry(alloc: Global, i: usize, value: &Value) -> Result<List<RawPred>, CampFault>
     ensures { Answers CampFault.Memory (conjunction_at i (tree_of value.now)) (conjunction_from (value_or [] (as_array (tree_of value.now)))) result }
 {
@@ -49,6 +49,7 @@ fn conjunction_entry(alloc: Global, i: usize, value: &Value) -> Result<List<RawP
     }
 }
 
+#[tactic(auto, unfolding(crate::specs::Target::conjunction_faults, crate::specs::Target::conjunction_from))]
 fn all_preds(alloc: Global, i: usize, values: &[Value]) -> Result<Vec<RawPred>, CampFault>
     ensures { Answers CampFault.Memory (conjunction_faults i (map tree_of values.now)) (conjunction_from (map tree_of values.now)) (map_ok (λ v. v.items) result) }
 {
@@ -59,6 +60,7 @@ fn all_preds(alloc: Global, i: usize, values: &[Value]) -> Result<Vec<RawPred>, 
     Ok(preds)
 }
 
+#[tactic(auto, unfolding(crate::specs::Parts::element_faults))]
 fn pred_entry(alloc: Global, i: usize, j: usize, value: &Value) -> Result<RawPred, CampFault>
     ensures { Answers CampFault.Memory (pred_at i j (tree_of value.now)) (pred_from (tree_of value.now)) result }
 {
@@ -68,7 +70,7 @@ fn pred_entry(alloc: Global, i: usize, j: usize, value: &Value) -> Result<RawPre
     }
 }
 
-#[tactic(auto, using(json_fields::proofs::First::in_front, json_fields::proofs::First::behind, json_fields::proofs::First::neither), unfolding(crate::specs::Target::pred_faults, crate::specs::Target::pred_from, crate::specs::Parts::list_from))]
+#[tactic(auto, using(json_fields::proofs::First::firsts), unfolding(crate::specs::Target::pred_faults, crate::specs::Target::pred_from, crate::specs::Parts::list_from))]
 fn pred_in(alloc: Global, i: usize, j: usize, pred: &Value) -> Result<RawPred, CampFault>
     ensures { Answers CampFault.Memory (pred_faults i j (tree_of pred.now)) (pred_from (tree_of pred.now)) result }
 {

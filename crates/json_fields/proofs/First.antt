@@ -20,3 +20,9 @@ mapped g memory f a h = record { first = elim h.first [ inl e ↦ inl (ap g e) |
 
 pub mapped_none : {F G : Type 0} (g : F → G) (a : List F) → a ≡ [] → map g a ≡ []
 mapped_none g a e = ap (map g) e
+
+-- what is first in two lists in a row
+pub ruleset firsts = (in_front, behind, neither)
+
+-- the same, and what is seen through a function
+pub ruleset firsts_mapped = (firsts, mapped, mapped_none)

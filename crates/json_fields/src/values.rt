@@ -1,5 +1,3 @@
-#![tactic(auto, unfolding(crate::specs::Fields::as_text, crate::specs::Fields::as_number, crate::specs::Fields::as_array, crate::specs::Fields::as_object, crate::specs::Fields::as_text_within, crate::specs::Fields::as_whole, crate::specs::Fields::as_flag, crate::specs::Fields::as_floor, crate::specs::Fields::as_exact, crate::specs::Amounts::in_32_bits))]
-
 ghost use Rattle.std.specs.Prelude.{◌≡◌, ◌≤ℤ◌, pos, negsuc, map, IfOk, IsTrue};
 ghost use Rattle.std.specs.List.{All};
 ghost use Rattle.exact_json.specs.Forms.{HasForms};
@@ -15,6 +13,7 @@ use exact_json::Value;
 use rtb_num::{Micros, Txt};
 
 /// The text.
+#[tactic(auto, unfolding(crate::specs::Fields::as_text))]
 pub fn text_in(value: &Value) -> Result<&Txt, Flaw>
     ensures { map_ok (λ t. t.now) result ≡ as_text (tree_of value.now) }
 {
@@ -25,6 +24,7 @@ pub fn text_in(value: &Value) -> Result<&Txt, Flaw>
 }
 
 /// The text of a number.
+#[tactic(auto, unfolding(crate::specs::Fields::as_number))]
 pub fn number_in(value: &Value) -> Result<&Txt, Flaw>
     requires forms { HasForms (tree_of value.now) }
     ensures value { map_ok (λ t. t.now) result ≡ as_number (tree_of value.now) }
@@ -37,6 +37,7 @@ pub fn number_in(value: &Value) -> Result<&Txt, Flaw>
 }
 
 /// The values of an array.
+#[tactic(auto, unfolding(crate::specs::Fields::as_array))]
 pub fn array_in(value: &Value) -> Result<&[Value], Flaw>
     ensures values { map_ok (λ vs. map tree_of vs.now) result ≡ as_array (tree_of value.now) }
     ensures forms { HasForms (tree_of value.now) → IfOk result (λ vs. All (λ v. HasForms (tree_of v)) vs.now) }
@@ -48,6 +49,7 @@ pub fn array_in(value: &Value) -> Result<&[Value], Flaw>
 }
 
 /// The value itself, where it is an object.
+#[tactic(auto, unfolding(crate::specs::Fields::as_object))]
 pub fn object_in(value: &Value) -> Result<&Value, Flaw>
     ensures value { map_ok (λ v. tree_of v.now) result ≡ as_object (tree_of value.now) }
     ensures same { IfOk result (λ v. tree_of v.now ≡ tree_of value.now) }
@@ -59,6 +61,7 @@ pub fn object_in(value: &Value) -> Result<&Value, Flaw>
 }
 
 // A text of 1 to `greatest` bytes.
+#[tactic(auto, unfolding(crate::specs::Fields::as_text_within))]
 pub(crate) fn text_within(value: &Value, greatest: usize) -> Result<&Txt, Flaw>
     ensures { map_ok (λ t. t.now) result ≡ as_text_within greatest (tree_of value.now) }
 {
@@ -70,6 +73,7 @@ pub(crate) fn text_within(value: &Value, greatest: usize) -> Result<&Txt, Flaw>
 }
 
 // A whole number within the bounds.
+#[tactic(auto, unfolding(crate::specs::Fields::as_whole))]
 pub(crate) fn whole_in(value: &Value, bounds: &Bounds) -> Result<i32, Flaw>
     requires forms { HasForms (tree_of value.now) }
     ensures { result ≡ as_whole bounds.now (tree_of value.now) }
@@ -89,6 +93,7 @@ const ZERO_OR_ONE: Bounds = Bounds {
     greatest: 1,
 };
 
+#[tactic(auto, unfolding(crate::specs::Fields::as_flag))]
 pub(crate) fn flag_in(value: &Value) -> Result<bool, Flaw>
     requires forms { HasForms (tree_of value.now) }
     ensures { result ≡ as_flag (tree_of value.now) }
@@ -97,6 +102,7 @@ pub(crate) fn flag_in(value: &Value) -> Result<bool, Flaw>
     Ok(n >= 1)
 }
 
+#[tactic(auto, unfolding(crate::specs::Fields::as_floor))]
 pub(crate) fn floor_in(value: &Value) -> Result<Micros, Flaw>
     requires forms { HasForms (tree_of value.now) }
     ensures { result ≡ as_floor (tree_of value.now) }
@@ -108,6 +114,7 @@ pub(crate) fn floor_in(value: &Value) -> Result<Micros, Flaw>
     }
 }
 
+#[tactic(auto, unfolding(crate::specs::Fields::as_exact))]
 pub(crate) fn exact_in(value: &Value) -> Result<Micros, Flaw>
     requires forms { HasForms (tree_of value.now) }
     ensures { result ≡ as_exact (tree_of value.now) }
