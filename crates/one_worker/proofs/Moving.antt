@@ -17,8 +17,8 @@ use Rattle.one_worker.specs.declared.exchange.Exchange.{Exchange}
 use Rattle.plain_exchange.specs.declared.changes.Effect.{Effect}
 use Rattle.plain_exchange.specs.Effects.{all_applied, applied, state_of}
 use Rattle.plain_exchange.specs.State.{State}
-use Rattle.recovery.specs.Openings.{IsMadeBy}
-use Rattle.recovery.specs.Texts.{GivesState, HasText, IsTextOf}
+use Rattle.recovery.specs.Openings.{AreKept, IsMadeBy}
+use Rattle.recovery.specs.Texts.{HasText, IsTextOf}
 use Rattle.recovery.proofs.Joining.{leads_more, text_more}
 use Rattle.rtb_disk.specs.Stores.{Always, EachImage}
 use Rattle.rtb_disk.specs.declared.disk.Disk.{Ghosts}
@@ -262,15 +262,15 @@ module _ {D : Type 0} {G : Ghosts D} where
   goes_by most old new m kept waiting s = let (more, few, moves) = m kept waiting s in (more, moves)
 
   -- what was opened
-  pub opened_is : (image : List ℕ) (x : Exchange D G) → is_behind x ≡ false → IsMadeBy (Keeps journal_names x.journal) x.core → GivesState image x.core.state → IsOpened image x
-  opened_is image x ok made says = record {
-    says = says;
+  pub opened_is : (image : List ℕ) (x : Exchange D G) → is_behind x ≡ false → IsMadeBy (AreKept image x.journal) x.core → IsOpened image x
+  opened_is image x ok made = record {
     effects = made.effects;
+    says = record { payloads = made.payloads; stands = made.such.1; text = made.text };
     stands = record {
       payloads = made.payloads;
       text = made.text;
       leads = ap state_of (append-nil made.effects) ∙ made.leads;
-      whole = λ e. (refl, made.such);
+      whole = λ e. (refl, made.such.0);
       behind = λ e. absurd (false≢true (sym ok ∙ e));
     };
   }

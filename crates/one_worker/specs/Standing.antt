@@ -7,7 +7,7 @@ use Rattle.journal_file.specs.Standing.{Broken, Keeps, disk_of, faults_of, is_br
 use Rattle.one_worker.specs.declared.exchange.Exchange.{Exchange}
 use Rattle.plain_exchange.specs.declared.changes.Effect.{Effect}
 use Rattle.plain_exchange.specs.Effects.{state_of}
-use Rattle.recovery.specs.Texts.{GivesState, HasText, IsTextOf}
+use Rattle.recovery.specs.Texts.{HasText, IsTextOf}
 use Rattle.rtb_disk.specs.Stores.{Always, Store}
 use Rattle.rtb_disk.specs.declared.disk.Disk.{Ghosts}
 
@@ -71,8 +71,8 @@ module _ {D : Type 0} {G : Ghosts D} where
   abbrev pub GoesOn : Exchange D G → Exchange D G → Type 0
   GoesOn old new = (kept waiting : List Effect) → Stands old kept waiting → (more : List Effect) × Moves old new kept waiting more
 
-  -- the exchange is in the state that this image gives, and all effects that led to it are on its disk
+  -- the image says the effects that the exchange stands for, and all of them are on its disk
   pub record IsOpened (image : List ℕ) (exchange : Exchange D G) : Type 0 where
-    pub says : GivesState image exchange.core.state
     pub effects : List Effect
+    pub says : HasText image effects
     pub stands : Stands exchange effects []

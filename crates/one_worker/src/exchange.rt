@@ -62,6 +62,7 @@ impl<D: Disk> Exchange<D> {
     pub fn into_disk(self) -> D
         ensures { result ≡ disk_in self }
     {
+        drop(self.core);
         self.journal.into_disk()
     }
 
@@ -128,7 +129,10 @@ impl<D: Disk> Exchange<D> {
         let reply = self.core.commit(draft);
         match self.journal.append(self.block.as_bytes()) {
             Ok(()) => Ok(reply),
-            Err(DiskFailed) => Err(Fault::StoreFailed),
+            Err(DiskFailed) => {
+                drop(reply);
+                Err(Fault::StoreFailed)
+            }
         }
     }
 }

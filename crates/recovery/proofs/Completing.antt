@@ -9,7 +9,7 @@ use Rattle.journal_file.specs.Standing.{Keeps}
 use Rattle.journal_file.specs.declared.journal.Journal.{Journal}
 use Rattle.journal_file.specs.declared.reading.Reading.{Reading}
 use Rattle.plain_exchange.specs.declared.changes.Effect.{Effect}
-use Rattle.recovery.specs.Openings.{IsAtEnd, IsAtStart, IsMadeBy}
+use Rattle.recovery.specs.Openings.{AreKept, IsAtEnd, IsAtStart, IsMadeBy}
 use Rattle.recovery.specs.Texts.{HasText, IsTextOf}
 use Rattle.rtb_disk.proofs.Moments.{always_map, always_same}
 use Rattle.rtb_disk.specs.Stores.{Always, EachImage, Store}
@@ -69,12 +69,14 @@ module _ {D : Type 0} {G : Ghosts D} where
       subst (λ s. Always (λ image. HasText image effects) s now) same
       (always_map (StandsFor (created_name ∷ []) []) (λ image. HasText image effects) (λ image s. record { payloads = []; stands = known_stands image s; text = text }) (store_read new) now a)
 
-  pub made_journal : (reading : Reading D G) (journal : Journal D G) (core : CoreState) → IsMadeBy (IsAtEnd reading) core
-      → ((payloads : List (List ℕ)) → IsRead journal_names reading payloads → Keeps journal_names journal payloads) → (IsCreation reading → Keeps (created_name ∷ []) journal []) → IsMadeBy (Keeps journal_names journal) core
-  made_journal reading journal core m kept created = record { payloads = m.payloads; such = by_kind m.such; effects = m.effects; text = m.text; leads = m.leads; edits_are = m.edits_are }
+  pub made_journal : (reading : Reading D G) (journal : Journal D G) (core : CoreState) (image : List ℕ) → reads_of reading ≡ image → IsMadeBy (IsAtEnd reading) core
+      → ((payloads : List (List ℕ)) → IsRead journal_names reading payloads → Keeps journal_names journal payloads) → (IsCreation reading → Keeps (created_name ∷ []) journal []) → IsMadeBy (AreKept image journal) core
+  made_journal reading journal core image same m kept created = record { payloads = m.payloads; such = by_kind m.such; effects = m.effects; text = m.text; leads = m.leads; edits_are = m.edits_are }
     where
-      by_kind : {payloads : List (List ℕ)} → IsAtEnd reading payloads → Keeps journal_names journal payloads
-      by_kind {payloads} (inl r) = kept payloads r
+      by_kind : {payloads : List (List ℕ)} → IsAtEnd reading payloads → AreKept image journal payloads
+      by_kind {payloads} (inl r) = (kept payloads r, inl (subst (HasBlocks journal_names payloads) same r.file))
       by_kind (inr (none, r)) =
-          let k = created r in
-          subst (Keeps journal_names journal) (sym none) (record { told = k.told; end = k.end; images = λ image i. known_name [] image (k.images image i) })
+          let k = created r in (
+            subst (Keeps journal_names journal) (sym none) (record { told = k.told; end = k.end; images = λ image i. known_name [] image (k.images image i) }),
+            inr (none, subst IsTornCreation same r.torn),
+          )

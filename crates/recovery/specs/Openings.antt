@@ -1,7 +1,9 @@
 -- What comes of opening a journal.
 use Rattle.std.specs.Prelude.{◌≡◌, ◌⊎◌, ℕ, List, [], ◌++◌, Some, Result, Ok, Err}
 use Rattle.auction_core.specs.Core.{CoreState}
-use Rattle.journal_file.specs.Blocks.{journal_names}
+use Rattle.journal_file.specs.Blocks.{StandsFor, journal_names}
+use Rattle.journal_file.specs.Standing.{Keeps}
+use Rattle.journal_file.specs.declared.journal.Journal.{Journal}
 use Rattle.journal_file.specs.Readings.{IsCreation, IsRead, IsReading}
 use Rattle.journal_file.specs.declared.faults.JournalFault.{JournalFault}
 use Rattle.journal_file.specs.declared.faults.JournalFault.TheVariants as fault
@@ -45,3 +47,7 @@ module _ {D : Type 0} {G : Ghosts D} where
   -- these are all payloads of the file, and the reading has come to their end
   abbrev pub IsAtEnd : Reading D G → List (List ℕ) → Type 0
   IsAtEnd reading payloads = IsRead journal_names reading payloads ⊎ ((payloads ≡ []) × IsCreation reading)
+
+  -- the image stands for these payloads, and the journal keeps them
+  abbrev pub AreKept : List ℕ → Journal D G → List (List ℕ) → Type 0
+  AreKept image journal payloads = Keeps journal_names journal payloads × StandsFor journal_names payloads image

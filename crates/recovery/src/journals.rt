@@ -1,9 +1,8 @@
 ghost use Rattle.std.specs.Prelude.{◌≡◌, ◌≢◌, ◌⊎◌, Err, IfErr, IfOk, List, MatchResult, false, true};
-ghost use Rattle.journal_file.specs.Blocks.{journal_names};
 ghost use Rattle.journal_file.specs.Readings.{HasNotFailed, faults_read, reads_of, store_read};
-ghost use Rattle.journal_file.specs.Standing.{Keeps, faults_of, is_broken, store_of};
+ghost use Rattle.journal_file.specs.Standing.{faults_of, is_broken, store_of};
 ghost use Rattle.plain_exchange.specs.declared.changes.Effect.{Effect};
-ghost use Rattle.recovery.specs.Openings.{IsAtStart, IsMadeBy, Opens};
+ghost use Rattle.recovery.specs.Openings.{AreKept, IsAtStart, IsMadeBy, Opens};
 ghost use Rattle.recovery.specs.Texts.{GivesState, HasText};
 ghost use Rattle.rtb_base.specs.Faults.{Rose};
 ghost use Rattle.rtb_disk.specs.Stores.{Always, settled};
@@ -21,8 +20,9 @@ pub fn open<D: Disk>(
     disk: D,
     ttl: u64,
 ) -> Result<(Journal<D>, Core), (D, JournalFault)>
-    // The exchange is what the payloads' effects lead to, and every image of the journal has these payloads.
-    ensures opened { (D.store disk).told ≡ true → MatchResult result (λ r. IsMadeBy (Keeps journal_names r.0) r.1) (λ e. Opens (D.store disk).reads (Err e.1)) }
+    // The exchange is what the effects of the file's payloads lead to, and every image of the journal has these
+    // payloads.
+    ensures opened { (D.store disk).told ≡ true → MatchResult result (λ r. IsMadeBy (AreKept (D.store disk).reads r.0) r.1) (λ e. Opens (D.store disk).reads (Err e.1)) }
     ensures state { (D.store disk).told ≡ true → IfOk result (λ r. GivesState (D.store disk).reads r.1.state) }
     ensures ttl { IfOk result (λ r. r.1.ttl ≡ ttl) }
     ensures whole { IfOk result (λ r. is_broken r.0 ≡ false) }
@@ -45,7 +45,7 @@ fn open_from<D: Disk>(
     reading: Reading<D>,
     ttl: u64,
 ) -> Result<(Journal<D>, Core), (D, JournalFault)>
-    ensures opened { IsAtStart reading → MatchResult result (λ r. IsMadeBy (Keeps journal_names r.0) r.1) (λ e. Opens (reads_of reading) (Err e.1)) }
+    ensures opened { IsAtStart reading → MatchResult result (λ r. IsMadeBy (AreKept (reads_of reading) r.0) r.1) (λ e. Opens (reads_of reading) (Err e.1)) }
     ensures state { IsAtStart reading → IfOk result (λ r. GivesState (reads_of reading) r.1.state) }
     ensures ttl { IfOk result (λ r. r.1.ttl ≡ ttl) }
     ensures whole { IfOk result (λ r. is_broken r.0 ≡ false) }

@@ -1,11 +1,10 @@
 -- What the images of a disk say, from the disk as it was handed out to the disk behind the last link.
-use Rattle.std.proofs.Common.{◌≡◌, ◌⊎◌, ℕ, List, [], ◌++◌, Some, true, ap, inr, sym, subst, append-nil}
+use Rattle.std.proofs.Common.{◌≡◌, ◌⊎◌, ℕ, List, [], true, ap, inr, sym, subst}
 use Rattle.link_door.specs.declared.door.Door.{Ghosts as DoorGhosts}
 use Rattle.link_door.specs.declared.link.Link.{Ghosts as LinkGhosts}
-use Rattle.one_worker.specs.Standing.{GoesOn, SaysUpTo, core_in, disk_in, store_in}
+use Rattle.one_worker.specs.Standing.{GoesOn, SaysUpTo, disk_in, store_in}
 use Rattle.one_worker.specs.declared.exchange.Exchange.{Exchange}
 use Rattle.plain_exchange.specs.declared.changes.Effect.{Effect}
-use Rattle.plain_exchange.specs.Effects.{state_of}
 use Rattle.recovery.specs.Texts.{HasText}
 use Rattle.rtb_disk.specs.Stores.{Always, settled}
 use Rattle.rtb_disk.specs.declared.disk.Disk.{Ghosts}
@@ -19,12 +18,10 @@ module _ {Disk Door Link : Type 0} (G : Ghosts Disk) (H : DoorGhosts Door Link) 
       let says = opens.says told in
       let moved = on says.effects [] says.stands in
       record {
-        opened = store_in before;
-        same = opens.any_moment told;
-        state = (core_in before).state;
-        gives = says.says;
         effects = says.effects;
-        leads = subst (λ effects. state_of effects ≡ Some (core_in before).state) (append-nil says.effects) says.stands.leads;
+        says = says.says;
+        opened = store_in before;
+        same = opens.any_moment told says.effects says.says;
         more = moved.0;
         since = subst (λ store. Always (SaysUpTo says.effects moved.0) (store_in before) store) (sym (ap G.store is)) moved.1.any_moment;
       }

@@ -13,9 +13,7 @@ use Rattle.one_worker.specs.declared.door.DoorEnd.{DoorEnd}
 use Rattle.one_worker.specs.declared.door.DoorEnd.TheVariants as ending
 use Rattle.one_worker.specs.declared.exchange.Exchange.{Exchange}
 use Rattle.plain_exchange.specs.declared.changes.Effect.{Effect}
-use Rattle.plain_exchange.specs.Effects.{state_of}
-use Rattle.plain_exchange.specs.State.{State}
-use Rattle.recovery.specs.Texts.{GivesState, HasText}
+use Rattle.recovery.specs.Texts.{HasText}
 use Rattle.rtb_base.specs.Faults.{RisesOnlyWhere, Rose}
 use Rattle.rtb_disk.specs.Stores.{Always, Store, settled}
 use Rattle.rtb_disk.specs.declared.disk.Disk.{Ghosts as DiskGhosts}
@@ -36,16 +34,14 @@ abbrev pub SaysTheSame : Store → Store → Type 0
 SaysTheSame store store' = store.told ≡ true → (effects : List Effect) → HasText store.reads effects
     → (store' ≡ store) ⊎ Always (λ image. HasText image effects) (settled store) store'
 
--- The images of a disk that was handed out, while the exchange on it was opened and served. First each says what
--- the disk said. From when the journal was opened, each says effects that lead to the state that the disk gave, and
--- behind them a front of those that came since.
+-- The images of a disk that was handed out and that says these effects, while the exchange on it was opened and
+-- served. First each says the same effects; from when the journal was opened, them and behind them a front of those
+-- that came since.
 pub record Grows (store store' : Store) : Type 0 where
-  pub opened : Store
-  pub same : (effects : List Effect) → HasText store.reads effects → Always (λ image. HasText image effects) (settled store) opened
-  pub state : State
-  pub gives : GivesState store.reads state
   pub effects : List Effect
-  pub leads : state_of effects ≡ Some state
+  pub says : HasText store.reads effects
+  pub opened : Store
+  pub same : Always (λ image. HasText image effects) (settled store) opened
   pub more : List Effect
   pub since : Always (SaysUpTo effects more) opened store'
 
