@@ -1,15 +1,16 @@
-ghost use Rattle.std.specs.Prelude.{◌≡◌, true, false, ◌∷◌, [], Some, Err, length, take, drop, ◌<◌, ◌≤◌, IfOk, OnOk, OnErr, MatchResult};
+ghost use Rattle.std.specs.Prelude.{◌≡◌, true, false, ◌∷◌, [], Some, Err, length, take, drop, ◌<◌, ◌≤◌, IfErr, IfOk, OnOk, OnErr, MatchResult};
 ghost use Rattle.rtb_base.specs.Calls.{no_calls, one_call_later};
 ghost use Rattle.std.specs.Result.{is_err};
 ghost use Rattle.link_door.specs.MemoryWorld.{lacks};
 ghost use Rattle.rtb_base.specs.Faults.{CountsErrors, RisesOnlyWhere, RoseAtMost};
 ghost use Rattle.link_door.specs.Worlds.{HandsOut};
+ghost use Rattle.link_door.specs.declared.world.WorldFault.TheVariants.{Memory as memory};
 
 use crate::memory_door::MemDoor;
 use crate::world::{World, WorldFault};
 use rtb_disk::MemDisk;
 use rtb_num::{Calls, Failed, List, Txt};
-use std::alloc::{AllocError, Global};
+use std::alloc::Global;
 use std::marker::Model;
 use std::mem;
 
@@ -68,8 +69,7 @@ impl World for MemWorld {
             self.calls.count_fault();
             return Err(WorldFault::Failed);
         }
-        let doors = first_doors(&mut self.doors, n as usize)?;
-        Ok(List::from_vec(doors))
+        take_front(&mut self.doors, n as usize)
     }
 
     fn disk(&mut self, _: &Txt) -> Result<MemDisk, Failed>
@@ -85,25 +85,26 @@ impl World for MemWorld {
             self.calls.count_fault();
             return Err(Failed);
         }
-        Ok(first_disk(&mut self.disks))
+        Ok(take_first(&mut self.disks))
     }
 }
 
 // Takes the first so many.
-fn first_doors(doors: &mut Vec<MemDoor>, n: usize) -> Result<Vec<MemDoor>, AllocError>
-    requires { n ≤ length doors.old.items }
-    ensures given { IfOk result (λ first. first.items ≡ take n doors.old.items) }
-    ensures left { OnOk result (doors.new.items ≡ drop n doors.old.items) }
-    ensures kept { OnErr result (doors.new.items ≡ doors.old.items) }
+fn take_front<T: Drop>(items: &mut Vec<T>, n: usize) -> Result<List<T>, WorldFault>
+    requires { n ≤ length items.old.items }
+    ensures given { IfOk result (λ front. front ≡ take n items.old.items) }
+    ensures left { OnOk result (items.new.items ≡ drop n items.old.items) }
+    ensures kept { OnErr result (items.new.items ≡ items.old.items) }
+    ensures memory { IfErr result (λ e. e ≡ memory) }
 {
-    let rest = doors.split_off(n)?;
-    Ok(mem::replace(doors, rest))
+    let rest = items.split_off(n)?;
+    Ok(List::from_vec(mem::replace(items, rest)))
 }
 
 // Takes the first.
-fn first_disk(disks: &mut Vec<MemDisk>) -> MemDisk
-    requires { 0 < length disks.old.items }
-    ensures { disks.old.items ≡ result ∷ disks.new.items }
+fn take_first<T: Drop>(items: &mut Vec<T>) -> T
+    requires { 0 < length items.old.items }
+    ensures { items.old.items ≡ result ∷ items.new.items }
 {
-    disks.remove(0)
+    items.remove(0)
 }

@@ -101,6 +101,3 @@ fn open(rt: &HostRuntime, path: &Txt) -> Option<FileDisk> {
     let path = str::from_utf8(path.as_bytes()).ok()?;
     FileDisk::open(rt, path).ok()
 }
-
-#[cfg(test)]
-mod tests;

@@ -129,6 +129,3 @@ fn read_clock<C: Clock>(clock: &C) -> Option<u64> {
     let since = now.duration_since(SystemTime::UNIX_EPOCH).ok()?;
     u64::try_from(since.as_millis()).ok()
 }
-
-#[cfg(test)]
-mod tests;

@@ -114,14 +114,18 @@ pub(crate) fn put_answer(answer: &Answer, out: &mut Txt) -> Result<(), AllocErro
 
 fn put_reply(alloc: Global, name: &[u8], number: &[u8], out: &mut Txt) -> Result<(), AllocError> {
     match reply_of(name, number_of(number)) {
-        Some(reply) => put_answer_to(alloc, &reply, out),
+        Some(reply) => put_answer_to(alloc, reply, out),
         None => out.extend(b"no such reply"),
     }
 }
 
-fn put_answer_to(alloc: Global, reply: &Reply, out: &mut Txt) -> Result<(), AllocError> {
-    let answer = write_reply(alloc, None, reply, None)?;
-    put_answer(&answer, out)
+fn put_answer_to(alloc: Global, reply: Reply, out: &mut Txt) -> Result<(), AllocError> {
+    let answer = write_reply(alloc, None, &reply, None);
+    drop(reply);
+    let answer = answer?;
+    let written = put_answer(&answer, out);
+    drop(answer);
+    written
 }
 
 // The number that the digits spell, and 0 where there is none.
@@ -133,18 +137,26 @@ fn number_of(digits: &[u8]) -> u64 {
 }
 
 fn reply_of(name: &[u8], number: u64) -> Option<Reply> {
-    if let Some(reply) = reply_of_campaign(name, u32::try_from(number).unwrap_or(0)) {
-        return Some(reply);
+    match reply_of_campaign(name, u32::try_from(number).unwrap_or(0)) {
+        Some(reply) => Some(reply),
+        None => reply_of_sale_or_sum(name, number),
     }
-    if let Some(reply) = reply_of_sale(name, number) {
-        return Some(reply);
+}
+
+fn reply_of_sale_or_sum(name: &[u8], number: u64) -> Option<Reply> {
+    match reply_of_sale(name, number) {
+        Some(reply) => Some(reply),
+        None => reply_of_sum(name, number),
     }
+}
+
+fn reply_of_sum(name: &[u8], sum: u64) -> Option<Reply> {
     if name == b"no-bid".as_slice() {
         return Some(Reply::NoBid);
     }
     if name == b"below-committed".as_slice() {
         return Some(Reply::BelowCommitted {
-            committed: Nanos::new(number)?,
+            committed: Nanos::new(sum)?,
         });
     }
     None
@@ -196,7 +208,7 @@ fn reply_of_sale(name: &[u8], sale: u64) -> Option<Reply> {
 
 fn put_report(alloc: Global, state: &[u8], micros: u64, out: &mut Txt) -> Result<(), AllocError> {
     match report_of(state == b"live".as_slice(), micros) {
-        Some(reply) => put_answer_to(alloc, &reply, out),
+        Some(reply) => put_answer_to(alloc, reply, out),
         None => out.extend(b"no such amount"),
     }
 }
@@ -220,7 +232,7 @@ fn report_of(live: bool, micros: u64) -> Option<Reply> {
 
 fn put_full(alloc: Global, limit: &[u8], out: &mut Txt) -> Result<(), AllocError> {
     match limit_of(limit) {
-        Some(limit) => put_answer_to(alloc, &Reply::Full { limit }, out),
+        Some(limit) => put_answer_to(alloc, Reply::Full { limit }, out),
         None => out.extend(b"no such limit"),
     }
 }

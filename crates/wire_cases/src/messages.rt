@@ -1,10 +1,12 @@
 //! Calls of `http_wire`: what stands at the front of some bytes, and the texts of answers.
-ghost use Rattle.std.specs.Prelude.{◌≡◌, ◌<◌};
+ghost use Rattle.std.specs.Prelude.{◌≡◌, ◌≢◌, ◌==◌, ◌<◌, IfSome, IsTrue};
+ghost use Rattle.std.specs.List.{list_any};
+ghost use Rattle.http_wire.specs.Answers.{IsWritable, statuses};
 
 use crate::small_service::{no_content, not_allowed, with_body};
 use case_lines::{done, say};
 use http_wire::{
-    Allow, Message, Step, at_least, is_blank, memory_text, next_message, store_failed_text,
+    Allow, Answer, Message, Step, at_least, is_blank, memory_text, next_message, store_failed_text,
     write_answer,
 };
 use rtb_base::Steps;
@@ -135,53 +137,76 @@ fn put_answer(
     out: &mut Txt,
 ) -> Result<(), AllocError> {
     if status == b"204".as_slice() {
-        return write_answer(&no_content(alloc), closes, out);
+        return put_whole(no_content(alloc), closes, out);
     }
     if status != b"405".as_slice() {
         return put_body(status, body.copy()?, closes, out);
     }
     if allow == b"POST".as_slice() {
-        return write_answer(&not_allowed(alloc, Allow::Post), closes, out);
+        return put_whole(not_allowed(alloc, Allow::Post), closes, out);
     }
-    write_answer(&not_allowed(alloc, Allow::GetPost), closes, out)
+    put_whole(not_allowed(alloc, Allow::GetPost), closes, out)
 }
 
 fn put_body(status: &[u8], body: Txt, closes: bool, out: &mut Txt) -> Result<(), AllocError> {
-    if status == b"200".as_slice() {
-        return write_answer(&with_body(200, body), closes, out);
+    match status_of(status) {
+        Some(status) => put_whole(with_body(status, body), closes, out),
+        None => {
+            drop(body);
+            out.extend(b"no such status")
+        }
     }
-    if status == b"201".as_slice() {
-        return write_answer(&with_body(201, body), closes, out);
+}
+
+// The status of an answer with a body.
+fn status_of(digits: &[u8]) -> Option<u16>
+    ensures known { IfSome result (λ status. IsTrue (list_any (λ n. n == status) statuses)) }
+    ensures no_content { IfSome result (λ status. status ≢ 204) }
+    ensures not_allowed { IfSome result (λ status. status ≢ 405) }
+{
+    if digits == b"200".as_slice() {
+        return Some(200);
     }
-    if status == b"400".as_slice() {
-        return write_answer(&with_body(400, body), closes, out);
+    if digits == b"201".as_slice() {
+        return Some(201);
     }
-    if status == b"404".as_slice() {
-        return write_answer(&with_body(404, body), closes, out);
+    if digits == b"400".as_slice() {
+        return Some(400);
     }
-    if status == b"409".as_slice() {
-        return write_answer(&with_body(409, body), closes, out);
+    if digits == b"404".as_slice() {
+        return Some(404);
     }
-    if status == b"410".as_slice() {
-        return write_answer(&with_body(410, body), closes, out);
+    if digits == b"409".as_slice() {
+        return Some(409);
     }
-    if status == b"413".as_slice() {
-        return write_answer(&with_body(413, body), closes, out);
+    if digits == b"410".as_slice() {
+        return Some(410);
     }
-    if status == b"415".as_slice() {
-        return write_answer(&with_body(415, body), closes, out);
+    if digits == b"413".as_slice() {
+        return Some(413);
     }
-    if status == b"431".as_slice() {
-        return write_answer(&with_body(431, body), closes, out);
+    if digits == b"415".as_slice() {
+        return Some(415);
     }
-    if status == b"500".as_slice() {
-        return write_answer(&with_body(500, body), closes, out);
+    if digits == b"431".as_slice() {
+        return Some(431);
     }
-    if status == b"501".as_slice() {
-        return write_answer(&with_body(501, body), closes, out);
+    if digits == b"500".as_slice() {
+        return Some(500);
     }
-    if status == b"503".as_slice() {
-        return write_answer(&with_body(503, body), closes, out);
+    if digits == b"501".as_slice() {
+        return Some(501);
     }
-    out.extend(b"no such status")
+    if digits == b"503".as_slice() {
+        return Some(503);
+    }
+    None
+}
+
+fn put_whole(answer: Answer, closes: bool, out: &mut Txt) -> Result<(), AllocError>
+    requires { IsWritable answer }
+{
+    let written = write_answer(&answer, closes, out);
+    drop(answer);
+    written
 }

@@ -53,7 +53,12 @@ fn put_sent(link: &MemLink, out: &mut Txt) -> Result<(), AllocError> {
     out.extend_all(&[b"[", link.sent().as_bytes(), b"]"])
 }
 
-fn write_piece<L: Link>(link: &mut L, piece: &[u8], out: &mut Txt) -> Result<(), AllocError> {
+// What a write of the piece takes.
+pub(crate) fn write_piece<L: Link>(
+    link: &mut L,
+    piece: &[u8],
+    out: &mut Txt,
+) -> Result<(), AllocError> {
     match link.write(piece) {
         Ok(n) => {
             write_decimal(n as u64, out)?;
@@ -63,7 +68,8 @@ fn write_piece<L: Link>(link: &mut L, piece: &[u8], out: &mut Txt) -> Result<(),
     }
 }
 
-fn read_three<L: Link>(link: &mut L, out: &mut Txt) -> Result<(), AllocError> {
+// What a read of up to three bytes gives.
+pub(crate) fn read_three<L: Link>(link: &mut L, out: &mut Txt) -> Result<(), AllocError> {
     let mut piece = [0u8; 3];
     match link.read(&mut piece) {
         Ok(0) => out.extend(b"end "),

@@ -60,7 +60,9 @@ fn put_reply(
     out: &mut Txt,
 ) -> Result<(), AllocError> {
     let message = post(alloc, request)?;
-    put_response(alloc, &message, reply, public, out)
+    let written = put_response(alloc, &message, reply, public, out);
+    drop(message);
+    written
 }
 
 // The answer to the request that the message holds.
@@ -91,7 +93,9 @@ fn put_response_to(
     match command {
         Command::Auction(request) => {
             let answer = write_reply(alloc, Some(request), reply, public)?;
-            put_answer(&answer, out)
+            let written = put_answer(&answer, out);
+            drop(answer);
+            written
         }
         _ => out.extend(b"no request"),
     }
@@ -164,16 +168,20 @@ fn push_sold(
 
 // The record of the campaign's body; a body that is none is told as want of memory.
 fn record_in(alloc: Global, body: &[u8]) -> Result<SharedRecord, AllocError> {
-    match read(alloc, body) {
-        Ok(doc) => record_of(alloc, &doc),
-        Err(_) => Err(AllocError),
+    match read(alloc, body).ok() {
+        Some(doc) => {
+            let record = record_of(alloc, &doc);
+            drop(doc);
+            record
+        }
+        None => Err(AllocError),
     }
 }
 
 fn record_of(alloc: Global, doc: &Doc) -> Result<SharedRecord, AllocError> {
-    match read_campaign(alloc, doc) {
-        Ok((facts, expr)) => make_record(alloc, facts, expr),
-        Err(_) => Err(AllocError),
+    match read_campaign(alloc, doc).ok() {
+        Some((facts, expr)) => make_record(alloc, facts, expr),
+        None => Err(AllocError),
     }
 }
 

@@ -99,13 +99,13 @@ fn error(alloc: Global, word: &[u8]) -> Result<Answer, AllocError>
 fn sell(alloc: Global, body: &[u8]) -> Result<Answer, AllocError>
     ensures { IfOk result IsWritable }
 {
-    match read(alloc, body) {
-        Ok(_) => Ok(no_content(alloc)),
-        Err(JsonFault::Memory) => Err(AllocError),
-        Err(JsonFault::Utf8 { at }) => refuse(alloc, b"json-utf8", at),
-        Err(JsonFault::Syntax { at }) => refuse(alloc, b"json-syntax", at),
-        Err(JsonFault::Ended { at }) => refuse(alloc, b"json-ended", at),
-        Err(JsonFault::Deep { at }) => refuse(alloc, b"json-deep", at),
+    match read(alloc, body).err() {
+        None => Ok(no_content(alloc)),
+        Some(JsonFault::Memory) => Err(AllocError),
+        Some(JsonFault::Utf8 { at }) => refuse(alloc, b"json-utf8", at),
+        Some(JsonFault::Syntax { at }) => refuse(alloc, b"json-syntax", at),
+        Some(JsonFault::Ended { at }) => refuse(alloc, b"json-ended", at),
+        Some(JsonFault::Deep { at }) => refuse(alloc, b"json-deep", at),
     }
 }
 

@@ -1,0 +1,199 @@
+//! The links, doors and the world of the system, over this machine's loopback: what it does there, no
+//! proof sees.
+use crate::outside::{read_three, write_piece};
+use link_door::{Door, OsWorld, TcpDoor, TcpLink, World};
+use rtb_num::{Failed, List, Txt, write_decimal};
+use std::cell::Cell;
+use std::io::{self, Read, Write};
+use std::net::{TcpListener, TcpStream};
+use std::time::{Clock, Duration};
+
+/// Appends a line for each thing that is tried:
+///
+/// - `link`: a read, a read and a write at a link that a door gives, what its peer reads, and the link's
+///   next read, when the peer is gone.
+/// - `delay`: whether a link sends without delay.
+/// - `door`: what a door gives that cannot accept, and three moments of it by a clock that can be read
+///   twice, at 4998 and 4999.
+/// - `world`: for two doors at one address, whether each is reached; and whether doors and a disk come of
+///   a name that nothing has.
+pub fn put_tried(rt: &HostRuntime, out: &mut Txt) -> io::Result<()> {
+    out.extend(b"link: ")?;
+    put_link(rt, out)?;
+    out.extend(b"\ndelay: ")?;
+    put_delay(rt, out)?;
+    out.extend(b"\ndoor: ")?;
+    put_door(rt, out)?;
+    out.extend(b"\nworld: ")?;
+    put_world(rt, out)?;
+    out.push(b'\n')?;
+    Ok(())
+}
+
+fn put_link(rt: &HostRuntime, out: &mut Txt) -> io::Result<()> {
+    let listener = TcpListener::bind(rt, "127.0.0.1:0")?;
+    let peer = TcpStream::connect(rt, listener.local_addr()?)?;
+    let mut door = TcpDoor::new(listener, rt);
+    let given = door.next();
+    drop(door);
+    match given {
+        Ok(Some(link)) => put_passed(link, peer, out),
+        Ok(None) | Err(Failed) => put_none(peer, out),
+    }
+}
+
+fn put_passed(link: TcpLink, peer: TcpStream, out: &mut Txt) -> io::Result<()> {
+    let mut link = link;
+    let mut peer = peer;
+    let passed = pass_both_ways(&mut link, &mut peer, out);
+    drop(peer);
+    let read = read_three(&mut link, out);
+    drop(link);
+    read?;
+    passed
+}
+
+fn pass_both_ways(link: &mut TcpLink, peer: &mut TcpStream, out: &mut Txt) -> io::Result<()> {
+    let mut piece = [0u8; 8];
+    peer.write_all(b"hello")?;
+    read_three(link, out)?;
+    read_three(link, out)?;
+    write_piece(link, b"answer", out)?;
+    let n = peer.read(&mut piece)?;
+    out.extend_all(&[&piece[..n], b" "])?;
+    Ok(())
+}
+
+fn put_none(peer: TcpStream, out: &mut Txt) -> io::Result<()> {
+    drop(peer);
+    out.extend(b"none")?;
+    Ok(())
+}
+
+// A second handle of the stream tells of the link's.
+fn put_delay(rt: &HostRuntime, out: &mut Txt) -> io::Result<()> {
+    let listener = TcpListener::bind(rt, "127.0.0.1:0")?;
+    let stream = TcpStream::connect(rt, listener.local_addr()?)?;
+    let twin = stream.try_clone()?;
+    let link = TcpLink::new(stream)?;
+    let at_once = twin.nodelay()?;
+    drop(link);
+    out.extend(if at_once { b"no" } else { b"yes" })?;
+    Ok(())
+}
+
+fn put_door(rt: &HostRuntime, out: &mut Txt) -> io::Result<()> {
+    let listener = TcpListener::bind(rt, "127.0.0.1:0")?;
+    listener.set_nonblocking(true)?;
+    let clock = Fading { left: Cell::new(2) };
+    let mut door = TcpDoor::new(listener, clock);
+    put_given(door.next(), out)?;
+    put_moments(&mut door, out)?;
+    Ok(())
+}
+
+fn put_given(given: Result<Option<TcpLink>, Failed>, out: &mut Txt) -> io::Result<()> {
+    match given {
+        Ok(Some(link)) => {
+            drop(link);
+            out.extend(b"reached ")?;
+        }
+        Ok(None) => out.extend(b"none ")?,
+        Err(Failed) => out.extend(b"failed ")?,
+    }
+    Ok(())
+}
+
+fn put_moments(door: &mut TcpDoor<Fading>, out: &mut Txt) -> io::Result<()> {
+    for _ in 0..3u32 {
+        write_decimal(door.moment(), out)?;
+        out.push(b' ')?;
+    }
+    Ok(())
+}
+
+// A clock that can be read so many times.
+#[derive(Drop)]
+struct Fading {
+    left: Cell<u64>,
+}
+
+impl Clock for Fading {
+    fn monotonic(&self) -> io::Result<Duration> {
+        self.since_1970()
+    }
+
+    fn since_1970(&self) -> io::Result<Duration> {
+        let left = self.left.get();
+        if left == 0 {
+            return Err(io::Error::from(io::ErrorKind::Other));
+        }
+        self.left.set(left - 1);
+        Ok(Duration::from_millis(5000 - left.min(5000)))
+    }
+}
+
+fn put_world(rt: &HostRuntime, out: &mut Txt) -> io::Result<()> {
+    let mut world = OsWorld::new(rt);
+    let address = free_address(rt)?;
+    match world.doors(rt.alloc(), &address, 2) {
+        Ok(doors) => put_doors(rt, doors, &address, out)?,
+        Err(_) => out.extend(b"no doors ")?,
+    }
+    put_missing(rt, &mut world, out)
+}
+
+// An address of this machine that nobody listens on.
+fn free_address(rt: &HostRuntime) -> io::Result<Txt> {
+    let listener = TcpListener::bind(rt, "127.0.0.1:0")?;
+    let address = listener.local_addr()?;
+    let text = format!(in rt.alloc(); "{address}")?;
+    Ok(Txt::from_slice(rt.alloc(), text.as_bytes())?)
+}
+
+fn put_doors<'r>(
+    rt: &'r HostRuntime,
+    doors: List<TcpDoor<&'r HostRuntime>>,
+    address: &Txt,
+    out: &mut Txt,
+) -> io::Result<()> {
+    let mut doors = doors.into_vec();
+    let address = str::from_utf8(address.as_bytes()).unwrap_or("");
+    let written = put_reached(rt, doors.as_mut_slice(), address, out);
+    drop(doors);
+    written
+}
+
+fn put_reached<'r>(
+    rt: &'r HostRuntime,
+    doors: &mut [TcpDoor<&'r HostRuntime>],
+    address: &str,
+    out: &mut Txt,
+) -> io::Result<()> {
+    for door in doors.iter_mut() {
+        let peer = TcpStream::connect(rt, address)?;
+        let given = door.next();
+        drop(peer);
+        put_given(given, out)?;
+    }
+    Ok(())
+}
+
+fn put_missing(rt: &HostRuntime, world: &mut OsWorld<'_>, out: &mut Txt) -> io::Result<()> {
+    let nowhere = Txt::from_slice(rt.alloc(), b"nowhere/at all")?;
+    match world.doors(rt.alloc(), &nowhere, 1) {
+        Ok(doors) => {
+            drop(doors);
+            out.extend(b"doors ")?;
+        }
+        Err(_) => out.extend(b"no doors ")?,
+    }
+    match world.disk(&nowhere) {
+        Ok(disk) => {
+            drop(disk);
+            out.extend(b"disk")?;
+        }
+        Err(Failed) => out.extend(b"no disk")?,
+    }
+    Ok(())
+}
