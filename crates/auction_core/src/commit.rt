@@ -34,6 +34,7 @@ impl Core {
         ensures ttl { self.new.ttl ≡ self.old.ttl }
         ensures edits { self.new.edits ≤ self.old.edits + 1 }
     {
+        drop(draft.effect);
         self.sweep(draft.moment);
         self.carry(draft.plan, draft.moment);
         self.answer(draft.answer)

@@ -31,8 +31,8 @@ impl Core {
         ensures { (c : Campaign) → campaign_at self.now.state n ≡ Some c → IfOk result (λ e. e ≡ kept_campaign c) }
     {
         let record = self.entry(n).record();
-        let facts = record.facts.copy()?;
         let expr = record.expr.copy()?;
+        let facts = record.facts.copy()?;
         Ok(campaign_effect(self.is_live(n), facts, expr, self.book.gone(n)))
     }
 

@@ -82,9 +82,8 @@ impl Core {
         ensures sale_room { self.old.sale_room ≤ self.new.sale_room }
         ensures campaign_room { self.old.campaign_room ≤ self.new.campaign_room }
     {
-        let outcome = self.award_outcome(alloc, request, moment, awards)?;
         self.reserve_sales(awards.len() as u32)?;
-        Ok(outcome)
+        self.award_outcome(alloc, request, moment, awards)
     }
 
     // What comes of the awards.
@@ -131,8 +130,8 @@ impl Core {
         let due = moment.saturating_add(self.ttl);
         let user = user_of(request);
         let sold = self.list_sales(alloc, request, awards)?;
-        let change = sale_change(alloc, awards, due, user)?;
         let holdings = holdings(alloc, awards, due, user)?;
+        let change = sale_change(alloc, awards, due, user)?;
         Ok(Outcome {
             plan: Plan::Sell(holdings),
             answer: Answer::Told(Reply::Sold(sold)),

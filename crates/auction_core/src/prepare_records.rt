@@ -55,9 +55,9 @@ impl Core {
         ensures sale_room { self.old.sale_room ≤ self.new.sale_room }
         ensures campaign_room { self.old.campaign_room ≤ self.new.campaign_room }
     {
+        self.reserve_campaign()?;
         let entry = copy_entry(alloc, facts, expr)?;
         let change = addition(facts, expr)?;
-        self.reserve_campaign()?;
         Ok(Outcome {
             plan: Plan::Add(entry),
             answer: Answer::Told(Reply::Added {
@@ -165,24 +165,24 @@ pub(crate) fn copy_entry(
 ) -> Result<SharedRecord, AllocError>
     ensures { IfOk result (λ r. r ≡ record { facts = facts.now; expr = expr.now }) }
 {
-    let facts = facts.copy()?;
     let expr = expr.copy()?;
+    let facts = facts.copy()?;
     make_record(alloc, facts, expr)
 }
 
 fn addition(facts: &Facts, expr: &Expr) -> Result<Change, AllocError>
     ensures { IfOk result (λ c. c ≡ change.Added facts.now expr.now) }
 {
-    let facts = facts.copy()?;
     let expr = expr.copy()?;
+    let facts = facts.copy()?;
     Ok(Change::Added(facts, expr))
 }
 
 fn change_of(n: u32, facts: &Facts, expr: &Expr) -> Result<Change, AllocError>
     ensures { IfOk result (λ c. c ≡ change.Changed n facts.now expr.now) }
 {
-    let facts = facts.copy()?;
     let expr = expr.copy()?;
+    let facts = facts.copy()?;
     Ok(Change::Changed(n, facts, expr))
 }
 

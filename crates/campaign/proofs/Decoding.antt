@@ -1,11 +1,13 @@
 -- The bytes of facts are a code, in their groups.
 use Rattle.std.proofs.Common.{◌≡◌, ℕ, ◌+◌, ◌%◌, ◌<◌, ◌^◌, List, [], ◌∷◌, ◌++◌, length, Option, Some, None, is_some, Result, Ok, Err, refl, sym, ap, subst, ◌∙◌, arith, append_assoc, ℤ, pos, negsuc}
 use Rattle.std.specs.Option.{option_map, option_zip}
+use Rattle.std.specs.Prelude.{IfOk}
+use Rattle.std.specs.Result.{result_map_both}
 use Rattle.std.specs.Int.{w32, cast_unsigned}
 use Rattle.std.proofs.lemmas.Int.{ints}
 use Rattle.byte_fields.specs.Codes.{IsReadAt, IsCode, BothValid, both_bytes}
 use Rattle.byte_fields.specs.Encodings.{FitsFour, four_bytes, FitsEight, eight_bytes, IsFlag, flag_bytes, IsShort, text_bytes, IsOptionOf, option_bytes, list_bytes}
-use Rattle.byte_fields.proofs.Codes.{begins_as, both_code, code_as, flag_code, narrow_code, one_reading, option_code, read_again, read_as, read_narrow, read_none_as, three_code}
+use Rattle.byte_fields.proofs.Codes.{begins_as, both_code, code_as, flag_code, narrow_code, one_reading, option_code, read_again, read_as, read_both, read_narrow, read_no_second, read_none_as, three_code}
 use Rattle.byte_fields.proofs.Numbers.{four_code, eight_code}
 use Rattle.byte_fields.proofs.Rows.{within_code, text_code}
 use Rattle.campaign.specs.declared.parts.FactParts.{FactParts}
@@ -137,6 +139,16 @@ pub capped_again : (front back : List ℕ) (p : FactParts) (found : Option (Fact
 capped_again front back p found k r =
     subst (λ w. IsReadAt IsEncodable facts_bytes ((front ++ w) ++ back) (length front) found → found ≡ Some (without_cap p, length front + length w)) (same_bytes p)
     (read_again IsEncodable facts_bytes encodable_code front back (without_cap p) found (encodable p k)) r
+
+-- ---- the groups, one after another
+
+module _ {A B E : Type 0} (V : A → Type 0) (e : A → List ℕ) (W : B → Type 0) (f : B → List ℕ) where
+  -- what was found first, with what was found behind it
+  pub read_paired : IsCode V e → (bytes : List ℕ) (place : ℕ) (x : A) (n : ℕ) (behind : Result (Option (B × ℕ)) E) → IsReadAt V e bytes place (Some (x, n)) → IfOk behind (IsReadAt W f bytes n)
+      → IfOk (result_map_both (option_map (λ (r : B × ℕ). ((x, r.0), r.1))) (λ (fault : E). fault) behind) (IsReadAt (BothValid V W) (both_bytes e f) bytes place)
+  read_paired code bytes place x n (Ok None) first none = read_no_second V e W f code bytes place x n first none
+  read_paired code bytes place x n (Ok (Some p)) first second = read_both V e W f bytes place x n p.0 p.1 first second
+  read_paired code bytes place x n (Err fault) first second = tt
 
 -- ---- from the groups to the facts
 

@@ -1,6 +1,8 @@
 ghost use Rattle.std.specs.Prelude.{◌≡◌, ◌≤◌, List, length, All, IfOk};
 ghost use Rattle.std.specs.List.{flat_map};
-ghost use Rattle.byte_fields.specs.Codes.{IsReadAt};
+ghost use Rattle.std.specs.Option.{option_map};
+ghost use Rattle.std.specs.Result.{result_map_both};
+ghost use Rattle.byte_fields.specs.Codes.{BothValid, IsReadAt, both_bytes};
 ghost use Rattle.byte_fields.specs.Encodings.{IsListOf, IsOptionOf, IsShort, eight_bytes, list_bytes, option_bytes, text_bytes};
 ghost use Rattle.campaign.specs.declared.decode.FactBytes.TheVariants.{Memory};
 ghost use Rattle.campaign.specs.Encoding.{IsDecoded, facts_bytes, int_bytes, sides_bytes};
@@ -124,19 +126,39 @@ fn get_groups(
 ) -> Found<(((Names, Look), Money), Creative)>
     ensures { IfOk result (IsReadAt AreGroups groups_bytes bytes.now place) }
 {
+    let Some((first, next)) = get_names_look_money(alloc, bytes, place)? else {
+        return Ok(None);
+    };
+    paired(first, get_creative(alloc, bytes, next))
+}
+
+fn get_names_look_money(alloc: Global, bytes: &[u8], place: usize) -> Found<((Names, Look), Money)>
+    ensures { IfOk result (IsReadAt (BothValid (BothValid AreNames IsLook) IsMoney) (both_bytes (both_bytes names_bytes look_bytes) money_bytes) bytes.now place) }
+{
+    let Some((first, next)) = get_names_look(alloc, bytes, place)? else {
+        return Ok(None);
+    };
+    paired(first, get_money(alloc, bytes, next))
+}
+
+fn get_names_look(alloc: Global, bytes: &[u8], place: usize) -> Found<(Names, Look)>
+    ensures { IfOk result (IsReadAt (BothValid AreNames IsLook) (both_bytes names_bytes look_bytes) bytes.now place) }
+{
     let Some((names, next)) = get_names(alloc, bytes, place)? else {
         return Ok(None);
     };
-    let Some((look, next)) = get_look(alloc, bytes, next)? else {
+    paired(names, get_look(alloc, bytes, next))
+}
+
+// What was found first, with what was found behind it. A generic type is let go of in one step, so no
+// reader lets go of what was found before part by part.
+fn paired<A: Drop, B: Drop>(first: A, behind: Found<B>) -> Found<(A, B)>
+    ensures { result ≡ result_map_both (option_map (λ r. ((first, r.0), r.1))) (λ e. e) behind }
+{
+    let Some((second, next)) = behind? else {
         return Ok(None);
     };
-    let Some((money, next)) = get_money(alloc, bytes, next)? else {
-        return Ok(None);
-    };
-    let Some((creative, next)) = get_creative(alloc, bytes, next)? else {
-        return Ok(None);
-    };
-    Ok(Some(((((names, look), money), creative), next)))
+    Ok(Some(((first, second), next)))
 }
 
 fn get_names(alloc: Global, bytes: &[u8], place: usize) -> Found<Names>

@@ -84,20 +84,44 @@ impl fmt::Display for CampField {
     /// Its path, as `write` gives it.
     fn fmt<W: fmt::Write>(&self, f: &mut fmt::Formatter<W>) -> fmt::Result {
         let name = PathName(self.member());
-        match *self {
-            CampField::CatItem(place) => write!(f, "{name}[{place}]"),
-            CampField::AttrItem(place) => write!(f, "{name}[{place}]"),
-            CampField::DealsItem(place) => write!(f, "{name}[{place}]"),
-            CampField::CapCount => write!(f, "cap.{name}"),
-            CampField::CapSeconds => write!(f, "cap.{name}"),
-            CampField::Conjunction(i) => write!(f, "{name}[{i}]"),
-            CampField::Predicate(i, j) => write!(f, "{name}[{i}][{j}]"),
-            CampField::PredicateAttr(i, j) => write!(f, "target[{i}][{j}].{name}"),
-            CampField::In(i, j) => write!(f, "target[{i}][{j}].{name}"),
-            CampField::Not(i, j) => write!(f, "target[{i}][{j}].{name}"),
-            CampField::InItem(i, j, place) => write!(f, "target[{i}][{j}].{name}[{place}]"),
-            CampField::NotItem(i, j, place) => write!(f, "target[{i}][{j}].{name}[{place}]"),
-            _ => write!(f, "{name}"),
+        match Shape::of(*self) {
+            Shape::Name => name.fmt(f),
+            Shape::Item(place) => write!(f, "{name}[{place}]"),
+            Shape::InCap => write!(f, "cap.{name}"),
+            Shape::Predicate(i, j) => write!(f, "{name}[{i}][{j}]"),
+            Shape::InPredicate(i, j) => write!(f, "target[{i}][{j}].{name}"),
+            Shape::ItemInPredicate(i, j, place) => write!(f, "target[{i}][{j}].{name}[{place}]"),
+        }
+    }
+}
+
+// What stands around the name in a path.
+#[derive(Clone, Copy)]
+enum Shape {
+    Name,
+    Item(usize),
+    InCap,
+    Predicate(usize, usize),
+    InPredicate(usize, usize),
+    ItemInPredicate(usize, usize, usize),
+}
+
+impl Shape {
+    fn of(field: CampField) -> Shape {
+        match field {
+            CampField::CatItem(place)
+            | CampField::AttrItem(place)
+            | CampField::DealsItem(place)
+            | CampField::Conjunction(place) => Shape::Item(place),
+            CampField::CapCount | CampField::CapSeconds => Shape::InCap,
+            CampField::Predicate(i, j) => Shape::Predicate(i, j),
+            CampField::PredicateAttr(i, j) | CampField::In(i, j) | CampField::Not(i, j) => {
+                Shape::InPredicate(i, j)
+            }
+            CampField::InItem(i, j, place) | CampField::NotItem(i, j, place) => {
+                Shape::ItemInPredicate(i, j, place)
+            }
+            _ => Shape::Name,
         }
     }
 }

@@ -64,12 +64,32 @@ fn append_crashes(
     let before = calls_to_open(alloc, content)? as u64;
     for call in 1..=7u64 {
         put_space(call, out)?;
-        let mut disk = disk_of(alloc, content)?;
-        disk.stop_at(before.saturating_add(call));
-        let disk = disk_with_block(alloc, disk, block, false)?;
-        tell_appended(alloc, content, block, &disk, out)?;
+        let disk = disk_that_stops(alloc, content, before.saturating_add(call))?;
+        append_crash(alloc, content, disk, block, false, out)?;
     }
     Ok(())
+}
+
+// A disk with this content, each call of which fails from that number on.
+fn disk_that_stops(alloc: Global, content: &Txt, call: u64) -> Result<MemDisk, AllocError> {
+    let mut disk = disk_of(alloc, content)?;
+    disk.stop_at(call);
+    Ok(disk)
+}
+
+// What crashes behind an append to the journal on the disk leave, and a repair where that is asked.
+fn append_crash(
+    alloc: Global,
+    content: &Txt,
+    disk: MemDisk,
+    block: &[u8],
+    repairs: bool,
+    out: &mut Txt,
+) -> Result<(), AllocError> {
+    let disk = disk_with_block(alloc, disk, block, repairs)?;
+    let told = tell_appended(alloc, content, block, &disk, out);
+    drop(disk);
+    told
 }
 
 fn repair_crashes(
@@ -83,14 +103,24 @@ fn repair_crashes(
     let left = if fail < 5 { 7u64 } else { 3u64 };
     for call in 1..=left {
         put_space(call, out)?;
-        let mut fails = List::new(alloc);
-        fails.push(before)?;
-        let mut disk = MemDisk::new(alloc, content.copy()?, fails);
-        disk.stop_at(before.saturating_add(call));
-        let disk = disk_with_block(alloc, disk, block, true)?;
-        tell_appended(alloc, content, block, &disk, out)?;
+        let disk = disk_that_fails(alloc, content, before, before.saturating_add(call))?;
+        append_crash(alloc, content, disk, block, true, out)?;
     }
     Ok(())
+}
+
+// A disk with this content, of which one call fails, and each from another number on.
+fn disk_that_fails(
+    alloc: Global,
+    content: &Txt,
+    fail: u64,
+    stop: u64,
+) -> Result<MemDisk, AllocError> {
+    let mut fails = List::new(alloc);
+    fails.push(fail)?;
+    let mut disk = MemDisk::new(alloc, content.copy()?, fails);
+    disk.stop_at(stop);
+    Ok(disk)
 }
 
 // The disk behind an append of the block, and a repair where that is asked.
@@ -155,12 +185,16 @@ fn create_crashes(alloc: Global, content: &Txt, out: &mut Txt) -> Result<(), All
     let calls = calls_to_open(alloc, content)? as u64;
     for call in 1..=calls.saturating_add(1) {
         put_space(call, out)?;
-        let mut disk = disk_of(alloc, content)?;
-        disk.stop_at(call);
-        let opened = open(disk, &mut Txt::new(alloc), &mut List::new(alloc))?;
-        tell_created(alloc, &disk_behind(opened), out)?;
+        create_crash(alloc, disk_that_stops(alloc, content, call)?, out)?;
     }
     Ok(())
+}
+
+fn create_crash(alloc: Global, disk: MemDisk, out: &mut Txt) -> Result<(), AllocError> {
+    let disk = disk_behind(open(disk, &mut Txt::new(alloc), &mut List::new(alloc))?);
+    let told = tell_created(alloc, &disk, out);
+    drop(disk);
+    told
 }
 
 fn tell_created(alloc: Global, disk: &MemDisk, out: &mut Txt) -> Result<(), AllocError> {
@@ -190,19 +224,38 @@ fn compact_crashes(
     blocks: &[Txt],
     out: &mut Txt,
 ) -> Result<(), AllocError> {
-    let whole = disk_with_blocks(disk_of(alloc, content)?, blocks);
-    let calls = whole.history().len() as u64;
+    let calls = calls_to_write(alloc, content, blocks)?;
     let mut all = Txt::new(alloc);
     for block in blocks {
         all.extend(block.as_bytes())?;
     }
     for call in 1..=calls.saturating_add(1) {
         put_space(call, out)?;
-        let mut disk = disk_of(alloc, content)?;
-        disk.stop_at(call);
-        tell_written(alloc, &disk_with_blocks(disk, blocks), all.as_bytes(), out)?;
+        let disk = disk_that_stops(alloc, content, call)?;
+        compact_crash(alloc, disk, blocks, all.as_bytes(), out)?;
     }
     Ok(())
+}
+
+// How many calls of the disk it takes to write a file whole.
+fn calls_to_write(alloc: Global, content: &Txt, blocks: &[Txt]) -> Result<u64, AllocError> {
+    let disk = disk_with_blocks(disk_of(alloc, content)?, blocks);
+    let calls = disk.history().len() as u64;
+    drop(disk);
+    Ok(calls)
+}
+
+fn compact_crash(
+    alloc: Global,
+    disk: MemDisk,
+    blocks: &[Txt],
+    all: &[u8],
+    out: &mut Txt,
+) -> Result<(), AllocError> {
+    let disk = disk_with_blocks(disk, blocks);
+    let told = tell_written(alloc, &disk, all, out);
+    drop(disk);
+    told
 }
 
 fn tell_written(
@@ -212,9 +265,7 @@ fn tell_written(
     out: &mut Txt,
 ) -> Result<(), AllocError> {
     for pick in 0..8u64 {
-        let image = disk.after_crash(pick)?;
-        let again = disk.after_crash(pick)?;
-        let letter = letter_of_writing(alloc, image, again, all)?;
+        let letter = letter_of_writing(alloc, disk, pick, all)?;
         out.push(letter)?;
     }
     Ok(())
@@ -226,17 +277,23 @@ fn disk_with_blocks<D: Disk + Drop>(disk: D, blocks: &[Txt]) -> D {
     }
 }
 
-// Of an image, of which two disks are handed in.
-fn letter_of_writing<D: Disk + Drop>(
+fn letter_of_writing(
     alloc: Global,
-    image: D,
-    again: D,
+    disk: &MemDisk,
+    pick: u64,
     all: &[u8],
 ) -> Result<u8, AllocError> {
-    match write_whole(image, &[]) {
-        Written::Whole(_) => Ok(b'u'),
-        Written::Refused(_) | Written::Failed(_) => letter_of_finish(alloc, again, all),
+    if takes_blocks(disk.after_crash(pick)?) {
+        return Ok(b'u');
     }
+    letter_of_finish(alloc, disk.after_crash(pick)?, all)
+}
+
+fn takes_blocks<D: Disk + Drop>(disk: D) -> bool {
+    let written = write_whole(disk, &[]);
+    let is_whole = matches!(&written, Written::Whole(_));
+    drop(written);
+    is_whole
 }
 
 fn letter_of_finish<D: Disk + Drop>(alloc: Global, disk: D, all: &[u8]) -> Result<u8, AllocError> {

@@ -54,7 +54,18 @@ fn tell_reading(
     let mut payloads = Txt::new(alloc);
     let mut gates = List::new(alloc);
     let opened = open(disk, &mut payloads, &mut gates)?;
-    tell_gates(gates.as_slice(), out)?;
+    let told = tell_read(gates.as_slice(), &payloads, &opened, out);
+    drop(opened);
+    told
+}
+
+fn tell_read<D: Disk + Drop>(
+    gates: &[u64],
+    payloads: &Txt,
+    opened: &Opened<D>,
+    out: &mut Txt,
+) -> Result<(), AllocError> {
+    tell_gates(gates, out)?;
     out.extend_all(&[b"[", payloads.as_bytes(), b"] "])?;
     tell_end(opened, out)
 }
@@ -67,10 +78,10 @@ fn tell_gates(gates: &[u64], out: &mut Txt) -> Result<(), AllocError> {
     Ok(())
 }
 
-fn tell_end<D: Disk + Drop>(opened: Opened<D>, out: &mut Txt) -> Result<(), AllocError> {
+fn tell_end<D: Disk + Drop>(opened: &Opened<D>, out: &mut Txt) -> Result<(), AllocError> {
     match opened {
         Opened::Journal(_) => out.extend(b"end"),
-        Opened::Not(_, fault) => tell_fault(fault, out),
+        Opened::Not(_, fault) => tell_fault(*fault, out),
     }
 }
 
@@ -89,7 +100,10 @@ fn append(alloc: Global, content: &Txt, blocks: &[Txt], out: &mut Txt) -> Result
     let disk = disk_of(alloc, content)?;
     match open(disk, &mut Txt::new(alloc), &mut List::new(alloc))? {
         Opened::Journal(journal) => append_all(journal, blocks, out),
-        Opened::Not(_, fault) => tell_fault(fault, out),
+        Opened::Not(disk, fault) => {
+            drop(disk);
+            tell_fault(fault, out)
+        }
     }
 }
 
@@ -122,7 +136,10 @@ fn calls(
     );
     match open(disk, &mut Txt::new(alloc), &mut List::new(alloc))? {
         Opened::Journal(journal) => tell_calls(journal, before, block, out),
-        Opened::Not(_, fault) => tell_fault(fault, out),
+        Opened::Not(disk, fault) => {
+            drop(disk);
+            tell_fault(fault, out)
+        }
     }
 }
 
@@ -143,13 +160,26 @@ fn tell_calls(
     out: &mut Txt,
 ) -> Result<(), AllocError> {
     let mut journal = journal;
-    if !append_to(&mut journal, block) {
+    let written = write_twice(&mut journal, block, out);
+    let disk = journal.into_disk();
+    let told = match written {
+        Ok(true) => tell_behind(&disk, before, out),
+        Ok(false) => out.extend(b"failed again"),
+        Err(refused) => Err(refused),
+    };
+    drop(disk);
+    told
+}
+
+fn write_twice(
+    journal: &mut Journal<MemDisk>,
+    block: &[u8],
+    out: &mut Txt,
+) -> Result<bool, AllocError> {
+    if !append_to(journal, block) {
         out.extend(b"failed ")?;
     }
-    if !repair_with(&mut journal, block) {
-        return out.extend(b"failed again");
-    }
-    tell_behind(&journal.into_disk(), before, out)
+    Ok(repair_with(journal, block))
 }
 
 // The record behind so many calls.
@@ -161,14 +191,27 @@ fn tell_behind(disk: &MemDisk, before: usize, out: &mut Txt) -> Result<(), Alloc
 /// How many calls of the disk it takes to open a journal.
 pub fn calls_to_open(alloc: Global, content: &Txt) -> Result<usize, AllocError> {
     let disk = disk_of(alloc, content)?;
-    let opened = open(disk, &mut Txt::new(alloc), &mut List::new(alloc))?;
-    Ok(disk_behind(opened).history().len())
+    let disk = disk_behind(open(disk, &mut Txt::new(alloc), &mut List::new(alloc))?);
+    let calls = disk.history().len();
+    drop(disk);
+    Ok(calls)
 }
 
 fn find_block(alloc: Global, content: &Txt, gate: &[u8], out: &mut Txt) -> Result<(), AllocError> {
     let mut disk = disk_of(alloc, content)?;
+    let told = tell_block(alloc, &mut disk, number_in(gate).unwrap_or(0), out);
+    drop(disk);
+    told
+}
+
+fn tell_block(
+    alloc: Global,
+    disk: &mut MemDisk,
+    gate: u64,
+    out: &mut Txt,
+) -> Result<(), AllocError> {
     let mut payload = Txt::new(alloc);
-    match block_at(&mut disk, number_in(gate).unwrap_or(0), &mut payload) {
+    match block_at(disk, gate, &mut payload) {
         Ok(Some(next)) => {
             write_decimal(next, out)?;
             out.extend_all(&[b" [", payload.as_bytes(), b"]"])

@@ -11,16 +11,21 @@ use Rattle.rtb_num.proofs.Plain.{heads, tails}
 use Rattle.budget_book.specs.declared.sales.Gone.{Gone}
 use Rattle.budget_book.specs.declared.sales.SaleState.{SaleState}
 use Rattle.byte_fields.specs.Codes.{BeginsAt, IsReadAt, IsCode, BothValid, both_bytes}
-use Rattle.byte_fields.specs.Encodings.{IsByte, byte_bytes, FitsFour, four_bytes, FitsEight, eight_bytes, IsShort, text_bytes}
-use Rattle.byte_fields.proofs.Codes.{begins_as, begins_both, begins_first, begins_second, both_code, code_as, narrow_code, one_reading, read_as, read_narrow, read_none_as, three_code}
+use Rattle.byte_fields.specs.Encodings.{IsByte, byte_bytes, FitsFour, four_bytes, FitsEight, eight_bytes, IsFlag, flag_bytes, IsShort, text_bytes, IsOptionOf, option_bytes}
+use Rattle.byte_fields.proofs.Codes.{begins_as, begins_both, begins_first, begins_second, both_code, code_as, flag_code, narrow_code, one_reading, option_code, read_as, read_both, read_narrow, read_no_second, read_none_as, three_code}
 use Rattle.byte_fields.proofs.Numbers.{four_code, eight_code}
 use Rattle.byte_fields.proofs.Rows.{row_unique, text_code}
 use Rattle.campaign.specs.Caps.{CapTerms, cap_of, is_cap}
-use Rattle.effects.specs.Bodies.{AreEights, AreFours, Eights, IsItemRow, IsState, IsTag, IsTriple, Triple, eights_bytes, fours_bytes, gone_from, item_from, state_bytes, tag_bytes, triple_bytes}
+use Rattle.campaign.specs.Encoding.{facts_bytes}
+use Rattle.campaign.specs.Kept.{IsEncodable as IsUncapped}
+use Rattle.campaign.proofs.Decoding.{encodable_code as uncapped_code}
+use Rattle.effects.specs.Bodies.{AreEights, AreFours, Eights, IsAimed, IsCapped, IsCappedChange, IsItemRow, IsLive, IsLiveCapped, IsNumbered, IsState, IsTag, IsTriple, Triple, aimed_bytes, capped_bytes, capped_change_bytes, eights_bytes, fours_bytes, gone_from, item_from, live_bytes, live_capped_bytes, numbered_bytes, state_bytes, tag_bytes, triple_bytes}
 use Rattle.effects.specs.Bytes.{AreItems, IsAmount, IsCap, IsGone, IsItem, IsUser, gone_bytes, item_bytes, items_bytes, state_number, terms_bytes}
 use Rattle.effects.specs.Tags.{number_of, tag_numbered}
 use Rattle.effects.specs.declared.tag.Tag.{Tag}
 use Rattle.plain_exchange.specs.declared.changes.SoldItem.{SoldItem}
+use Rattle.target_expr.specs.Bytes.{IsEncodable as IsExpr, expr_bytes}
+use Rattle.target_expr.proofs.Encoding.{expr_code}
 
 -- ---- numbers and texts
 
@@ -76,6 +81,32 @@ cap_sizes count seconds e = (grind (arith, nat_tests), grind (arith, nat_tests))
 
 pub terms_code : IsCode IsCap terms_bytes
 terms_code = code_as AreFours fours_bytes IsCap terms_bytes fours_code fours_of (λ c v. cap_sizes c.count c.seconds v) (λ c v. refl) (λ c d v w e. ap terms_from e)
+
+-- ---- facts, with what stands before and behind them
+
+-- what was found first, with what is found behind it where something is
+pub read_behind : {A B : Type 0} (V : A → Type 0) (e : A → List ℕ) (W : B → Type 0) (f : B → List ℕ) → IsCode V e → (bytes : List ℕ) (place : ℕ) (x : A) (n : ℕ) (behind : Option (B × ℕ))
+    → IsReadAt V e bytes place (Some (x, n)) → IsReadAt W f bytes n behind → IsReadAt (BothValid V W) (both_bytes e f) bytes place (option_map (λ (r : B × ℕ). ((x, r.0), r.1)) behind)
+read_behind V e W f code bytes place x n None first none = read_no_second V e W f code bytes place x n first none
+read_behind V e W f code bytes place x n (Some p) first second = read_both V e W f bytes place x n p.0 p.1 first second
+
+pub numbered_code : IsCode IsNumbered numbered_bytes
+numbered_code = both_code FitsFour four_bytes IsUncapped facts_bytes four_code uncapped_code
+
+pub capped_code : IsCode IsCapped capped_bytes
+capped_code = both_code IsUncapped facts_bytes IsCap terms_bytes uncapped_code terms_code
+
+pub capped_change_code : IsCode IsCappedChange capped_change_bytes
+capped_change_code = both_code IsNumbered numbered_bytes IsCap terms_bytes numbered_code terms_code
+
+pub live_code : IsCode IsLive live_bytes
+live_code = both_code IsFlag flag_bytes IsUncapped facts_bytes flag_code uncapped_code
+
+pub live_capped_code : IsCode IsLiveCapped live_capped_bytes
+live_capped_code = both_code IsLive live_bytes (IsOptionOf IsCap) (option_bytes terms_bytes) live_code (option_code IsCap terms_bytes terms_code)
+
+pub aimed_code : IsCode IsAimed aimed_bytes
+aimed_code = both_code IsLiveCapped live_capped_bytes IsExpr expr_bytes live_capped_code expr_code
 
 -- ---- what is gone
 

@@ -1,5 +1,6 @@
 -- Effects are a code, and what is decoded of effects one after another.
-use Rattle.std.proofs.Common.{◌≡◌, ℕ, ◌+◌, ◌<◌, ◌≤◌, ◌==◌, ◌&&◌, not, List, [], ◌∷◌, ◌++◌, length, drop, Some, None, Result, Ok, Err, Bool, true, false, All, MatchResult, refl, sym, ap, subst, ◌∙◌, arith, append_assoc, append-nil, drop_of_length-le, length-append}
+use Rattle.std.proofs.Common.{◌≡◌, ℕ, ◌+◌, ◌<◌, ◌≤◌, ◌==◌, ◌&&◌, not, List, [], ◌∷◌, ◌++◌, length, drop, Some, None, Result, Ok, Err, Bool, true, false, cond, All, MatchResult, refl, sym, ap, subst, ◌∙◌, arith, append_assoc, append-nil, drop_of_length-le, length-append}
+use Rattle.std.specs.Option.{option_map}
 use Rattle.std.proofs.lemmas.Bool.Decides.{nat_tests}
 use Rattle.std.proofs.lemmas.List.{length-drop}
 use Rattle.std.proofs.lemmas.List.Elements.{All-head, All-tail}
@@ -8,6 +9,7 @@ use Rattle.byte_fields.specs.Encodings.{FitsEight, eight_bytes}
 use Rattle.byte_fields.proofs.Codes.{begins_from, both_code, code_as, one_reading, read_no_first, read_no_second, read_none_as, read_both}
 use Rattle.byte_fields.proofs.Numbers.{eight_code, length-eight}
 use Rattle.byte_fields.proofs.Rows.{row_more}
+use Rattle.effects.specs.Bodies.{effect_with}
 use Rattle.effects.specs.Bytes.{IsChange, IsDecoded, IsEncodable, IsTorn, change_bytes, effect_bytes, effects_bytes, is_kept}
 use Rattle.effects.specs.declared.fault.EffectFault.{EffectFault}
 use Rattle.effects.proofs.Bodied.{change_code}
@@ -57,17 +59,25 @@ is_late : (kept : Bool) (moment : ℕ) → (kept && not (moment == 0)) ≡ true 
 is_late true moment e zero = let z = zero refl in grind (arith, nat_tests)
 is_late false moment e zero = cc
 
-pub effect_late : (bytes : List ℕ) (place moment n m : ℕ) (change : Change) → IsReadAt FitsEight eight_bytes bytes place (Some (moment, n)) → IsReadAt IsChange change_bytes bytes n (Some (change, m)) → (is_kept change && not (moment == 0)) ≡ true → IsReadAt IsEncodable effect_bytes bytes place None
+effect_late : (bytes : List ℕ) (place moment n m : ℕ) (change : Change) → IsReadAt FitsEight eight_bytes bytes place (Some (moment, n)) → IsReadAt IsChange change_bytes bytes n (Some (change, m)) → (is_kept change && not (moment == 0)) ≡ true → IsReadAt IsEncodable effect_bytes bytes place None
 effect_late bytes place moment n m change first second late = λ e k v a.
     let both = read_both FitsEight eight_bytes IsChange change_bytes bytes place moment n change m first second in
     let same = one_reading IsTimed timed_bytes timed_code bytes place (moment, change) (timed_of e) m k both.0 (timed_valid e v) both.1 a in
     is_late (is_kept change) moment late
     (λ is. ap (λ (p : Timed). p.0) same.0 ∙ v.kept (ap (λ (p : Timed). is_kept p.1) (sym same.0) ∙ is))
 
-pub effect_read : (bytes : List ℕ) (place moment n m : ℕ) (change : Change) → IsReadAt FitsEight eight_bytes bytes place (Some (moment, n)) → IsReadAt IsChange change_bytes bytes n (Some (change, m)) → (is_kept change && not (moment == 0)) ≡ false → IsReadAt IsEncodable effect_bytes bytes place (Some (effect_from (moment, change), m))
+effect_read : (bytes : List ℕ) (place moment n m : ℕ) (change : Change) → IsReadAt FitsEight eight_bytes bytes place (Some (moment, n)) → IsReadAt IsChange change_bytes bytes n (Some (change, m)) → (is_kept change && not (moment == 0)) ≡ false → IsReadAt IsEncodable effect_bytes bytes place (Some (effect_from (moment, change), m))
 effect_read bytes place moment n m change first second early =
     let both = read_both FitsEight eight_bytes IsChange change_bytes bytes place moment n change m first second in
     (record { moment = both.0.0; change = both.0.1; kept = is_zero (is_kept change) moment early }, both.1)
+
+-- what is made of the moment and the change that were read, which may be none
+pub effect_made : (bytes : List ℕ) (place moment n m : ℕ) (change : Change) → IsReadAt FitsEight eight_bytes bytes place (Some (moment, n)) → IsReadAt IsChange change_bytes bytes n (Some (change, m)) → IsReadAt IsEncodable effect_bytes bytes place (option_map (λ (e : Effect). (e, m)) (effect_with moment change))
+effect_made bytes place moment n m change first second = by (is_kept change && not (moment == 0)) refl
+  where
+    by : (late : Bool) → (is_kept change && not (moment == 0)) ≡ late → IsReadAt IsEncodable effect_bytes bytes place (option_map (λ (e : Effect). (e, m)) (cond late None (Some (effect_from (moment, change)))))
+    by true is = effect_late bytes place moment n m change first second is
+    by false is = effect_read bytes place moment n m change first second is
 
 -- ---- effects one after another
 

@@ -1,5 +1,5 @@
 -- Only private clauses cite this file. Changes of one tag, and the plain pairs that their bytes are read as.
-use Rattle.std.specs.Prelude.{◌≡◌, ℕ, List, length, All, Bool, Option}
+use Rattle.std.specs.Prelude.{◌≡◌, ◌==◌, ◌&&◌, not, if◌then◌else◌, ℕ, List, length, All, Bool, Option, None, Some}
 use Rattle.budget_book.specs.declared.sales.Gone.{Gone}
 use Rattle.budget_book.specs.declared.sales.SaleRow.{SaleRow}
 use Rattle.budget_book.specs.declared.sales.SaleState.{SaleState}
@@ -9,10 +9,11 @@ use Rattle.campaign.specs.Caps.{CapTerms}
 use Rattle.campaign.specs.Encoding.{facts_bytes}
 use Rattle.campaign.specs.Kept.{IsEncodable as IsUncapped, with_cap}
 use Rattle.campaign.specs.declared.parts.FactParts.{FactParts}
-use Rattle.effects.specs.Bytes.{IsAmount, IsCap, IsChange, IsItem, state_number, terms_bytes}
+use Rattle.effects.specs.Bytes.{IsAmount, IsCap, IsChange, IsGone, IsItem, gone_bytes, is_kept, state_number, terms_bytes}
 use Rattle.effects.specs.Tags.{number_of, tag_of}
 use Rattle.effects.specs.declared.tag.Tag.{Tag}
 use Rattle.plain_exchange.specs.declared.changes.Change.{Change}
+use Rattle.plain_exchange.specs.declared.changes.Effect.{Effect}
 use Rattle.plain_exchange.specs.declared.changes.KeptCampaign.{KeptCampaign}
 use Rattle.plain_exchange.specs.declared.changes.SoldItem.{SoldItem}
 use Rattle.target_expr.specs.Bytes.{IsEncodable as IsExpr, expr_bytes}
@@ -131,6 +132,30 @@ IsCappedChange = BothValid IsNumbered IsCap
 abbrev pub capped_change_bytes : (ℕ × FactParts) × CapTerms → List ℕ
 capped_change_bytes = both_bytes numbered_bytes terms_bytes
 
+abbrev pub IsAddition : FactParts × List (List Pred) → Type 0
+IsAddition = BothValid IsUncapped IsExpr
+
+abbrev pub addition_bytes : FactParts × List (List Pred) → List ℕ
+addition_bytes = both_bytes facts_bytes expr_bytes
+
+abbrev pub IsAlteration : (ℕ × FactParts) × List (List Pred) → Type 0
+IsAlteration = BothValid IsNumbered IsExpr
+
+abbrev pub alteration_bytes : (ℕ × FactParts) × List (List Pred) → List ℕ
+alteration_bytes = both_bytes numbered_bytes expr_bytes
+
+abbrev pub IsCappedAddition : (FactParts × CapTerms) × List (List Pred) → Type 0
+IsCappedAddition = BothValid IsCapped IsExpr
+
+abbrev pub capped_addition_bytes : (FactParts × CapTerms) × List (List Pred) → List ℕ
+capped_addition_bytes = both_bytes capped_bytes expr_bytes
+
+abbrev pub IsCappedAlteration : ((ℕ × FactParts) × CapTerms) × List (List Pred) → Type 0
+IsCappedAlteration = BothValid IsCappedChange IsExpr
+
+abbrev pub capped_alteration_bytes : ((ℕ × FactParts) × CapTerms) × List (List Pred) → List ℕ
+capped_alteration_bytes = both_bytes capped_change_bytes expr_bytes
+
 abbrev pub IsLive : Bool × FactParts → Type 0
 IsLive = BothValid IsFlag IsUncapped
 
@@ -149,5 +174,15 @@ IsAimed = BothValid IsLiveCapped IsExpr
 abbrev pub aimed_bytes : ((Bool × FactParts) × Option CapTerms) × List (List Pred) → List ℕ
 aimed_bytes = both_bytes live_capped_bytes expr_bytes
 
+abbrev pub IsAimedGone : (((Bool × FactParts) × Option CapTerms) × List (List Pred)) × Gone → Type 0
+IsAimedGone = BothValid IsAimed IsGone
+
+abbrev pub aimed_gone_bytes : (((Bool × FactParts) × Option CapTerms) × List (List Pred)) × Gone → List ℕ
+aimed_gone_bytes = both_bytes aimed_bytes gone_bytes
+
 abbrev pub kept_from : ((Bool × FactParts) × Option CapTerms) × List (List Pred) → Gone → KeptCampaign
 kept_from p gone = record { live = p.0.0.0; facts = with_cap p.0.1 p.0.0.1; expr = p.1; gone = gone }
+
+-- the effect of that moment, unless the change is of a compacted journal and the moment is not 0
+abbrev pub effect_with : ℕ → Change → Option Effect
+effect_with moment change = if is_kept change && not (moment == 0) then None else Some (record { moment = moment; change = change })

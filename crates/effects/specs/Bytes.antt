@@ -1,6 +1,6 @@
 -- The bytes of effects: the moment in eight bytes, the tag in one, and what the tag says. Numbers have
 -- their greatest place first.
-use Rattle.std.specs.Prelude.{◌≡◌, ℕ, ◌≤◌, ◌^◌, List, [], ◌∷◌, ◌++◌, length, All, IsTrue, Bool, true, false, Option, Some, None, Result, Ok, Err}
+use Rattle.std.specs.Prelude.{◌≡◌, ℕ, ◌≤◌, ◌^◌, List, [], ◌++◌, length, All, IsTrue, Bool, true, false, Option, Some, None, Result, Ok, Err}
 use Rattle.std.specs.List.{flat_map}
 use Rattle.budget_book.specs.declared.sales.Gone.{Gone}
 use Rattle.budget_book.specs.declared.sales.SaleRow.{SaleRow}

@@ -1,12 +1,13 @@
 ghost use Rattle.std.specs.Prelude.{◌≡◌, ◌≤◌, length, Some, IfOk};
 ghost use Rattle.byte_fields.specs.Codes.{IsReadAt};
 ghost use Rattle.campaign.specs.Kept.{with_cap};
-ghost use Rattle.effects.specs.Bodies.{IsCapped, IsCappedChange, IsNumbered, IsTagged, capped_bytes, capped_change_bytes, numbered_bytes};
+ghost use Rattle.effects.specs.Bodies.{IsAddition, IsAlteration, IsCapped, IsCappedAddition, IsCappedAlteration, IsCappedChange, IsNumbered, IsTagged, addition_bytes, alteration_bytes, capped_addition_bytes, capped_alteration_bytes, capped_bytes, capped_change_bytes, numbered_bytes};
 ghost use Rattle.effects.specs.Bytes.{body_bytes};
 ghost use Rattle.effects.specs.declared.tag.Tag.{Tag as tag_type};
 ghost use Rattle.plain_exchange.specs.declared.changes.Change.{Change as change_type};
 
 use crate::fields::{get_expr, get_facts, get_terms, get_user};
+use crate::found::paired;
 use crate::items::get_items;
 use byte_fields::{Found, get_eight, get_four};
 use campaign::{Cap, Facts};
@@ -53,10 +54,7 @@ fn get_capped_facts(alloc: Global, bytes: &[u8], place: usize) -> Found<(Facts, 
     let Some((facts, next)) = get_facts(alloc, bytes, place)? else {
         return Ok(None);
     };
-    let Some((cap, next)) = get_terms(bytes, next) else {
-        return Ok(None);
-    };
-    Ok(Some(((facts, cap), next)))
+    paired(facts, Ok(get_terms(bytes, next)))
 }
 
 fn get_capped_change(alloc: Global, bytes: &[u8], place: usize) -> Found<((u32, Facts), Cap)>
@@ -65,78 +63,110 @@ fn get_capped_change(alloc: Global, bytes: &[u8], place: usize) -> Found<((u32, 
     let Some((numbered, next)) = get_numbered_facts(alloc, bytes, place)? else {
         return Ok(None);
     };
-    let Some((cap, next)) = get_terms(bytes, next) else {
-        return Ok(None);
-    };
-    Ok(Some(((numbered, cap), next)))
+    paired(numbered, Ok(get_terms(bytes, next)))
 }
 
 pub(crate) fn get_added(alloc: Global, bytes: &[u8], place: usize) -> Found<Change>
     ensures { IfOk result (IsReadAt (IsTagged tag_type.Added) body_bytes bytes.now place) }
 {
+    let Some((added, next)) = get_facts_expr(alloc, bytes, place)? else {
+        return Ok(None);
+    };
+    Ok(Some((added_from(added), next)))
+}
+
+fn get_facts_expr(alloc: Global, bytes: &[u8], place: usize) -> Found<(Facts, Expr)>
+    ensures { IfOk result (IsReadAt IsAddition addition_bytes bytes.now place) }
+{
     let Some((facts, next)) = get_facts(alloc, bytes, place)? else {
         return Ok(None);
     };
-    let Some((expr, next)) = get_expr(alloc, bytes, next)? else {
-        return Ok(None);
-    };
-    Ok(Some((Change::Added(facts, expr), next)))
+    paired(facts, get_expr(alloc, bytes, next))
+}
+
+fn added_from(added: (Facts, Expr)) -> Change
+    ensures { result ≡ change_type.Added added.0 added.1 }
+{
+    let (facts, expr) = added;
+    Change::Added(facts, expr)
 }
 
 pub(crate) fn get_changed(alloc: Global, bytes: &[u8], place: usize) -> Found<Change>
     ensures { IfOk result (IsReadAt (IsTagged tag_type.Changed) body_bytes bytes.now place) }
 {
+    let Some((changed, next)) = get_numbered_facts_expr(alloc, bytes, place)? else {
+        return Ok(None);
+    };
+    Ok(Some((changed_from(changed), next)))
+}
+
+fn get_numbered_facts_expr(alloc: Global, bytes: &[u8], place: usize) -> Found<((u32, Facts), Expr)>
+    ensures { IfOk result (IsReadAt IsAlteration alteration_bytes bytes.now place) }
+{
     let Some((numbered, next)) = get_numbered_facts(alloc, bytes, place)? else {
         return Ok(None);
     };
-    let Some((expr, next)) = get_expr(alloc, bytes, next)? else {
-        return Ok(None);
-    };
-    Ok(Some((change_from(numbered, expr), next)))
+    paired(numbered, get_expr(alloc, bytes, next))
 }
 
-fn change_from(numbered: (u32, Facts), expr: Expr) -> Change
-    ensures { result ≡ change_type.Changed numbered.0 numbered.1 expr }
+fn changed_from(changed: ((u32, Facts), Expr)) -> Change
+    ensures { result ≡ change_type.Changed changed.0.0 changed.0.1 changed.1 }
 {
-    let (n, facts) = numbered;
+    let ((n, facts), expr) = changed;
     Change::Changed(n, facts, expr)
 }
 
 pub(crate) fn get_capped_added(alloc: Global, bytes: &[u8], place: usize) -> Found<Change>
     ensures { IfOk result (IsReadAt (IsTagged tag_type.CappedAdded) body_bytes bytes.now place) }
 {
+    let Some((added, next)) = get_capped_facts_expr(alloc, bytes, place)? else {
+        return Ok(None);
+    };
+    Ok(Some((capped_added_from(added), next)))
+}
+
+fn get_capped_facts_expr(alloc: Global, bytes: &[u8], place: usize) -> Found<((Facts, Cap), Expr)>
+    ensures { IfOk result (IsReadAt IsCappedAddition capped_addition_bytes bytes.now place) }
+{
     let Some((capped, next)) = get_capped_facts(alloc, bytes, place)? else {
         return Ok(None);
     };
-    let Some((expr, next)) = get_expr(alloc, bytes, next)? else {
-        return Ok(None);
-    };
-    Ok(Some((capped_addition_from(capped, expr), next)))
+    paired(capped, get_expr(alloc, bytes, next))
 }
 
-fn capped_addition_from(capped: (Facts, Cap), expr: Expr) -> Change
-    ensures { result ≡ change_type.Added (with_cap (Some capped.1) capped.0) expr }
+fn capped_added_from(added: ((Facts, Cap), Expr)) -> Change
+    ensures { result ≡ change_type.Added (with_cap (Some added.0.1) added.0.0) added.1 }
 {
-    let (facts, cap) = capped;
+    let ((facts, cap), expr) = added;
     Change::Added(facts.with_cap(Some(cap)), expr)
 }
 
 pub(crate) fn get_capped_changed(alloc: Global, bytes: &[u8], place: usize) -> Found<Change>
     ensures { IfOk result (IsReadAt (IsTagged tag_type.CappedChanged) body_bytes bytes.now place) }
 {
+    let Some((changed, next)) = get_capped_change_expr(alloc, bytes, place)? else {
+        return Ok(None);
+    };
+    Ok(Some((capped_changed_from(changed), next)))
+}
+
+fn get_capped_change_expr(
+    alloc: Global,
+    bytes: &[u8],
+    place: usize,
+) -> Found<(((u32, Facts), Cap), Expr)>
+    ensures { IfOk result (IsReadAt IsCappedAlteration capped_alteration_bytes bytes.now place) }
+{
     let Some((capped, next)) = get_capped_change(alloc, bytes, place)? else {
         return Ok(None);
     };
-    let Some((expr, next)) = get_expr(alloc, bytes, next)? else {
-        return Ok(None);
-    };
-    Ok(Some((capped_change_from(capped, expr), next)))
+    paired(capped, get_expr(alloc, bytes, next))
 }
 
-fn capped_change_from(capped: ((u32, Facts), Cap), expr: Expr) -> Change
-    ensures { result ≡ change_type.Changed capped.0.0 (with_cap (Some capped.1) capped.0.1) expr }
+fn capped_changed_from(changed: (((u32, Facts), Cap), Expr)) -> Change
+    ensures { result ≡ change_type.Changed changed.0.0.0 (with_cap (Some changed.0.1) changed.0.0.1) changed.1 }
 {
-    let ((n, facts), cap) = capped;
+    let (((n, facts), cap), expr) = changed;
     Change::Changed(n, facts.with_cap(Some(cap)), expr)
 }
 

@@ -1,6 +1,7 @@
 ghost use Rattle.std.specs.Prelude.{◌≡◌, ◌≤◌, ◌==◌, ◌&&◌, not, length, All, IfOk, MatchResult};
+ghost use Rattle.std.specs.Option.{option_map};
 ghost use Rattle.byte_fields.specs.Codes.{IsReadAt};
-ghost use Rattle.effects.specs.Bodies.{IsTagged};
+ghost use Rattle.effects.specs.Bodies.{IsTagged, effect_with};
 ghost use Rattle.effects.specs.declared.fault.EffectFault.TheVariants.{Memory as memory};
 ghost use Rattle.effects.specs.Bytes.{IsChange, IsDecoded, IsEncodable, body_bytes, change_bytes, effect_bytes, effects_bytes, is_kept};
 
@@ -45,10 +46,19 @@ fn get_effect(alloc: Global, bytes: &[u8], place: usize) -> Found<Effect>
     let Some((change, next)) = get_change(alloc, bytes, next)? else {
         return Ok(None);
     };
+    Ok(effect_with(moment, change, next))
+}
+
+// The effect of that moment with the place behind it, unless the change is of a compacted journal and
+// the moment is not 0.
+fn effect_with(moment: u64, change: Change, next: usize) -> Option<(Effect, usize)>
+    ensures { result ≡ option_map (λ e. (e, next)) (effect_with moment change) }
+{
     if is_late(&change, moment) {
-        return Ok(None);
+        drop(change);
+        return None;
     }
-    Ok(Some((Effect { moment, change }, next)))
+    Some((Effect { moment, change }, next))
 }
 
 // Whether it is of a compacted journal, and yet of a moment other than 0.

@@ -1,12 +1,13 @@
 ghost use Rattle.std.specs.Prelude.{◌≡◌, IfOk};
 ghost use Rattle.byte_fields.specs.Codes.{IsReadAt};
-ghost use Rattle.effects.specs.Bodies.{IsAimed, IsDated, IsLive, IsLiveCapped, IsStated, IsTagged, aimed_bytes, dated_bytes, kept_from, live_bytes, live_capped_bytes, row_from, stated_bytes};
+ghost use Rattle.effects.specs.Bodies.{IsAimed, IsAimedGone, IsDated, IsLive, IsLiveCapped, IsStated, IsTagged, aimed_bytes, aimed_gone_bytes, dated_bytes, kept_from, live_bytes, live_capped_bytes, row_from, stated_bytes};
 ghost use Rattle.effects.specs.Bytes.{body_bytes};
 ghost use Rattle.effects.specs.declared.tag.Tag.{Tag as tag_type};
 
 use crate::fields::{
     get_expr, get_facts, get_gone, get_optional_cap, get_optional_user, get_state, get_triple,
 };
+use crate::found::paired;
 use budget_book::{Gone, SaleRow, SaleState};
 use byte_fields::{Found, get_eight, get_flag};
 use campaign::{Cap, Facts};
@@ -14,6 +15,9 @@ use plain_exchange::{Change, KeptCampaign};
 use rtb_num::{Nanos, Txt};
 use std::alloc::Global;
 use target_expr::Expr;
+
+// Whether it is live and its facts, its cap, its expression.
+type Aimed = (((bool, Facts), Option<Cap>), Expr);
 
 // Campaign and price, moment, due.
 type Dated = (((u32, Nanos), u64), u64);
@@ -36,44 +40,40 @@ fn get_kept_cap(alloc: Global, bytes: &[u8], place: usize) -> Found<((bool, Fact
     let Some((facts, next)) = get_live_facts(alloc, bytes, place)? else {
         return Ok(None);
     };
-    let Some((cap, next)) = get_optional_cap(bytes, next) else {
-        return Ok(None);
-    };
-    Ok(Some(((facts, cap), next)))
+    paired(facts, Ok(get_optional_cap(bytes, next)))
 }
 
-fn get_kept_expr(
-    alloc: Global,
-    bytes: &[u8],
-    place: usize,
-) -> Found<(((bool, Facts), Option<Cap>), Expr)>
+fn get_kept_expr(alloc: Global, bytes: &[u8], place: usize) -> Found<Aimed>
     ensures { IfOk result (IsReadAt IsAimed aimed_bytes bytes.now place) }
 {
     let Some((facts, next)) = get_kept_cap(alloc, bytes, place)? else {
         return Ok(None);
     };
-    let Some((expr, next)) = get_expr(alloc, bytes, next)? else {
-        return Ok(None);
-    };
-    Ok(Some(((facts, expr), next)))
+    paired(facts, get_expr(alloc, bytes, next))
 }
 
 pub(crate) fn get_kept(alloc: Global, bytes: &[u8], place: usize) -> Found<Change>
     ensures { IfOk result (IsReadAt (IsTagged tag_type.Kept) body_bytes bytes.now place) }
 {
-    let Some((stated, next)) = get_kept_expr(alloc, bytes, place)? else {
+    let Some((kept, next)) = get_kept_gone(alloc, bytes, place)? else {
         return Ok(None);
     };
-    let Some((gone, next)) = get_gone(bytes, next) else {
-        return Ok(None);
-    };
-    Ok(Some((Change::Kept(kept_from(stated, gone)), next)))
+    Ok(Some((Change::Kept(kept_from(kept)), next)))
 }
 
-fn kept_from(stated: (((bool, Facts), Option<Cap>), Expr), gone: Gone) -> KeptCampaign
-    ensures { result ≡ kept_from stated gone }
+fn get_kept_gone(alloc: Global, bytes: &[u8], place: usize) -> Found<(Aimed, Gone)>
+    ensures { IfOk result (IsReadAt IsAimedGone aimed_gone_bytes bytes.now place) }
 {
-    let (((live, facts), cap), expr) = stated;
+    let Some((aimed, next)) = get_kept_expr(alloc, bytes, place)? else {
+        return Ok(None);
+    };
+    paired(aimed, Ok(get_gone(bytes, next)))
+}
+
+fn kept_from(kept: (Aimed, Gone)) -> KeptCampaign
+    ensures { result ≡ kept_from kept.0 kept.1 }
+{
+    let ((((live, facts), cap), expr), gone) = kept;
     KeptCampaign {
         live,
         facts: facts.with_cap(cap),

@@ -9,6 +9,7 @@ mod decoder;
 mod encoder;
 mod fault;
 mod fields;
+mod found;
 mod items;
 mod kept;
 mod laws;

@@ -1,10 +1,11 @@
 // What the exchange answers to a bid request.
 ghost use Rattle.std.specs.Prelude.{◌≡◌, ◌≤◌, ◌<◌, ◌^◌, false, length, IfOk, IsSome, IsTrue};
 ghost use Rattle.auction_core.specs.Draft.{found_of, is_simple, is_valid_command};
-ghost use Rattle.exchange_run.specs.Exchange.{line_for, reply_at_opening};
+ghost use Rattle.exchange_run.specs.Exchange.{line_for, reply_at_opening, ttl};
 ghost use Rattle.exchange_run.specs.Making.{campaigns_named, first_reply};
 ghost use Rattle.exchange_run.specs.Words.{campaigns_of};
 ghost use Rattle.plain_exchange.specs.declared.commands.Command.TheVariants.{Auction};
+ghost use Rattle.plain_exchange.specs.State.{empty};
 ghost use Rattle.plain_exchange.specs.Step.{step};
 ghost use Rattle.rtb_types.specs.declared.request.BidRequest.{BidRequest as Request};
 ghost use Rattle.rtb_types.specs.Valid.{is_valid};
@@ -35,7 +36,9 @@ pub(crate) fn auction_line(
     ensures { IfOk result (λ t. t ≡ line_for request (reply_at_opening (campaigns_named words.now) request)) }
 {
     let command = Command::Auction(request);
-    command_line(alloc, words, &command)
+    let line = command_line(alloc, words, &command);
+    drop(command);
+    line
 }
 
 // The same, to the request as a command.
@@ -47,7 +50,9 @@ fn command_line(alloc: Global, words: &[Txt], command: &Command) -> Result<Txt, 
     ensures { (r : Request) → command.now ≡ Auction r → IfOk result (λ t. t ≡ line_for r (reply_at_opening (campaigns_named words.now) r)) }
 {
     let reply = first_reply(alloc, words, command)?;
-    line_to(alloc, command, &reply)
+    let line = line_to(alloc, command, &reply);
+    drop(reply);
+    line
 }
 
 fn line_to(alloc: Global, command: &Command, reply: &Reply) -> Result<Txt, AllocError>
@@ -77,18 +82,37 @@ fn first_reply(alloc: Global, words: &[Txt], command: &Command) -> Result<Reply,
     ensures { IfOk result (λ r. r ≡ first_reply (campaigns_named words.now) command.now) }
 {
     let mut core = Core::new(alloc, TTL);
-    add_campaigns(alloc, &mut core, words)?;
+    let reply = reply_with(alloc, &mut core, words, command);
+    drop(core);
+    reply
+}
+
+// The same, of an exchange that is new.
+fn reply_with(
+    alloc: Global,
+    core: &mut Core,
+    words: &[Txt],
+    command: &Command,
+) -> Result<Reply, AllocError>
+    requires campaigns { IsSome (campaigns_of words.now) }
+    requires few { length words.now ≤ 64 }
+    requires valid { IsTrue (is_valid_command command.now) }
+    requires empty { core.old.state ≡ empty }
+    requires unedited { core.old.edits ≡ 0 }
+    requires held { core.old.ttl ≡ ttl }
+    ensures { IfOk result (λ r. r ≡ first_reply (campaigns_named words.now) command.now) }
+{
+    add_campaigns(alloc, core, words)?;
     reply_of(alloc, core, command)
 }
 
 // The exchange's reply to the command, which comes at moment 0.
-fn reply_of(alloc: Global, core: Core, command: &Command) -> Result<Reply, AllocError>
+fn reply_of(alloc: Global, core: &mut Core, command: &Command) -> Result<Reply, AllocError>
     requires valid { IsTrue (is_valid_command command.now) }
-    requires few { core.edits < 2 ^ 63 }
-    ensures { IfOk result (λ r. r ≡ (step core.ttl 0 core.state command.now).reply) }
+    requires few { core.old.edits < 2 ^ 63 }
+    ensures { IfOk result (λ r. r ≡ (step core.old.ttl 0 core.old.state command.now).reply) }
 {
-    let mut core = core;
-    let found = find_campaigns::<Brand>(alloc, &core, command, Blank::new(1))?;
+    let found = find_campaigns::<Brand>(alloc, core, command, Blank::new(1))?;
     let draft = core.prepare(alloc, command, found.as_slice(), 0)?;
     Ok(core.commit(draft))
 }
@@ -107,5 +131,7 @@ fn find_campaigns<L: Ledger>(
 {
     let mut steps = Steps::<L>::new(blank);
     let index = index_of_live(alloc, core.table(), &mut steps)?;
-    find_by_index(alloc, &index, command, &mut steps)
+    let found = find_by_index(alloc, &index, command, &mut steps);
+    drop(index);
+    found
 }

@@ -50,7 +50,9 @@ fn add(
     ensures edits { OnOk result (core.new.edits ≡ core.old.edits + 1) }
 {
     let addition = addition(alloc, number, bid, domain)?;
-    carry_out(alloc, core, &addition)
+    let carried = carry_out(alloc, core, &addition);
+    drop(addition);
+    carried
 }
 
 // Carries out an effect that fits.
@@ -80,12 +82,17 @@ fn addition(
     requires short { IsTrue (is_short (option_map (λ d. d.now) domain)) }
     ensures { IfOk result (λ e. e ≡ addition_of number (record { bid = bid; domain = option_map (λ d. d.now) domain.entry })) }
 {
-    let facts = facts(alloc, number, bid)?;
     let target = target(alloc, domain)?;
-    Ok(Effect {
-        moment: 0,
-        change: Change::Added(facts, target),
-    })
+    match facts(alloc, number, bid) {
+        Ok(facts) => Ok(Effect {
+            moment: 0,
+            change: Change::Added(facts, target),
+        }),
+        Err(error) => {
+            drop(target);
+            Err(error)
+        }
+    }
 }
 
 // The facts of the campaign of that number, which have no fault.
@@ -103,9 +110,13 @@ fn facts(alloc: Global, number: u32, bid: Micros) -> Result<Facts, AllocError>
 fn parts(alloc: Global, number: u32, bid: Micros) -> Result<FactParts, AllocError>
     ensures { IfOk result (λ p. p ≡ facts_of number bid) }
 {
+    let seat = numbered_text(alloc, b"s", number)?;
+    let adomain = advertiser_domain(alloc, number)?;
+    let adm = numbered_text(alloc, b"ad ", number)?;
+    let crid = numbered_text(alloc, b"cr", number)?;
     Ok(FactParts {
-        seat: numbered_text(alloc, b"s", number)?,
-        adomain: advertiser_domain(alloc, number)?,
+        seat,
+        adomain,
         cat: List::new(alloc),
         w: None,
         h: None,
@@ -114,8 +125,8 @@ fn parts(alloc: Global, number: u32, bid: Micros) -> Result<FactParts, AllocErro
         bid,
         deals: List::new(alloc),
         budget: budget(),
-        adm: numbered_text(alloc, b"ad ", number)?,
-        crid: numbered_text(alloc, b"cr", number)?,
+        adm,
+        crid,
         adid: None,
         cap: None,
     })

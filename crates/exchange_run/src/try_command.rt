@@ -107,7 +107,11 @@ fn bytes_reply(alloc: Global, words: &[Txt], bytes: &[u8]) -> Result<Reply, Allo
         return refusal(alloc, b"body-too-large");
     }
     match read(alloc, bytes) {
-        Ok(doc) => doc_reply(alloc, words, &doc),
+        Ok(doc) => {
+            let reply = doc_reply(alloc, words, &doc);
+            drop(doc);
+            reply
+        }
         Err(fault) => json_refusal(alloc, fault),
     }
 }

@@ -3,6 +3,7 @@ use crate::targeting::put_expr_fault;
 use campaign::{CampField, Cap, FactBytes, FactFault, FactParts, Facts};
 use campaign_read::{CampFault, read_campaign};
 use case_lines::{done, number_in, put_comma};
+use exact_json::Doc;
 use rtb_num::{List, Micros, Nanos, PriceFault, Txt, write_decimal, write_signed};
 use std::alloc::{AllocError, Global};
 use target_expr::Expr;
@@ -66,16 +67,26 @@ pub fn campaign_of(alloc: Global, text: &Txt) -> Result<Option<(Facts, Expr)>, A
 // ---- what is read
 
 fn verdict(alloc: Global, text: &Txt, out: &mut Txt) -> Result<(), AllocError> {
-    let Ok(doc) = exact_json::read(alloc, text.as_bytes()) else {
-        return out.extend(b"no JSON");
-    };
-    match read_campaign(alloc, &doc) {
-        Ok((facts, target)) => {
-            put_facts(&facts, out)?;
-            put_size(&target, out)
+    match exact_json::read(alloc, text.as_bytes()) {
+        Ok(doc) => put_campaign(alloc, &doc, out),
+        Err(_) => out.extend(b"no JSON"),
+    }
+}
+
+fn put_campaign(alloc: Global, doc: &Doc, out: &mut Txt) -> Result<(), AllocError> {
+    match read_campaign(alloc, doc) {
+        Ok(read) => {
+            let written = put_stated(&read.0, &read.1, out);
+            drop(read);
+            written
         }
         Err(fault) => put_fault(alloc, fault, out),
     }
+}
+
+fn put_stated(facts: &Facts, target: &Expr, out: &mut Txt) -> Result<(), AllocError> {
+    put_facts(facts, out)?;
+    put_size(target, out)
 }
 
 fn put_size(target: &Expr, out: &mut Txt) -> Result<(), AllocError> {
@@ -95,11 +106,15 @@ fn put_number(words: &[u8], n: u64, out: &mut Txt) -> Result<(), AllocError> {
 // Why the text is no campaign, in words.
 fn put_why(alloc: Global, text: &Txt, out: &mut Txt) -> Result<(), AllocError> {
     match exact_json::read(alloc, text.as_bytes()) {
-        Ok(doc) => match read_campaign(alloc, &doc) {
-            Ok(_) => out.extend(b"it is one"),
-            Err(fault) => out.extend(format!(in alloc; "{fault}")?.as_bytes()),
-        },
+        Ok(doc) => put_why_of(alloc, &doc, out),
         Err(fault) => out.extend(format!(in alloc; "{fault}")?.as_bytes()),
+    }
+}
+
+fn put_why_of(alloc: Global, doc: &Doc, out: &mut Txt) -> Result<(), AllocError> {
+    match read_campaign(alloc, doc).err() {
+        None => out.extend(b"it is one"),
+        Some(fault) => out.extend(format!(in alloc; "{fault}")?.as_bytes()),
     }
 }
 
@@ -260,32 +275,42 @@ fn make_facts(alloc: Global, said: &[Txt], out: &mut Txt) -> Result<(), AllocErr
     let (Some(bid), Some(budget)) = (Micros::new(2_500_000), Nanos::new(5_000_000_000)) else {
         return out.extend(b"unreadable");
     };
-    let mut parts = right(alloc, bid, budget)?;
-    for field in said {
-        if !set(alloc, field.as_bytes(), &mut parts)? {
-            return out.extend(b"unreadable");
+    let mut parts = bare(alloc, bid, budget);
+    match set_all(alloc, said, &mut parts) {
+        Ok(true) => put_facts_of(alloc, parts, out),
+        Ok(false) => {
+            drop(parts);
+            out.extend(b"unreadable")
+        }
+        Err(refused) => {
+            drop(parts);
+            Err(refused)
         }
     }
-    put_facts_of(alloc, parts, out)
+}
+
+// Makes the parts right, and then sets the fields. False where one is none.
+fn set_all(alloc: Global, said: &[Txt], parts: &mut FactParts) -> Result<bool, AllocError> {
+    parts.seat.extend(b"s1")?;
+    parts.adomain.extend(b"a.b")?;
+    parts.crid.extend(b"c")?;
+    for field in said {
+        if !set(alloc, field.as_bytes(), parts)? {
+            return Ok(false);
+        }
+    }
+    Ok(true)
 }
 
 fn put_facts_of(alloc: Global, parts: FactParts, out: &mut Txt) -> Result<(), AllocError> {
     if parts.budget.get() % 1000 != 0 {
+        drop(parts);
         return out.extend(b"unreadable");
     }
-    match Facts::make(parts) {
-        Ok(_) => out.extend(b"made"),
-        Err(fault) => put_fact(alloc, fault, out),
+    match Facts::make(parts).err() {
+        None => out.extend(b"made"),
+        Some(fault) => put_fact(alloc, fault, out),
     }
-}
-
-// Parts without fault.
-fn right(alloc: Global, bid: Micros, budget: Nanos) -> Result<FactParts, AllocError> {
-    let mut parts = bare(alloc, bid, budget);
-    parts.seat.extend(b"s1")?;
-    parts.adomain.extend(b"a.b")?;
-    parts.crid.extend(b"c")?;
-    Ok(parts)
 }
 
 // Parts whose texts are empty.
@@ -433,9 +458,20 @@ fn micros_in(text: &[u8]) -> Option<Micros> {
 
 fn encode(alloc: Global, text: &Txt, out: &mut Txt) -> Result<(), AllocError> {
     match campaign_of(alloc, text)? {
-        Some((facts, _)) => facts.copy()?.encode(out),
+        Some(read) => {
+            let written = encode_copy(&read.0, out);
+            drop(read);
+            written
+        }
         None => out.extend(b"unreadable"),
     }
+}
+
+fn encode_copy(facts: &Facts, out: &mut Txt) -> Result<(), AllocError> {
+    let copy = facts.copy()?;
+    let written = copy.encode(out);
+    drop(copy);
+    written
 }
 
 fn decode(alloc: Global, bytes: &Txt, place: &Txt, out: &mut Txt) -> Result<(), AllocError> {
@@ -447,14 +483,20 @@ fn decode(alloc: Global, bytes: &Txt, place: &Txt, out: &mut Txt) -> Result<(), 
 
 fn decode_at(alloc: Global, bytes: &[u8], place: usize, out: &mut Txt) -> Result<(), AllocError> {
     match Facts::decode(alloc, bytes, place) {
-        Ok((facts, next)) => {
-            write_decimal(next as u64, out)?;
-            out.extend(b": ")?;
-            put_facts(&facts, out)
+        Ok(read) => {
+            let written = put_facts_behind(read.1, &read.0, out);
+            drop(read);
+            written
         }
         Err(FactBytes::Torn { at }) => put_count(b"torn ", at, out),
         Err(FactBytes::Memory) => Err(AllocError),
     }
+}
+
+fn put_facts_behind(next: usize, facts: &Facts, out: &mut Txt) -> Result<(), AllocError> {
+    put_count(b"", next, out)?;
+    out.extend(b": ")?;
+    put_facts(facts, out)
 }
 
 fn put_torn_fronts(alloc: Global, bytes: &[u8], out: &mut Txt) -> Result<(), AllocError> {

@@ -1,6 +1,6 @@
 //! Calls of `rtb_read`: bid requests and their faults.
 use case_lines::{done, put_comma};
-use exact_json::read;
+use exact_json::{Doc, read};
 use rtb_num::{List, Micros, PriceFault, Txt, write_decimal, write_signed};
 use rtb_read::{ReqFault, read_request};
 use rtb_types::{App, Banner, BidRequest, Deal, Device, Field, Geo, Imp, Pmp, Site, Size, User};
@@ -32,11 +32,15 @@ pub fn answer(alloc: Global, call: &[u8], args: &[Txt], out: &mut Txt) -> Result
 
 fn judge(alloc: Global, text: &[u8], out: &mut Txt) -> Result<(), AllocError> {
     match read(alloc, text) {
-        Ok(doc) => match read_request(alloc, &doc) {
-            Ok(_) => out.extend(b"ok"),
-            Err(fault) => put_fault(alloc, fault, out),
-        },
+        Ok(doc) => judge_doc(alloc, &doc, out),
         Err(_) => out.extend(b"unreadable"),
+    }
+}
+
+fn judge_doc(alloc: Global, doc: &Doc, out: &mut Txt) -> Result<(), AllocError> {
+    match read_request(alloc, doc).err() {
+        None => out.extend(b"ok"),
+        Some(fault) => put_fault(alloc, fault, out),
     }
 }
 
@@ -91,11 +95,15 @@ fn put_count(word: &[u8], count: usize, out: &mut Txt) -> Result<(), AllocError>
 // Why the text is no request, in words.
 fn put_why(alloc: Global, text: &[u8], out: &mut Txt) -> Result<(), AllocError> {
     match read(alloc, text) {
-        Ok(doc) => match read_request(alloc, &doc) {
-            Ok(_) => out.extend(b"it is one"),
-            Err(fault) => out.extend(format!(in alloc; "{fault}")?.as_bytes()),
-        },
+        Ok(doc) => put_why_of(alloc, &doc, out),
         Err(fault) => out.extend(format!(in alloc; "{fault}")?.as_bytes()),
+    }
+}
+
+fn put_why_of(alloc: Global, doc: &Doc, out: &mut Txt) -> Result<(), AllocError> {
+    match read_request(alloc, doc).err() {
+        None => out.extend(b"it is one"),
+        Some(fault) => out.extend(format!(in alloc; "{fault}")?.as_bytes()),
     }
 }
 
@@ -136,11 +144,19 @@ fn frame(place: &[u8]) -> Option<(&'static [u8], &'static [u8])> {
 
 fn show(alloc: Global, text: &[u8], out: &mut Txt) -> Result<(), AllocError> {
     match read(alloc, text) {
-        Ok(doc) => match read_request(alloc, &doc) {
-            Ok(request) => put_request(&request, out),
-            Err(fault) => put_fault(alloc, fault, out),
-        },
+        Ok(doc) => show_doc(alloc, &doc, out),
         Err(_) => out.extend(b"unreadable"),
+    }
+}
+
+fn show_doc(alloc: Global, doc: &Doc, out: &mut Txt) -> Result<(), AllocError> {
+    match read_request(alloc, doc) {
+        Ok(request) => {
+            let written = put_request(&request, out);
+            drop(request);
+            written
+        }
+        Err(fault) => put_fault(alloc, fault, out),
     }
 }
 

@@ -203,29 +203,32 @@ fn put_assignment(alloc: Global, text: &Txt, imp: &Txt, out: &mut Txt) -> Result
 
 // What the impression assigns, where there is such an impression.
 fn assignment_of(alloc: Global, text: &Txt, imp: &Txt) -> Result<Option<Assignment>, AllocError> {
-    match request_of(alloc, text, imp)? {
-        Some((request, imp)) if imp < request.imps.len() => {
-            Ok(Some(assignment(alloc, &request, imp)?))
+    match request_of(alloc, text) {
+        Some(request) => {
+            let given = assignment_at(alloc, &request, place_in(imp));
+            drop(request);
+            given
         }
+        None => Ok(None),
+    }
+}
+
+fn assignment_at(
+    alloc: Global,
+    request: &BidRequest,
+    imp: Option<usize>,
+) -> Result<Option<Assignment>, AllocError> {
+    match imp {
+        Some(imp) if imp < request.imps.len() => Ok(Some(assignment(alloc, request, imp)?)),
         _ => Ok(None),
     }
 }
 
-// The request of a JSON text, and the place of one of its impressions.
-fn request_of(
-    alloc: Global,
-    text: &Txt,
-    imp: &Txt,
-) -> Result<Option<(BidRequest, usize)>, AllocError> {
-    let Some(imp) = place_in(imp) else {
-        return Ok(None);
-    };
-    let Ok(doc) = exact_json::read(alloc, text.as_bytes()) else {
-        return Ok(None);
-    };
-    match read_request(alloc, &doc) {
-        Ok(request) => Ok(Some((request, imp))),
-        Err(_) => Ok(None),
+// The request of a JSON text.
+fn request_of(alloc: Global, text: &Txt) -> Option<BidRequest> {
+    match exact_json::read(alloc, text.as_bytes()) {
+        Ok(doc) => read_request(alloc, &doc).ok(),
+        Err(_) => None,
     }
 }
 
@@ -236,11 +239,25 @@ fn put_request_holds(
     imp: &Txt,
     out: &mut Txt,
 ) -> Result<(), AllocError> {
-    let Some((_, target)) = campaign_of(alloc, campaign)? else {
-        return out.extend(b"unreadable");
-    };
+    match campaign_of(alloc, campaign)? {
+        Some(read) => {
+            let written = put_holds_for(alloc, &read.1, request, imp, out);
+            drop(read);
+            written
+        }
+        None => out.extend(b"unreadable"),
+    }
+}
+
+fn put_holds_for(
+    alloc: Global,
+    target: &Expr,
+    request: &Txt,
+    imp: &Txt,
+    out: &mut Txt,
+) -> Result<(), AllocError> {
     match assignment_of(alloc, request, imp)? {
-        Some(assignment) => put_truth(&target, &assignment, out),
+        Some(assignment) => put_truth(target, &assignment, out),
         None => out.extend(b"unreadable"),
     }
 }

@@ -1,5 +1,5 @@
 -- A request without a fault is valid.
-use Rattle.std.proofs.Common.{◌≡◌, ℕ, ◌≤◌, ◌==◌, nat_le, List, [], ◌∷◌, ◌++◌, map, length, Bool, true, false, ◌&&◌, cond, ℤ, pos, negsuc, nat_abs, int_le, Option, None, Some, Result, Ok, Err, refl, sym, ap, ◌∙◌, arith, subst}
+use Rattle.std.proofs.Common.{◌≡◌, ℕ, ◌==◌, nat_le, List, [], ◌∷◌, map, length, Bool, true, false, ◌&&◌, cond, ℤ, pos, negsuc, nat_abs, Option, None, Some, Result, Ok, Err, refl, ap, ◌∙◌, arith}
 use Rattle.std.specs.Prelude.{IfOk}
 use Rattle.std.specs.List.{list_all}
 use Rattle.std.proofs.lemmas.List.{length-map}
@@ -9,7 +9,7 @@ use Rattle.std.proofs.lemmas.Bool.{and_from}
 use Rattle.exact_json.specs.Tree.{Tree, null, boolean, number, string, array, object}
 use Rattle.json_fields.specs.Amounts.{is_between, whole_of}
 use Rattle.json_fields.specs.Answers.{Answers, and_then, map_err, flaws_of, value_or}
-use Rattle.json_fields.specs.Fields.{as_number, as_object, optional, or_absent, present}
+use Rattle.json_fields.specs.Fields.{as_number, as_object, or_absent, present}
 use Rattle.json_fields.specs.Items.{each_at, elements}
 use Rattle.json_fields.specs.declared.flaw.Flaw.{Flaw}
 use Rattle.json_fields.proofs.Each.{each_clean, left_none, right_none}
@@ -20,12 +20,11 @@ use Rattle.rtb_types.specs.declared.field.DealField.{DealField}
 use Rattle.rtb_types.specs.declared.field.ImpField.{ImpField}
 use Rattle.rtb_types.specs.declared.field.RequestField.{RequestField}
 use Rattle.rtb_types.specs.declared.request.BidRequest.{BidRequest}
-use Rattle.rtb_types.specs.declared.request.Deal.{Deal}
 use Rattle.rtb_types.specs.declared.request.Imp.{Imp}
 use Rattle.rtb_types.specs.declared.request.Pmp.{Pmp}
 use Rattle.rtb_read.specs.Parts.{as_type, element_faults, inside_faults, inside_from, object_in, type_fault, type_faults, type_from, type_named}
 use Rattle.rtb_read.specs.Imps.{count_faults, deal_at, deal_faults, deal_from, deals_faults, deals_from, deals_in, imp_at, imp_faults, imp_from, imps_faults, imps_from, pmp_faults, pmp_from, pmp_or_none}
-use Rattle.rtb_read.specs.Request.{all_imps_faults, at_from, faults_unless_object, fields_faults, imp_array, request_faults, request_from}
+use Rattle.rtb_read.specs.Request.{all_imps_faults, at_from, fields_faults, imp_array, request_faults, request_from}
 use Rattle.rtb_read.specs.declared.fault.ReqFault.{ReqFault}
 use Rattle.rtb_read.specs.declared.fault.TypeFlaw.{TypeFlaw}
 

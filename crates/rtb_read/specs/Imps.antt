@@ -1,11 +1,11 @@
 -- What is for sale: impressions, banners and deals (OpenRTB 2.5, section 3.2).
-use Rattle.std.specs.Prelude.{ℕ, ℤ, List, [], ◌∷◌, ◌++◌, map, take, length, ◌==◌, nat_le, Bool, if◌then◌else◌, false, Option, Some, None, option_map, position, Result, codes}
+use Rattle.std.specs.Prelude.{ℕ, ℤ, List, [], ◌∷◌, ◌++◌, map, take, length, ◌==◌, nat_le, if◌then◌else◌, false, Option, Some, None, option_map, position, Result, codes}
 use Rattle.std.specs.List.{flat_map}
 use Rattle.std.specs.Option.{option_to_list}
 use Rattle.std.specs.Str.{bytes_eq}
 use Rattle.exact_json.specs.Tree.{Tree}
 use Rattle.json_fields.specs.Answers.{value_or}
-use Rattle.json_fields.specs.Fields.{present, as_array, as_flag, as_floor, as_object, as_text, as_text_within, optional, or_absent, required}
+use Rattle.json_fields.specs.Fields.{present, as_flag, as_floor, as_object, as_text, as_text_within, or_absent, required}
 use Rattle.json_fields.specs.Items.{each_at, elements, list_values}
 use Rattle.json_fields.specs.declared.flaw.Flaw.{Flaw}
 use Rattle.rtb_types.specs.Paths.{banner_name, deal_name, imp_name, pmp_name, size_name}

@@ -1,5 +1,5 @@
 -- A bid request (OpenRTB 2.5, section 3.2.1) in a JSON text: its faults, and the request.
-use Rattle.std.specs.Prelude.{ℕ, List, [], ◌∷◌, ◌++◌, Bool, false, Option, Result, Ok, Err}
+use Rattle.std.specs.Prelude.{ℕ, List, [], ◌∷◌, ◌++◌, false, Result, Ok, Err}
 use Rattle.exact_json.specs.Tree.{Tree}
 use Rattle.json_fields.specs.Answers.{value_or}
 use Rattle.json_fields.specs.Fields.{present, as_array, as_flag, as_object, as_text, or_absent, required}

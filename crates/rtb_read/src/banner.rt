@@ -1,5 +1,3 @@
-#![tactic(auto, using(json_fields::proofs::First::in_front, json_fields::proofs::First::behind, json_fields::proofs::First::neither, json_fields::proofs::First::mapped, json_fields::proofs::First::mapped_none, json_fields::proofs::Each::each_none), unfolding(crate::specs::Imps::size_in, crate::specs::Imps::format_faults, crate::specs::Imps::formats_faults, crate::specs::Imps::formats_in, crate::specs::Imps::battr_faults, crate::specs::Imps::banner_faults, crate::specs::Imps::banner_from, crate::specs::Imps::sizes_from, crate::specs::Parts::element_faults, crate::specs::Parts::inside_faults, crate::specs::Parts::inside_from, crate::specs::Parts::list_faults))]
-
 ghost use Rattle.std.specs.Prelude.{◌≡◌, ◌++◌, map, OnOk};
 ghost use Rattle.std.specs.Option.{option_to_list};
 ghost use Rattle.std.specs.List.{All};
@@ -21,6 +19,7 @@ use rtb_num::List;
 use rtb_types::{Banner, BannerField, Field, ImpField, Size, SizeField};
 use std::alloc::{AllocError, Global};
 
+#[tactic(auto, unfolding(crate::specs::Parts::inside_faults, crate::specs::Parts::inside_from))]
 pub(crate) fn banner_field(
     alloc: Global,
     imp: usize,
@@ -36,6 +35,7 @@ pub(crate) fn banner_field(
     }
 }
 
+#[tactic(auto, using(json_fields::proofs::First::firsts), unfolding(crate::specs::Imps::banner_faults, crate::specs::Imps::banner_from, crate::specs::Imps::sizes_from, crate::specs::Imps::size_in))]
 fn banner_in(alloc: Global, imp: usize, banner: &Value) -> Result<Banner, ReqFault>
     requires forms { HasForms (tree_of banner.now) }
     ensures { Answers ReqFault.Memory (banner_faults imp (tree_of banner.now)) (banner_from (tree_of banner.now)) result }
@@ -48,6 +48,7 @@ fn banner_in(alloc: Global, imp: usize, banner: &Value) -> Result<Banner, ReqFau
     Ok(Banner { sizes, battr, pos })
 }
 
+#[tactic(auto, using(json_fields::proofs::Each::each_none), unfolding(crate::specs::Imps::formats_faults, crate::specs::Imps::formats_in, crate::specs::Parts::inside_faults))]
 fn sizes_field(
     alloc: Global,
     own: Option<Size>,
@@ -102,6 +103,7 @@ fn size(w: Option<i32>, h: Option<i32>) -> Option<Size>
     }
 }
 
+#[tactic(auto, unfolding(crate::specs::Parts::element_faults))]
 fn format_entry(imp: usize, place: usize, value: &Value) -> Result<Option<Size>, ReqFault>
     requires forms { HasForms (tree_of value.now) }
     ensures { Answers ReqFault.Memory (format_at imp place (tree_of value.now)) (size_in (tree_of value.now)) result }
@@ -113,6 +115,7 @@ fn format_entry(imp: usize, place: usize, value: &Value) -> Result<Option<Size>,
 }
 
 // The size in an entry of `format`.
+#[tactic(auto, using(json_fields::proofs::First::firsts), unfolding(crate::specs::Imps::format_faults, crate::specs::Imps::size_in))]
 fn format_in(imp: usize, place: usize, format: &Value) -> Result<Option<Size>, ReqFault>
     requires forms { HasForms (tree_of format.now) }
     ensures { Answers ReqFault.Memory (format_faults imp place (tree_of format.now)) (size_in (tree_of format.now)) result }
@@ -122,6 +125,7 @@ fn format_in(imp: usize, place: usize, format: &Value) -> Result<Option<Size>, R
     Ok(size(w, h))
 }
 
+#[tactic(auto, using(json_fields::proofs::First::firsts_mapped), unfolding(crate::specs::Imps::battr_faults, crate::specs::Parts::list_faults))]
 fn battr_field(alloc: Global, imp: usize, banner: &Value) -> Result<List<i32>, ReqFault>
     requires forms { HasForms (tree_of banner.now) }
     ensures { Answers ReqFault.Memory (battr_faults imp (tree_of banner.now)) (list_values as_i32 (present (banner_name BannerField.Battr) (tree_of banner.now))) result }

@@ -1,5 +1,3 @@
-#![tactic(auto, using(json_fields::proofs::First::in_front, json_fields::proofs::First::behind, json_fields::proofs::First::neither), unfolding(crate::specs::Context::publisher_faults, crate::specs::Context::publisher_from, crate::specs::Context::site_faults, crate::specs::Context::site_from, crate::specs::Context::app_faults, crate::specs::Context::app_from, crate::specs::Context::geo_faults, crate::specs::Context::geo_from, crate::specs::Context::machine_faults, crate::specs::Context::machine_from, crate::specs::Context::usage_faults, crate::specs::Context::usage_from, crate::specs::Context::device_faults, crate::specs::Context::device_from, crate::specs::Context::user_faults, crate::specs::Context::user_from, crate::specs::Parts::inside_faults, crate::specs::Parts::inside_from))]
-
 ghost use Rattle.std.specs.Prelude.{◌≡◌};
 ghost use Rattle.exact_json.specs.Forms.{HasForms};
 ghost use Rattle.exact_json.specs.View.{tree_of};
@@ -9,7 +7,7 @@ ghost use Rattle.rtb_read.specs.Context.{app_faults, app_from, device_faults, de
 ghost use Rattle.rtb_read.specs.Parts.{inside_faults, inside_from, object_in};
 
 use crate::fault::ReqFault;
-use crate::parts::{fault, integer_field, object_field, text_field};
+use crate::parts::{both, fault, integer_field, object_field, text_field};
 use exact_json::Value;
 use rtb_num::Txt;
 use rtb_types::{
@@ -17,6 +15,7 @@ use rtb_types::{
     UserField,
 };
 
+#[tactic(auto, unfolding(crate::specs::Parts::inside_faults, crate::specs::Parts::inside_from))]
 pub(crate) fn site_field(request: &Value) -> Result<Option<Site>, ReqFault>
     ensures { Answers ReqFault.Memory (inside_faults (Field.Request RequestField.Site) site_faults (object_in (request_name RequestField.Site) (tree_of request.now))) (inside_from site_from (object_in (request_name RequestField.Site) (tree_of request.now))) result }
 {
@@ -27,6 +26,7 @@ pub(crate) fn site_field(request: &Value) -> Result<Option<Site>, ReqFault>
     }
 }
 
+#[tactic(auto, using(json_fields::proofs::First::firsts), unfolding(crate::specs::Context::site_faults, crate::specs::Context::site_from))]
 fn site_in(site: &Value) -> Result<Site, ReqFault>
     ensures { Answers ReqFault.Memory (site_faults (tree_of site.now)) (site_from (tree_of site.now)) result }
 {
@@ -45,6 +45,7 @@ fn site_in(site: &Value) -> Result<Site, ReqFault>
 }
 
 // The id of the publisher, by the fields of the publisher and of its id.
+#[tactic(auto, unfolding(crate::specs::Parts::inside_faults, crate::specs::Context::publisher_faults, crate::specs::Context::publisher_from))]
 fn publisher_field(parent: &Value, whole: Field, id: Field) -> Result<Option<Txt>, ReqFault>
     ensures { Answers ReqFault.Memory (publisher_faults whole id (tree_of parent.now)) (publisher_from whole id (tree_of parent.now)) result }
 {
@@ -55,6 +56,7 @@ fn publisher_field(parent: &Value, whole: Field, id: Field) -> Result<Option<Txt
     }
 }
 
+#[tactic(auto, unfolding(crate::specs::Parts::inside_faults, crate::specs::Parts::inside_from))]
 pub(crate) fn app_field(request: &Value) -> Result<Option<App>, ReqFault>
     ensures { Answers ReqFault.Memory (inside_faults (Field.Request RequestField.App) app_faults (object_in (request_name RequestField.App) (tree_of request.now))) (inside_from app_from (object_in (request_name RequestField.App) (tree_of request.now))) result }
 {
@@ -65,6 +67,7 @@ pub(crate) fn app_field(request: &Value) -> Result<Option<App>, ReqFault>
     }
 }
 
+#[tactic(auto, using(json_fields::proofs::First::firsts), unfolding(crate::specs::Context::app_faults, crate::specs::Context::app_from))]
 fn app_in(app: &Value) -> Result<App, ReqFault>
     ensures { Answers ReqFault.Memory (app_faults (tree_of app.now)) (app_from (tree_of app.now)) result }
 {
@@ -82,6 +85,7 @@ fn app_in(app: &Value) -> Result<App, ReqFault>
     })
 }
 
+#[tactic(auto, unfolding(crate::specs::Parts::inside_faults, crate::specs::Parts::inside_from))]
 pub(crate) fn device_field(request: &Value) -> Result<Option<Device>, ReqFault>
     requires forms { HasForms (tree_of request.now) }
     ensures { Answers ReqFault.Memory (inside_faults (Field.Request RequestField.Device) device_faults (object_in (request_name RequestField.Device) (tree_of request.now))) (inside_from device_from (object_in (request_name RequestField.Device) (tree_of request.now))) result }
@@ -97,12 +101,16 @@ fn device_in(device: &Value) -> Result<Device, ReqFault>
     requires forms { HasForms (tree_of device.now) }
     ensures { Answers ReqFault.Memory (device_faults (tree_of device.now)) (device_from (tree_of device.now)) result }
 {
-    let geo = geo_field(device)?;
-    let machine = machine_in(device)?;
-    let usage = usage_in(device)?;
-    Ok(join_device(geo, machine, usage))
+    let read = geo_field(device);
+    let read = both(read, machine_in(device));
+    let read = both(read, usage_in(device));
+    match read {
+        Ok(((geo, machine), usage)) => Ok(join_device(geo, machine, usage)),
+        Err(fault) => Err(fault),
+    }
 }
 
+#[tactic(auto, unfolding(crate::specs::Parts::inside_faults, crate::specs::Parts::inside_from))]
 fn geo_field(device: &Value) -> Result<Option<Geo>, ReqFault>
     ensures { Answers ReqFault.Memory (inside_faults (Field.Device DeviceField.Geo) geo_faults (object_in (device_name DeviceField.Geo) (tree_of device.now))) (inside_from geo_from (object_in (device_name DeviceField.Geo) (tree_of device.now))) result }
 {
@@ -116,18 +124,21 @@ fn geo_field(device: &Value) -> Result<Option<Geo>, ReqFault>
 fn geo_in(geo: &Value) -> Result<Geo, ReqFault>
     ensures { Answers ReqFault.Memory (geo_faults (tree_of geo.now)) (geo_from (tree_of geo.now)) result }
 {
-    let country = text_field(geo, Field::Geo(GeoField::Country))?;
-    let region = text_field(geo, Field::Geo(GeoField::Region))?;
-    let metro = text_field(geo, Field::Geo(GeoField::Metro))?;
-    let city = text_field(geo, Field::Geo(GeoField::City))?;
-    let zip = text_field(geo, Field::Geo(GeoField::Zip))?;
-    Ok(Geo {
-        country,
-        region,
-        metro,
-        city,
-        zip,
-    })
+    let read = text_field(geo, Field::Geo(GeoField::Country));
+    let read = both(read, text_field(geo, Field::Geo(GeoField::Region)));
+    let read = both(read, text_field(geo, Field::Geo(GeoField::Metro)));
+    let read = both(read, text_field(geo, Field::Geo(GeoField::City)));
+    let read = both(read, text_field(geo, Field::Geo(GeoField::Zip)));
+    match read {
+        Ok(((((country, region), metro), city), zip)) => Ok(Geo {
+            country,
+            region,
+            metro,
+            city,
+            zip,
+        }),
+        Err(fault) => Err(fault),
+    }
 }
 
 // What the device is.
@@ -145,17 +156,20 @@ fn machine_in(device: &Value) -> Result<Machine, ReqFault>
     ensures { Answers ReqFault.Memory (machine_faults (tree_of device.now)) (machine_from (tree_of device.now)) result }
 {
     let devicetype = integer_field(device, Field::Device(DeviceField::Devicetype))?;
-    let device_make = text_field(device, Field::Device(DeviceField::Make))?;
-    let device_model = text_field(device, Field::Device(DeviceField::Model))?;
-    let os = text_field(device, Field::Device(DeviceField::Os))?;
-    let osv = text_field(device, Field::Device(DeviceField::Osv))?;
-    Ok(Machine {
-        devicetype,
-        device_make,
-        device_model,
-        os,
-        osv,
-    })
+    let read = text_field(device, Field::Device(DeviceField::Make));
+    let read = both(read, text_field(device, Field::Device(DeviceField::Model)));
+    let read = both(read, text_field(device, Field::Device(DeviceField::Os)));
+    let read = both(read, text_field(device, Field::Device(DeviceField::Osv)));
+    match read {
+        Ok((((device_make, device_model), os), osv)) => Ok(Machine {
+            devicetype,
+            device_make,
+            device_model,
+            os,
+            osv,
+        }),
+        Err(fault) => Err(fault),
+    }
 }
 
 // How the device is used.
@@ -170,14 +184,23 @@ fn usage_in(device: &Value) -> Result<Usage, ReqFault>
     requires forms { HasForms (tree_of device.now) }
     ensures { Answers ReqFault.Memory (usage_faults (tree_of device.now)) (usage_from (tree_of device.now)) result }
 {
-    let language = text_field(device, Field::Device(DeviceField::Language))?;
-    let carrier = text_field(device, Field::Device(DeviceField::Carrier))?;
-    let connectiontype = integer_field(device, Field::Device(DeviceField::Connectiontype))?;
-    Ok(Usage {
-        language,
-        carrier,
-        connectiontype,
-    })
+    let read = text_field(device, Field::Device(DeviceField::Language));
+    let read = both(
+        read,
+        text_field(device, Field::Device(DeviceField::Carrier)),
+    );
+    let read = both(
+        read,
+        integer_field(device, Field::Device(DeviceField::Connectiontype)),
+    );
+    match read {
+        Ok(((language, carrier), connectiontype)) => Ok(Usage {
+            language,
+            carrier,
+            connectiontype,
+        }),
+        Err(fault) => Err(fault),
+    }
 }
 
 fn join_device(geo: Option<Geo>, machine: Machine, usage: Usage) -> Device
@@ -196,6 +219,7 @@ fn join_device(geo: Option<Geo>, machine: Machine, usage: Usage) -> Device
     }
 }
 
+#[tactic(auto, unfolding(crate::specs::Parts::inside_faults, crate::specs::Parts::inside_from))]
 pub(crate) fn user_field(request: &Value) -> Result<Option<User>, ReqFault>
     requires forms { HasForms (tree_of request.now) }
     ensures { Answers ReqFault.Memory (inside_faults (Field.Request RequestField.User) user_faults (object_in (request_name RequestField.User) (tree_of request.now))) (inside_from user_from (object_in (request_name RequestField.User) (tree_of request.now))) result }
@@ -207,6 +231,7 @@ pub(crate) fn user_field(request: &Value) -> Result<Option<User>, ReqFault>
     }
 }
 
+#[tactic(auto, using(json_fields::proofs::First::firsts), unfolding(crate::specs::Context::user_faults, crate::specs::Context::user_from))]
 fn user_in(user: &Value) -> Result<User, ReqFault>
     requires forms { HasForms (tree_of user.now) }
     ensures { Answers ReqFault.Memory (user_faults (tree_of user.now)) (user_from (tree_of user.now)) result }

@@ -1,5 +1,3 @@
-#![tactic(auto, using(json_fields::proofs::First::in_front, json_fields::proofs::First::behind, json_fields::proofs::First::neither, json_fields::proofs::First::mapped, json_fields::proofs::First::mapped_none, crate::proofs::Loops::no_deals), unfolding(crate::specs::Imps::deal_texts_faults, crate::specs::Imps::deal_texts_from, crate::specs::Imps::deal_faults, crate::specs::Imps::deal_from, crate::specs::Imps::deals_faults, crate::specs::Imps::deals_in, crate::specs::Imps::pmp_faults, crate::specs::Imps::pmp_from, crate::specs::Parts::element_faults, crate::specs::Parts::inside_faults, crate::specs::Parts::inside_from, crate::specs::Parts::list_faults))]
-
 ghost use Rattle.std.specs.Prelude.{◌≡◌, [], map};
 ghost use Rattle.std.specs.List.{All};
 ghost use Rattle.exact_json.specs.Forms.{HasForms};
@@ -12,7 +10,9 @@ ghost use Rattle.rtb_read.specs.Imps.{deal_at, deal_faults, deal_from, deal_text
 ghost use Rattle.rtb_read.specs.Parts.{faults_at, inside_faults, inside_from, list_fault, object_in};
 
 use crate::fault::ReqFault;
-use crate::parts::{array_field, currency_field, fault, flag_field, floor_field, object_field};
+use crate::parts::{
+    array_field, currency_field, fault, flag_field, floor_field, object_field, push, unless_faulty,
+};
 use crate::types::type_field;
 use exact_json::Value;
 use json_fields as fields;
@@ -21,6 +21,7 @@ use rtb_num::{List, Txt};
 use rtb_types::{Deal, DealField, Field, ImpField, Pmp, PmpField};
 use std::alloc::Global;
 
+#[tactic(auto, unfolding(crate::specs::Parts::inside_faults, crate::specs::Parts::inside_from))]
 pub(crate) fn pmp_field(alloc: Global, at: u8, imp: usize, parent: &Value) -> Result<Pmp, ReqFault>
     requires forms { HasForms (tree_of parent.now) }
     ensures { Answers ReqFault.Memory (inside_faults (Field.Imp imp ImpField.Pmp) (pmp_faults imp) (object_in (imp_name ImpField.Pmp) (tree_of parent.now))) (pmp_or_none (inside_from (pmp_from at) (object_in (imp_name ImpField.Pmp) (tree_of parent.now)))) result }
@@ -32,6 +33,7 @@ pub(crate) fn pmp_field(alloc: Global, at: u8, imp: usize, parent: &Value) -> Re
     }
 }
 
+#[tactic(auto, using(json_fields::proofs::First::firsts), unfolding(crate::specs::Imps::pmp_faults, crate::specs::Imps::pmp_from))]
 fn pmp_in(alloc: Global, at: u8, imp: usize, pmp: &Value) -> Result<Pmp, ReqFault>
     requires forms { HasForms (tree_of pmp.now) }
     ensures { Answers ReqFault.Memory (pmp_faults imp (tree_of pmp.now)) (pmp_from at (tree_of pmp.now)) result }
@@ -44,6 +46,7 @@ fn pmp_in(alloc: Global, at: u8, imp: usize, pmp: &Value) -> Result<Pmp, ReqFaul
     })
 }
 
+#[tactic(auto, using(crate::proofs::Loops::no_deals), unfolding(crate::specs::Imps::deals_faults, crate::specs::Imps::deals_in, crate::specs::Parts::inside_faults))]
 fn deals_field(alloc: Global, at: u8, imp: usize, pmp: &Value) -> Result<List<Deal>, ReqFault>
     requires forms { HasForms (tree_of pmp.now) }
     ensures { Answers ReqFault.Memory (deals_faults imp (tree_of pmp.now)) (deals_from at (elements (deals_in (tree_of pmp.now)))) result }
@@ -60,12 +63,29 @@ fn all_deals(alloc: Global, at: u8, imp: usize, values: &[Value]) -> Result<Vec<
     ensures { Answers ReqFault.Memory (each_at (deal_at imp) (map tree_of values.now)) (deals_from at (map tree_of values.now)) (map_ok (λ v. v.items) result) }
 {
     let mut deals = Vec::with_capacity(alloc, values.len())?;
-    for (place, value) in values.iter().enumerate() {
-        deals.push(deal_entry(alloc, at, imp, place, value)?)?;
-    }
-    Ok(deals)
+    let read = push_all(alloc, at, imp, values, &mut deals);
+    unless_faulty(deals, read)
 }
 
+// Appends them, where none was there.
+fn push_all(
+    alloc: Global,
+    at: u8,
+    imp: usize,
+    values: &[Value],
+    deals: &mut Vec<Deal>,
+) -> Result<(), ReqFault>
+    requires none { deals.old.items ≡ [] }
+    requires forms { All (λ v. HasForms (tree_of v)) values.now }
+    ensures { Answers ReqFault.Memory (each_at (deal_at imp) (map tree_of values.now)) (deals_from at (map tree_of values.now)) (map_ok (λ _. deals.new.items) result) }
+{
+    for (place, value) in values.iter().enumerate() {
+        push(deals, deal_entry(alloc, at, imp, place, value)?)?;
+    }
+    Ok(())
+}
+
+#[tactic(auto, unfolding(crate::specs::Parts::element_faults))]
 fn deal_entry(
     alloc: Global,
     at: u8,
@@ -86,6 +106,7 @@ fn deal_entry(
 const DEAL_TYPES: u8 = 3;
 
 // A deal, by the request's auction type and by the places of its impression and of its own.
+#[tactic(auto, using(json_fields::proofs::First::firsts), unfolding(crate::specs::Imps::deal_faults, crate::specs::Imps::deal_from))]
 fn deal_in(alloc: Global, at: u8, imp: usize, place: usize, deal: &Value) -> Result<Deal, ReqFault>
     requires forms { HasForms (tree_of deal.now) }
     ensures { Answers ReqFault.Memory (deal_faults imp place (tree_of deal.now)) (deal_from at (tree_of deal.now)) result }
@@ -126,6 +147,7 @@ fn id_field(imp: usize, place: usize, deal: &Value) -> Result<Txt, ReqFault>
 }
 
 // A list of texts.
+#[tactic(auto, using(json_fields::proofs::First::firsts_mapped), unfolding(crate::specs::Imps::deal_texts_faults, crate::specs::Imps::deal_texts_from, crate::specs::Parts::list_faults))]
 fn texts_field(
     alloc: Global,
     imp: usize,

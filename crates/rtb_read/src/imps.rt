@@ -1,5 +1,3 @@
-#![tactic(auto, using(json_fields::proofs::First::in_front, json_fields::proofs::First::behind, json_fields::proofs::First::neither), unfolding(crate::specs::Imps::imp_faults, crate::specs::Imps::imp_from, crate::specs::Imps::count_faults, crate::specs::Imps::imps_faults, crate::specs::Imps::duplicates, crate::specs::Parts::element_faults))]
-
 ghost use Rattle.std.specs.Prelude.{◌≡◌, [], ◌∷◌, map, position, IfErr, OnOk};
 ghost use Rattle.std.specs.Str.{bytes_eq};
 ghost use Rattle.std.specs.List.{All};
@@ -12,7 +10,9 @@ ghost use Rattle.rtb_read.specs.Imps.{count_faults, duplicates, imp_at, imp_faul
 use crate::banner::banner_field;
 use crate::deals::pmp_field;
 use crate::fault::ReqFault;
-use crate::parts::{currency_field, fault, flag_field, floor_field, id_field, text_field};
+use crate::parts::{
+    currency_field, fault, flag_field, floor_field, id_field, push, text_field, unless_faulty,
+};
 use exact_json::Value;
 use json_fields as fields;
 use rtb_num::List;
@@ -20,6 +20,7 @@ use rtb_types::{Field, Imp, ImpField, MAX_IMPS, RequestField};
 use std::alloc::Global;
 
 // The impressions in the values of an array.
+#[tactic(auto, using(json_fields::proofs::First::firsts), unfolding(crate::specs::Imps::imps_faults))]
 pub(crate) fn imps_in(alloc: Global, at: u8, values: &[Value]) -> Result<List<Imp>, ReqFault>
     requires forms { All (λ v. HasForms (tree_of v)) values.now }
     ensures { Answers ReqFault.Memory (imps_faults (map tree_of values.now)) (imps_from at (map tree_of values.now)) result }
@@ -31,6 +32,7 @@ pub(crate) fn imps_in(alloc: Global, at: u8, values: &[Value]) -> Result<List<Im
 }
 
 // Whether there are 1 to 64.
+#[tactic(auto, unfolding(crate::specs::Imps::count_faults))]
 fn check_count(count: usize) -> Result<(), ReqFault>
     ensures ok { OnOk result (count_faults count ≡ []) }
     ensures err { IfErr result (λ e. count_faults count ≡ e ∷ []) }
@@ -49,12 +51,23 @@ fn all_imps(alloc: Global, at: u8, values: &[Value]) -> Result<Vec<Imp>, ReqFaul
     ensures { Answers ReqFault.Memory (each_at imp_at (map tree_of values.now)) (imps_from at (map tree_of values.now)) (map_ok (λ v. v.items) result) }
 {
     let mut imps = Vec::with_capacity(alloc, values.len())?;
-    for (place, value) in values.iter().enumerate() {
-        imps.push(imp_entry(alloc, at, place, value)?)?;
-    }
-    Ok(imps)
+    let read = push_all(alloc, at, values, &mut imps);
+    unless_faulty(imps, read)
 }
 
+// Appends them, where none was there.
+fn push_all(alloc: Global, at: u8, values: &[Value], imps: &mut Vec<Imp>) -> Result<(), ReqFault>
+    requires none { imps.old.items ≡ [] }
+    requires forms { All (λ v. HasForms (tree_of v)) values.now }
+    ensures { Answers ReqFault.Memory (each_at imp_at (map tree_of values.now)) (imps_from at (map tree_of values.now)) (map_ok (λ _. imps.new.items) result) }
+{
+    for (place, value) in values.iter().enumerate() {
+        push(imps, imp_entry(alloc, at, place, value)?)?;
+    }
+    Ok(())
+}
+
+#[tactic(auto, unfolding(crate::specs::Parts::element_faults))]
 fn imp_entry(alloc: Global, at: u8, place: usize, value: &Value) -> Result<Imp, ReqFault>
     requires forms { HasForms (tree_of value.now) }
     ensures { Answers ReqFault.Memory (imp_at place (tree_of value.now)) (imp_from at (tree_of value.now)) result }
@@ -66,6 +79,7 @@ fn imp_entry(alloc: Global, at: u8, place: usize, value: &Value) -> Result<Imp, 
 }
 
 // An impression, by the request's auction type and by its place.
+#[tactic(auto, using(json_fields::proofs::First::firsts), unfolding(crate::specs::Imps::imp_faults, crate::specs::Imps::imp_from))]
 fn imp_in(alloc: Global, at: u8, place: usize, imp: &Value) -> Result<Imp, ReqFault>
     requires forms { HasForms (tree_of imp.now) }
     ensures { Answers ReqFault.Memory (imp_faults place (tree_of imp.now)) (imp_from at (tree_of imp.now)) result }
@@ -89,6 +103,7 @@ fn imp_in(alloc: Global, at: u8, place: usize, imp: &Value) -> Result<Imp, ReqFa
 }
 
 // Whether no two have one id. There are at most 64, so each is compared with each.
+#[tactic(auto, unfolding(crate::specs::Imps::duplicates))]
 fn check_ids(imps: &[Imp]) -> Result<(), ReqFault>
     ensures ok { OnOk result (duplicates (ids_of imps.now) ≡ []) }
     ensures err { IfErr result (IsFirst ReqFault.Memory (duplicates (ids_of imps.now))) }

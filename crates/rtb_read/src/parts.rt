@@ -1,6 +1,4 @@
-#![tactic(auto, using(json_fields::proofs::First::in_front, json_fields::proofs::First::behind, json_fields::proofs::First::neither), unfolding(crate::specs::Parts::faults_at, crate::specs::Parts::text_faults, crate::specs::Parts::text_from, crate::specs::Parts::integer_faults, crate::specs::Parts::integer_from, crate::specs::Parts::list_faults, crate::specs::Parts::type_faults, crate::specs::Parts::type_from))]
-
-ghost use Rattle.std.specs.Prelude.{◌≡◌, [], false, map, option_map, codes, IfOk, IfSome};
+ghost use Rattle.std.specs.Prelude.{◌≡◌, ◌++◌, [], ◌∷◌, List, false, map, option_map, codes, IfOk, IfSome, OnOk};
 ghost use Rattle.std.specs.List.{All};
 ghost use Rattle.exact_json.specs.Forms.{HasForms};
 ghost use Rattle.exact_json.specs.View.{tree_of};
@@ -36,6 +34,45 @@ pub(crate) fn fault(field: Field, flaw: Flaw) -> ReqFault
     }
 }
 
+// What two fields hold, or the fault of the first that has one. A value of a type parameter is let go of in
+// one step, so a reader that ends in this lets go of nothing field by field.
+#[tactic(auto, using(json_fields::proofs::First::firsts))]
+pub(crate) fn both<A: Drop, B: Drop>(
+    first: Result<A, ReqFault>,
+    second: Result<B, ReqFault>,
+) -> Result<(A, B), ReqFault>
+    ensures { (a b : List ReqFault) (x : A) (y : B) → Answers ReqFault.Memory a x first → Answers ReqFault.Memory b y second → Answers ReqFault.Memory (a ++ b) (x, y) result }
+{
+    match first {
+        Ok(first) => match second {
+            Ok(second) => Ok((first, second)),
+            Err(fault) => Err(fault),
+        },
+        Err(fault) => Err(fault),
+    }
+}
+
+// The items, unless one could not be read.
+pub(crate) fn unless_faulty<T: Drop>(
+    items: Vec<T>,
+    read: Result<(), ReqFault>,
+) -> Result<Vec<T>, ReqFault>
+    ensures { result ≡ map_ok (λ _. items) read }
+{
+    match read {
+        Ok(()) => Ok(items),
+        Err(fault) => Err(fault),
+    }
+}
+
+// Appends one more.
+pub(crate) fn push<T: Drop>(items: &mut Vec<T>, item: T) -> Result<(), AllocError>
+    ensures { OnOk result (items.new.items ≡ items.old.items ++ item ∷ []) }
+{
+    items.push(item)?;
+    Ok(())
+}
+
 // An object, which may be absent.
 pub(crate) fn object_field<'a>(parent: &'a Value, field: Field) -> Result<Option<&'a Value>, Flaw>
     ensures value { map_ok (option_map (λ v. tree_of v.now)) result ≡ object_in (member_name field) (tree_of parent.now) }
@@ -53,6 +90,7 @@ pub(crate) fn array_field<'a>(parent: &'a Value, field: Field) -> Result<Option<
 }
 
 // A text, which may be absent.
+#[tactic(auto, unfolding(crate::specs::Parts::faults_at, crate::specs::Parts::text_faults, crate::specs::Parts::text_from))]
 pub(crate) fn text_field(object: &Value, field: Field) -> Result<Option<Txt>, ReqFault>
     ensures { Answers ReqFault.Memory (text_faults field (tree_of object.now)) (text_from (member_name field) (tree_of object.now)) result }
 {
@@ -72,6 +110,7 @@ fn copy_of(text: Option<&Txt>) -> Result<Option<Txt>, AllocError>
 }
 
 // An integer, which may be absent.
+#[tactic(auto, unfolding(crate::specs::Parts::faults_at, crate::specs::Parts::integer_faults, crate::specs::Parts::integer_from))]
 pub(crate) fn integer_field(object: &Value, field: Field) -> Result<Option<i32>, ReqFault>
     requires forms { HasForms (tree_of object.now) }
     ensures { Answers ReqFault.Memory (integer_faults field (tree_of object.now)) (integer_from (member_name field) (tree_of object.now)) result }
@@ -83,6 +122,7 @@ pub(crate) fn integer_field(object: &Value, field: Field) -> Result<Option<i32>,
 }
 
 // A 0 or a 1, and 0 where it is absent.
+#[tactic(auto, unfolding(crate::specs::Parts::faults_at))]
 pub(crate) fn flag_field(object: &Value, field: Field) -> Result<bool, ReqFault>
     requires forms { HasForms (tree_of object.now) }
     ensures { Answers ReqFault.Memory (faults_at field (or_absent false as_flag (present (member_name field) (tree_of object.now)))) (value_or false (or_absent false as_flag (present (member_name field) (tree_of object.now)))) result }
@@ -97,6 +137,7 @@ pub(crate) fn flag_field(object: &Value, field: Field) -> Result<bool, ReqFault>
 const MAX_ID: usize = 255;
 
 // The id of a request or of an impression: a text of 1 to 255 bytes.
+#[tactic(auto, unfolding(crate::specs::Parts::faults_at))]
 pub(crate) fn id_field(object: &Value, field: Field) -> Result<Txt, ReqFault>
     ensures { Answers ReqFault.Memory (faults_at field (id_in (member_name field) (tree_of object.now))) (value_or [] (id_in (member_name field) (tree_of object.now))) result }
 {
@@ -107,6 +148,7 @@ pub(crate) fn id_field(object: &Value, field: Field) -> Result<Txt, ReqFault>
 }
 
 // A floor in US dollars, and 0 where it is absent.
+#[tactic(auto, unfolding(crate::specs::Parts::faults_at))]
 pub(crate) fn floor_field(object: &Value, field: Field) -> Result<Micros, ReqFault>
     requires forms { HasForms (tree_of object.now) }
     ensures { Answers ReqFault.Memory (faults_at field (floor_in (member_name field) (tree_of object.now))) (value_or 0 (floor_in (member_name field) (tree_of object.now))) result }

@@ -1,5 +1,3 @@
-#![tactic(auto, using(json_fields::proofs::First::in_front, json_fields::proofs::First::behind, json_fields::proofs::First::neither, json_fields::proofs::First::mapped, json_fields::proofs::First::mapped_none), unfolding(crate::specs::Request::texts_faults, crate::specs::Request::texts_from, crate::specs::Request::imp_array, crate::specs::Request::all_imps_faults, crate::specs::Request::request_faults, crate::specs::Parts::list_faults))]
-
 ghost use Rattle.std.specs.Prelude.{◌≡◌, [], IfOk, IsTrue};
 ghost use Rattle.exact_json.specs.Docs.{doc_tree};
 ghost use Rattle.exact_json.specs.Forms.{HasForms};
@@ -34,6 +32,7 @@ pub fn read_request(alloc: Global, doc: &Doc) -> Result<BidRequest, ReqFault>
     answer(alloc, doc)
 }
 
+#[tactic(auto, unfolding(crate::specs::Request::request_faults))]
 fn answer(alloc: Global, doc: &Doc) -> Result<BidRequest, ReqFault>
     ensures { Answers ReqFault.Memory (request_faults (doc_tree doc.now)) (request_from (doc_tree doc.now)) result }
 {
@@ -50,7 +49,7 @@ const AUCTION_TYPES: u8 = 2;
 const SECOND_PRICE: u8 = 2;
 
 // The fields of a request, in the order in which they are read.
-#[tactic(auto, using(json_fields::proofs::First::in_front, json_fields::proofs::First::behind, json_fields::proofs::First::neither), unfolding(crate::specs::Request::fields_faults, crate::specs::Request::request_from))]
+#[tactic(auto, using(json_fields::proofs::First::firsts), unfolding(crate::specs::Request::fields_faults, crate::specs::Request::request_from))]
 fn request_in(alloc: Global, request: &Value) -> Result<BidRequest, ReqFault>
     requires forms { HasForms (tree_of request.now) }
     ensures { Answers ReqFault.Memory (fields_faults (tree_of request.now)) (request_from (tree_of request.now)) result }
@@ -91,6 +90,7 @@ fn request_in(alloc: Global, request: &Value) -> Result<BidRequest, ReqFault>
 }
 
 // A list of texts.
+#[tactic(auto, using(json_fields::proofs::First::firsts_mapped), unfolding(crate::specs::Request::texts_faults, crate::specs::Request::texts_from, crate::specs::Parts::list_faults))]
 fn texts_field(alloc: Global, request: &Value, field: RequestField) -> Result<List<Txt>, ReqFault>
     ensures { Answers ReqFault.Memory (texts_faults field (tree_of request.now)) (texts_from field (tree_of request.now)) result }
 {
@@ -110,6 +110,7 @@ fn texts_fault(field: RequestField, flaw: ListFlaw) -> ReqFault
     }
 }
 
+#[tactic(auto, unfolding(crate::specs::Request::imp_array, crate::specs::Request::all_imps_faults))]
 fn imps_field(alloc: Global, at: u8, request: &Value) -> Result<List<Imp>, ReqFault>
     requires forms { HasForms (tree_of request.now) }
     ensures { Answers ReqFault.Memory (all_imps_faults (imp_array (tree_of request.now))) (imps_from at (value_or [] (imp_array (tree_of request.now)))) result }

@@ -1,7 +1,7 @@
 use Rattle.byte_fields.specs.Encodings.{IsFlag, IsOptionOf, flag_bytes, list_bytes, option_bytes}
 use Rattle.byte_fields.proofs.Codes.{three_no_first, three_no_second, three_no_third}
 use Rattle.campaign.specs.Encoding.{int_bytes, sides_bytes}
-use Rattle.campaign.specs.Groups.{AreInts, AreSides, IsWhole}
+use Rattle.campaign.specs.Groups.{AreInts, AreSides}
 use Rattle.campaign.proofs.decode.get_look.Goals as goal
 use Rattle.campaign.proofs.Decoding.{ints_code, size_code}
 

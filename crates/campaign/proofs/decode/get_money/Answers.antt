@@ -1,4 +1,4 @@
-use Rattle.byte_fields.specs.Encodings.{IsShort, eight_bytes, list_bytes, text_bytes}
+use Rattle.byte_fields.specs.Encodings.{eight_bytes, list_bytes, text_bytes}
 use Rattle.byte_fields.proofs.Codes.{three_no_first, three_no_second, three_no_third}
 use Rattle.campaign.specs.Groups.{AreTexts, IsMicros, IsNanos}
 use Rattle.campaign.proofs.decode.get_money.Goals as goal

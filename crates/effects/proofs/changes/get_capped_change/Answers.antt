@@ -1,20 +1,15 @@
-use Rattle.byte_fields.specs.Codes.{BothValid, both_bytes}
-use Rattle.byte_fields.specs.Encodings.{FitsFour, four_bytes}
-use Rattle.byte_fields.proofs.Codes.{both_code, read_no_first, read_no_second}
-use Rattle.byte_fields.proofs.Numbers.{four_code}
-use Rattle.campaign.specs.Encoding.{facts_bytes}
-use Rattle.campaign.specs.Kept.{IsEncodable as IsUncapped}
-use Rattle.campaign.proofs.Decoding.{encodable_code as uncapped_code}
+use Rattle.byte_fields.proofs.Codes.{read_no_first}
+use Rattle.effects.specs.Bodies.{IsNumbered, numbered_bytes}
 use Rattle.effects.specs.Bytes.{IsCap, terms_bytes}
+use Rattle.effects.proofs.PartCodes.{numbered_code, read_behind}
 use Rattle.effects.proofs.changes.get_capped_change.Goals as goal
 
 pub returns-in_default : goal.returns-in_default
 returns-in_default c =
     let none = rw c.in_default.is at c.in_ok-numbered.ensures in
-    read_no_first (BothValid FitsFour IsUncapped) (both_bytes four_bytes facts_bytes) IsCap terms_bytes c.args.bytes.now c.args.place none
+    read_no_first IsNumbered numbered_bytes IsCap terms_bytes c.args.bytes.now c.args.place none
 
-pub returns-in_default-get_terms : goal.returns-in_default-get_terms
-returns-in_default-get_terms c =
+pub returns : goal.returns
+returns c =
     let first = rw c.in-Some.is at c.in_ok-numbered.ensures in
-    let none = c.in_default-get_terms.ensures in
-    read_no_second (BothValid FitsFour IsUncapped) (both_bytes four_bytes facts_bytes) IsCap terms_bytes (both_code FitsFour four_bytes IsUncapped facts_bytes four_code uncapped_code) c.args.bytes.now c.args.place c.in-Some.numbered c.in-Some.next first none
+    rw c.paired.ensures (read_behind IsNumbered numbered_bytes IsCap terms_bytes numbered_code c.args.bytes.now c.args.place c.in-Some.numbered c.in-Some.next c.get_terms.result first c.get_terms.ensures)

@@ -1,4 +1,4 @@
-use Rattle.std.proofs.Common.{◌-◌, arith, Ok, Err}
+use Rattle.std.proofs.Common.{arith, Ok, Err}
 use Rattle.std.proofs.lemmas.List.Elements.{All-push}
 use Rattle.effects.specs.Bytes.{IsDecoded, IsEncodable}
 use Rattle.effects.specs.declared.fault.EffectFault.{EffectFault}

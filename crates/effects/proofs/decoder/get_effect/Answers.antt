@@ -1,5 +1,4 @@
-use Rattle.std.proofs.Common.{sym, ◌∙◌}
-use Rattle.effects.proofs.Sequences.{effect_late, effect_no_change, effect_no_moment, effect_read}
+use Rattle.effects.proofs.Sequences.{effect_made, effect_no_change, effect_no_moment}
 use Rattle.effects.proofs.decoder.get_effect.Goals as goal
 
 pub returns-in_default : goal.returns-in_default
@@ -10,12 +9,7 @@ returns-in_default-2 c =
     let none = rw c.in_default-2.is at c.in_ok-change.ensures in
     effect_no_change c.args.bytes.now c.args.place c.in-Some.moment c.in-Some.next c.in-Some.ensures none
 
-pub returns-then-is_late : goal.returns-then-is_late
-returns-then-is_late c =
-    let change = rw c.in-Some-2.is at c.in_ok-change.ensures in
-    effect_late c.args.bytes.now c.args.place c.in-Some.moment c.in-Some.next c.in-Some-2.next c.in-Some-2.change c.in-Some.ensures change (sym c.is_late.ensures ∙ c.if-is_late.true)
-
 pub returns : goal.returns
 returns c =
     let change = rw c.in-Some-2.is at c.in_ok-change.ensures in
-    effect_read c.args.bytes.now c.args.place c.in-Some.moment c.in-Some.next c.in-Some-2.next c.in-Some-2.change c.in-Some.ensures change (sym c.is_late.ensures ∙ c.if-is_late.false)
+    rw c.effect_with.ensures (effect_made c.args.bytes.now c.args.place c.in-Some.moment c.in-Some.next c.in-Some-2.next c.in-Some-2.change c.in-Some.ensures change)

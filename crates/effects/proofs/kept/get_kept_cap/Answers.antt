@@ -1,19 +1,16 @@
-use Rattle.byte_fields.specs.Codes.{BothValid, both_bytes}
-use Rattle.byte_fields.specs.Encodings.{IsFlag, flag_bytes, IsOptionOf, option_bytes}
-use Rattle.byte_fields.proofs.Codes.{both_code, flag_code, read_no_first, read_no_second}
-use Rattle.campaign.specs.Encoding.{facts_bytes}
-use Rattle.campaign.specs.Kept.{IsEncodable as IsUncapped}
-use Rattle.campaign.proofs.Decoding.{encodable_code as uncapped_code}
+use Rattle.byte_fields.specs.Encodings.{IsOptionOf, option_bytes}
+use Rattle.byte_fields.proofs.Codes.{read_no_first}
+use Rattle.effects.specs.Bodies.{IsLive, live_bytes}
 use Rattle.effects.specs.Bytes.{IsCap, terms_bytes}
+use Rattle.effects.proofs.PartCodes.{live_code, read_behind}
 use Rattle.effects.proofs.kept.get_kept_cap.Goals as goal
 
 pub returns-in_default : goal.returns-in_default
 returns-in_default c =
     let none = rw c.in_default.is at c.in_ok-facts.ensures in
-    read_no_first (BothValid IsFlag IsUncapped) (both_bytes flag_bytes facts_bytes) (IsOptionOf IsCap) (option_bytes terms_bytes) c.args.bytes.now c.args.place none
+    read_no_first IsLive live_bytes (IsOptionOf IsCap) (option_bytes terms_bytes) c.args.bytes.now c.args.place none
 
-pub returns-in_default-get_optional_cap : goal.returns-in_default-get_optional_cap
-returns-in_default-get_optional_cap c =
+pub returns : goal.returns
+returns c =
     let first = rw c.in-Some.is at c.in_ok-facts.ensures in
-    let none = c.in_default-get_optional_cap.ensures in
-    read_no_second (BothValid IsFlag IsUncapped) (both_bytes flag_bytes facts_bytes) (IsOptionOf IsCap) (option_bytes terms_bytes) (both_code IsFlag flag_bytes IsUncapped facts_bytes flag_code uncapped_code) c.args.bytes.now c.args.place c.in-Some.facts c.in-Some.next first none
+    rw c.paired.ensures (read_behind IsLive live_bytes (IsOptionOf IsCap) (option_bytes terms_bytes) live_code c.args.bytes.now c.args.place c.in-Some.facts c.in-Some.next c.get_optional_cap.result first c.get_optional_cap.ensures)

@@ -6,7 +6,7 @@ use Rattle.exchange_run.proofs.try_command.bytes_reply.Goals as goal
 
 pub returns-in-Ok : goal.returns-in-Ok
 returns-in-Ok c =
-    found (campaigns_named c.args.words.now) c.args.bytes.now (doc_tree c.in-Ok.doc) c.doc_reply.result (omega arith) c.in-Ok.ensures.found c.doc_reply.ensures
+    found (campaigns_named c.args.words.now) c.args.bytes.now (doc_tree c.in-Ok.doc) c.doc_reply-reply.result (omega arith) c.in-Ok.ensures.found c.doc_reply-reply.ensures
 
 pub returns-in-Err : goal.returns-in-Err
 returns-in-Err c =
