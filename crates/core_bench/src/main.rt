@@ -14,6 +14,7 @@ mod campaigns;
 mod shop;
 
 use crate::shop::Shop;
+use std::alloc::AllocError;
 use std::process::ExitCode;
 use std::{env, io};
 
@@ -32,9 +33,18 @@ fn main(rt: HostRuntime) -> io::Result<ExitCode> {
     ) else {
         return Ok(ExitCode::from(USAGE));
     };
-    let Ok(mut shop) = Shop::open(rt.alloc(), campaigns) else {
-        return Ok(ExitCode::from(NO_MEMORY));
-    };
+    match Shop::open(rt.alloc(), campaigns) {
+        Ok(mut shop) => {
+            let told = tell_all(&rt, &mut shop, auctions);
+            drop(shop);
+            told
+        }
+        Err(AllocError) => Ok(ExitCode::from(NO_MEMORY)),
+    }
+}
+
+// Asks each line's request so many times.
+fn tell_all(rt: &HostRuntime, shop: &mut Shop, auctions: u32) -> io::Result<ExitCode> {
     for line in rt.lines(rt.alloc()) {
         let line = line?;
         let Ok(status) = shop.ask_times(rt.alloc(), line.as_str(), auctions) else {
