@@ -5,7 +5,7 @@ ghost use Rattle.exact_json.specs.View.{tree_of};
 use crate::value::Value;
 
 /// The value of a whole text. Only `read` makes one.
-#[derive(Debug, Drop)]
+#[derive(Drop)]
 pub struct Doc {
     root: Value,
     ghost formed: { numbers_formed (tree_of root) ≡ true },

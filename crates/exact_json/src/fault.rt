@@ -1,20 +1,36 @@
+use std::fmt;
 use thiserror::Error;
 
 /// Why there is no value. Each `at` is an offset in the bytes, from 0.
-#[derive(Clone, Copy, Debug, PartialEq, Eq, Error)]
+#[derive(Clone, Copy, PartialEq, Eq, Error)]
+#[error("{}", self.text())]
 pub enum JsonFault {
-    #[error("memory ran out")]
     Memory,
     /// A byte inside a string is none of UTF-8, or leaves a character unended (RFC 3629).
-    #[error("the text has a string that is not UTF-8, at byte {at}")]
     Utf8 { at: usize },
     /// What begins so is no text (RFC 8259).
-    #[error("the text is no JSON, at byte {at}")]
     Syntax { at: usize },
     /// The bytes are the front of a text. `at` is their number.
-    #[error("the text ends before its value does, at byte {at}")]
     Ended { at: usize },
     /// A bracket or a brace opens a 65th level.
-    #[error("the text nests deeper than 64 levels, at byte {at}")]
     Deep { at: usize },
+}
+
+impl JsonFault {
+    // What it is, without its place.
+    fn text(&self) -> &'static str {
+        match self {
+            JsonFault::Memory => "memory ran out",
+            JsonFault::Utf8 { .. } => "the text has a string that is not UTF-8",
+            JsonFault::Syntax { .. } => "the text is no JSON",
+            JsonFault::Ended { .. } => "the text ends before its value does",
+            JsonFault::Deep { .. } => "the text nests deeper than 64 levels",
+        }
+    }
+}
+
+impl fmt::Debug for JsonFault {
+    fn fmt<W: fmt::Write>(&self, f: &mut fmt::Formatter<W>) -> fmt::Result {
+        f.write_str(self.text())
+    }
 }

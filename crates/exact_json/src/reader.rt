@@ -1,6 +1,6 @@
-ghost use Rattle.std.specs.Prelude.{◌≡◌, ◌<◌, ◌≤◌, ◌++◌, ◌⊎◌, length, map, IfOk};
+ghost use Rattle.std.specs.Prelude.{◌≡◌, ◌<◌, ◌≤◌, ◌++◌, ◌⊎◌, [], ◌∷◌, length, map, IfOk};
 ghost use Rattle.exact_json.specs.Gives.{Gives, Leaves, Reads};
-ghost use Rattle.exact_json.specs.Reading.{byte_then, entries_at, flat_at, is_space, mapped, member_at, more_at, quoted_at, skip, text_at, value_at, word_at};
+ghost use Rattle.exact_json.specs.Reading.{byte_then, end_of, entries_at, flat_at, is_space, mapped, member_at, more_at, quoted_at, skip, text_at, value_at, word_at, word_value_at};
 ghost use Rattle.exact_json.specs.Reading as reading;
 ghost use Rattle.exact_json.specs.View.{tree_of};
 
@@ -17,8 +17,15 @@ pub(crate) fn text_of(alloc: Global, bytes: &[u8], depth: usize) -> Result<Value
     ensures { Reads result (text_at depth bytes.now) }
 {
     let (value, rest) = value_of(alloc, skip_spaces(bytes), depth)?;
-    let rest = skip_spaces(rest);
+    at_end(value, skip_spaces(rest))
+}
+
+// The value, where nothing stands behind it.
+fn at_end(value: Value, rest: &[u8]) -> Result<Value, Stop>
+    ensures { Reads result (end_of (tree_of value) rest.now) }
+{
     if !rest.is_empty() {
+        drop(value);
         return Err(Stop::At(rest.len()));
     }
     Ok(value)
@@ -63,19 +70,28 @@ fn scalar_of(alloc: Global, bytes: &[u8]) -> Result<(Value, &[u8]), Stop>
         let (text, rest) = number_of(alloc, bytes)?;
         return Ok((Value::Num(text), rest));
     }
-    if *first == b'n' {
+    word_value(*first, rest, bytes.len())
+}
+
+// A value that is a word with this first byte, where so many bytes are left with it.
+#[inline(always)]
+fn word_value(first: u8, rest: &[u8], left: usize) -> Result<(Value, &[u8]), Stop>
+    requires { left ≡ length (first ∷ rest.now) }
+    ensures { Gives tree_of result (word_value_at first rest.now) }
+{
+    if first == b'n' {
         let rest = after_word(rest, b"ull")?;
         return Ok((Value::Null, rest));
     }
-    if *first == b't' {
+    if first == b't' {
         let rest = after_word(rest, b"rue")?;
         return Ok((Value::Bool(true), rest));
     }
-    if *first == b'f' {
+    if first == b'f' {
         let rest = after_word(rest, b"alse")?;
         return Ok((Value::Bool(false), rest));
     }
-    Err(Stop::At(bytes.len()))
+    Err(Stop::At(left))
 }
 
 fn number_of(alloc: Global, bytes: &[u8]) -> Result<(Txt, &[u8]), Stop>
@@ -128,8 +144,7 @@ fn items_of(alloc: Global, bytes: &[u8], depth: usize) -> Result<(Items, &[u8]),
     }
     let (value, rest) = value_of(alloc, bytes, depth)?;
     let rest = skip_spaces(rest);
-    let mut values = Vec::with_capacity(alloc, first_room(rest, b']', FIRST_ITEMS))?;
-    values.push(value)?;
+    let values = begun(alloc, value, first_room(rest, b']', FIRST_ITEMS))?;
     more_items_of(alloc, values, rest, depth)
 }
 
@@ -167,6 +182,16 @@ fn first_room(left: &[u8], close: u8, usual: usize) -> usize
         Some(next) if *next == close => 1,
         _ => usual,
     }
+}
+
+// A list of this item, with room for so many.
+#[inline(always)]
+fn begun<T: Drop>(alloc: Global, first: T, room: usize) -> Result<Vec<T>, AllocError>
+    ensures { IfOk result (λ list. list.items ≡ first ∷ []) }
+{
+    let mut list = Vec::with_capacity(alloc, room)?;
+    list.push(first)?;
+    Ok(list)
 }
 
 // What follows the first items.
@@ -215,8 +240,7 @@ fn members_of(alloc: Global, bytes: &[u8], depth: usize) -> Result<(Members, &[u
     }
     let (pair, rest) = member_of(alloc, bytes, depth)?;
     let rest = skip_spaces(rest);
-    let mut pairs = Vec::with_capacity(alloc, first_room(rest, b'}', FIRST_MEMBERS))?;
-    pairs.push(pair)?;
+    let pairs = begun(alloc, pair, first_room(rest, b'}', FIRST_MEMBERS))?;
     more_members_of(alloc, pairs, rest, depth)
 }
 

@@ -10,7 +10,7 @@ use rtb_num::Txt;
 use std::alloc::{AllocError, Global};
 
 // What stands behind a backslash: a byte, or a unit of UTF-16.
-#[derive(Clone, Copy, Debug, Drop)]
+#[derive(Clone, Copy, Drop)]
 enum Escape {
     Byte(u8),
     Unit(u16),

@@ -7,7 +7,7 @@ ghost use Rattle.exact_json.specs.View.{pairs_in, pairs_of, tree_of, trees_in};
 use rtb_num::Txt;
 
 /// A JSON value.
-#[derive(Debug, Drop)]
+#[derive(Drop)]
 #[cycle(value)]
 pub enum Value {
     Null,
@@ -21,14 +21,14 @@ pub enum Value {
 }
 
 /// The values of an array, in order.
-#[derive(Debug, Drop)]
+#[derive(Drop)]
 #[cycle(value)]
 pub struct Items {
     pub(crate) values: Vec<Value>,
 }
 
 /// The members of an object, in order: names, which may repeat, and values.
-#[derive(Debug, Drop)]
+#[derive(Drop)]
 #[cycle(value)]
 pub struct Members {
     pub(crate) pairs: Vec<(Txt, Value)>,

@@ -43,25 +43,3 @@ impl<L: Ledger> Steps<L> {
         self.book.add(&mut self.share, 1);
     }
 }
-
-#[cfg(test)]
-mod tests {
-    use super::*;
-    use std::marker::Brand;
-
-    fn count_to_three<L: Ledger>(blank: Blank)
-        requires name { blank.name ≡ L.name }
-        requires parts { blank.parts ≡ L.parts }
-        requires some { 0 < blank.parts }
-    {
-        let mut steps = Steps::<L>::new(blank);
-        for _ in 0..3u8 {
-            steps.tick();
-        }
-    }
-
-    #[test]
-    fn a_caller_that_counts_nothing_has_a_counter() {
-        count_to_three::<Brand>(Blank::new(1));
-    }
-}

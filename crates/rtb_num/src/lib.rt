@@ -30,7 +30,7 @@ pub use lists::List;
 pub use memory::{MemSink, MemSource};
 pub use money::{Micros, Nanos};
 pub use number_form::{is_decimal, is_number};
-pub use paths::{PathName, put_item, put_member, put_name, put_place};
+pub use paths::{put_item, put_member, put_name, put_place};
 pub use read_amounts::{PriceFault, exact_micros, floor_micros, is_whole, whole};
 pub use real::{StdSink, StdSource};
 pub use spare::{SpareList, SpareTxt};

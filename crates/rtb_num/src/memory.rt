@@ -13,7 +13,7 @@ use std::alloc::Global;
 use std::marker::Model;
 
 /// A source over a text in memory, where the calls whose numbers are listed fail.
-#[derive(Debug, Drop)]
+#[derive(Drop)]
 pub struct MemSource {
     bytes: Txt,
     place: usize,
@@ -90,7 +90,7 @@ fn fill(out: &mut [u8], rest: &[u8]) -> usize
 /// A sink that keeps in memory what it gets, where the calls whose numbers are listed fail.
 ///
 /// A call that finds no memory fails too.
-#[derive(Debug, Drop)]
+#[derive(Drop)]
 pub struct MemSink {
     written: Txt,
     calls: Calls,

@@ -5,7 +5,7 @@ use std::marker::Model;
 /// A price: whole micro-dollars per thousand impressions, from 0 to 10^12 (a million dollars).
 ///
 /// Contracts see it as the number of micro-dollars.
-#[derive(Clone, Copy, Debug, PartialEq, Eq, PartialOrd, Ord, Hash)]
+#[derive(Clone, Copy, Debug, PartialEq, Eq, PartialOrd, Ord)]
 pub struct Micros {
     micros: u64,
 }
@@ -48,7 +48,7 @@ impl Micros {
 ///
 /// One impression sold at p micro-dollars per thousand costs exactly p nano-dollars. Contracts see
 /// it as the number of nano-dollars.
-#[derive(Clone, Copy, Debug, PartialEq, Eq, PartialOrd, Ord, Hash)]
+#[derive(Clone, Copy, Debug, PartialEq, Eq, PartialOrd, Ord)]
 pub struct Nanos {
     nanos: u64,
 }

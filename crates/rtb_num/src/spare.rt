@@ -139,7 +139,7 @@ impl<T: Drop> SpareList<T> {
 }
 
 /// A text that keeps room for bytes to come. Contracts see its bytes, and how many more fit.
-#[derive(Debug, Drop)]
+#[derive(Drop)]
 pub struct SpareTxt {
     bytes: Vec<u8>,
 }

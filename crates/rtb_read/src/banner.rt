@@ -3,7 +3,7 @@ ghost use Rattle.std.specs.Option.{option_to_list};
 ghost use Rattle.std.specs.List.{All};
 ghost use Rattle.exact_json.specs.Forms.{HasForms};
 ghost use Rattle.exact_json.specs.View.{tree_of};
-ghost use Rattle.json_fields.specs.Answers.{Answers, map_ok};
+ghost use Rattle.json_fields.specs.Answers.{Answers};
 ghost use Rattle.json_fields.specs.Fields.{present};
 ghost use Rattle.rtb_types.specs.Paths.{banner_name, imp_name};
 ghost use Rattle.json_fields.specs.Items.{each_at, elements, list_values};
@@ -59,8 +59,8 @@ fn sizes_field(
     ensures { Answers ReqFault.Memory (formats_faults imp (tree_of banner.now)) (sizes_of own (elements (formats_in (tree_of banner.now)))) result }
 {
     match array_field(banner, Field::Banner(imp, BannerField::Format)) {
-        Ok(Some(values)) => Ok(List::from_vec(all_sizes(alloc, own, imp, values)?)),
-        Ok(None) => Ok(List::from_vec(all_sizes(alloc, own, imp, &[])?)),
+        Ok(Some(values)) => all_sizes(alloc, own, imp, values),
+        Ok(None) => all_sizes(alloc, own, imp, &[]),
         Err(flaw) => Err(fault(Field::Banner(imp, BannerField::Format), flaw)),
     }
 }
@@ -71,9 +71,9 @@ fn all_sizes(
     own: Option<Size>,
     imp: usize,
     values: &[Value],
-) -> Result<Vec<Size>, ReqFault>
+) -> Result<List<Size>, ReqFault>
     requires forms { All (λ v. HasForms (tree_of v)) values.now }
-    ensures { Answers ReqFault.Memory (each_at (format_at imp) (map tree_of values.now)) (sizes_of own (map tree_of values.now)) (map_ok (λ v. v.items) result) }
+    ensures { Answers ReqFault.Memory (each_at (format_at imp) (map tree_of values.now)) (sizes_of own (map tree_of values.now)) result }
 {
     let mut sizes = Vec::with_capacity(alloc, values.len())?;
     push_size(&mut sizes, own)?;
@@ -81,7 +81,7 @@ fn all_sizes(
         let size = format_entry(imp, place, value)?;
         push_size(&mut sizes, size)?;
     }
-    Ok(sizes)
+    Ok(List::from_vec(sizes))
 }
 
 fn push_size(sizes: &mut Vec<Size>, size: Option<Size>) -> Result<(), AllocError>

@@ -11,7 +11,8 @@ ghost use Rattle.rtb_read.specs.Parts.{faults_at, inside_faults, inside_from, li
 
 use crate::fault::ReqFault;
 use crate::parts::{
-    array_field, currency_field, fault, flag_field, floor_field, object_field, push, unless_faulty,
+    array_field, both, currency_field, fault, flag_field, floor_field, object_field, push,
+    unless_faulty,
 };
 use crate::types::type_field;
 use exact_json::Value;
@@ -52,15 +53,15 @@ fn deals_field(alloc: Global, at: u8, imp: usize, pmp: &Value) -> Result<List<De
     ensures { Answers ReqFault.Memory (deals_faults imp (tree_of pmp.now)) (deals_from at (elements (deals_in (tree_of pmp.now)))) result }
 {
     match array_field(pmp, Field::Pmp(imp, PmpField::Deals)) {
-        Ok(Some(values)) => Ok(List::from_vec(all_deals(alloc, at, imp, values)?)),
+        Ok(Some(values)) => all_deals(alloc, at, imp, values),
         Ok(None) => Ok(List::new(alloc)),
         Err(flaw) => Err(fault(Field::Pmp(imp, PmpField::Deals), flaw)),
     }
 }
 
-fn all_deals(alloc: Global, at: u8, imp: usize, values: &[Value]) -> Result<Vec<Deal>, ReqFault>
+fn all_deals(alloc: Global, at: u8, imp: usize, values: &[Value]) -> Result<List<Deal>, ReqFault>
     requires forms { All (λ v. HasForms (tree_of v)) values.now }
-    ensures { Answers ReqFault.Memory (each_at (deal_at imp) (map tree_of values.now)) (deals_from at (map tree_of values.now)) (map_ok (λ v. v.items) result) }
+    ensures { Answers ReqFault.Memory (each_at (deal_at imp) (map tree_of values.now)) (deals_from at (map tree_of values.now)) result }
 {
     let mut deals = Vec::with_capacity(alloc, values.len())?;
     let read = push_all(alloc, at, imp, values, &mut deals);
@@ -106,7 +107,6 @@ fn deal_entry(
 const DEAL_TYPES: u8 = 3;
 
 // A deal, by the request's auction type and by the places of its impression and of its own.
-#[tactic(auto, using(json_fields::proofs::First::firsts), unfolding(crate::specs::Imps::deal_faults, crate::specs::Imps::deal_from))]
 fn deal_in(alloc: Global, at: u8, imp: usize, place: usize, deal: &Value) -> Result<Deal, ReqFault>
     requires forms { HasForms (tree_of deal.now) }
     ensures { Answers ReqFault.Memory (deal_faults imp place (tree_of deal.now)) (deal_from at (tree_of deal.now)) result }
@@ -124,16 +124,22 @@ fn deal_in(alloc: Global, at: u8, imp: usize, place: usize, deal: &Value) -> Res
         DEAL_TYPES,
         at,
     )?;
-    let wseat = texts_field(alloc, imp, place, deal, DealField::Wseat)?;
-    let wadomain = texts_field(alloc, imp, place, deal, DealField::Wadomain)?;
-    Ok(Deal {
-        id,
-        floor,
-        currency,
-        at,
-        wseat,
-        wadomain,
-    })
+    let read = texts_field(alloc, imp, place, deal, DealField::Wseat);
+    let read = both(
+        read,
+        texts_field(alloc, imp, place, deal, DealField::Wadomain),
+    );
+    match read {
+        Ok((wseat, wadomain)) => Ok(Deal {
+            id,
+            floor,
+            currency,
+            at,
+            wseat,
+            wadomain,
+        }),
+        Err(fault) => Err(fault),
+    }
 }
 
 #[tactic(auto, unfolding(crate::specs::Parts::faults_at))]

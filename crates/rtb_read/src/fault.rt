@@ -5,39 +5,57 @@ use json_fields::Flaw;
 use rtb_num::PriceFault;
 use rtb_types::Field;
 use std::alloc::{AllocError, AllocFailed};
+use std::fmt;
 use thiserror::Error;
 
 /// Why a JSON text is no bid request.
-#[derive(Clone, Copy, Debug, PartialEq, Eq, Error)]
+#[derive(Clone, Copy, Error)]
+#[error("{}", self.text())]
 pub enum ReqFault {
-    #[error("the request is no object")]
+    /// The text is no object.
     NotObject,
     /// The field is required and is absent or null.
-    #[error("{field} is missing")]
     Missing { field: Field },
     /// The field has a value of another type.
-    #[error("{field} is of another type")]
     WrongType { field: Field },
     /// The field's number is not whole or out of its range, or its text is not of 1 to 255 bytes.
-    #[error("{field} is out of its range")]
     Range { field: Field },
-    #[error("{field} is no price: {fault}")]
+    /// The field's number is no price.
     Price { field: Field, fault: PriceFault },
     /// The field's number is whole and names no auction type.
-    #[error("{field} names no auction type")]
     AuctionType { field: Field },
     /// `imp` is empty.
-    #[error("there is no impression")]
     NoImps,
     /// `imp` has more than 64 entries: so many.
-    #[error("there are {count} impressions, and 64 is the most")]
     TooManyImps { count: usize },
     /// Two impressions have one id. Places are counted from 0: `second` is the least place of an
     /// impression whose id stands before it, and `first` the least place where it does.
-    #[error("the impressions {first} and {second} have one id")]
     DuplicateImp { first: usize, second: usize },
-    #[error("memory ran out")]
     Memory,
+}
+
+impl ReqFault {
+    // What it is, without its field.
+    fn text(&self) -> &'static str {
+        match self {
+            ReqFault::NotObject => "the request is no object",
+            ReqFault::Missing { .. } => "a field is missing",
+            ReqFault::WrongType { .. } => "a field is of another type",
+            ReqFault::Range { .. } => "a field is out of its range",
+            ReqFault::Price { .. } => "a field is no price",
+            ReqFault::AuctionType { .. } => "a field names no auction type",
+            ReqFault::NoImps => "there is no impression",
+            ReqFault::TooManyImps { .. } => "there are more than 64 impressions",
+            ReqFault::DuplicateImp { .. } => "two impressions have one id",
+            ReqFault::Memory => "memory ran out",
+        }
+    }
+}
+
+impl fmt::Debug for ReqFault {
+    fn fmt<W: fmt::Write>(&self, f: &mut fmt::Formatter<W>) -> fmt::Result {
+        f.write_str(self.text())
+    }
 }
 
 impl From<AllocError> for ReqFault {
@@ -57,7 +75,7 @@ impl<T: Drop> From<AllocFailed<T>> for ReqFault {
 }
 
 // What is wrong with an auction type.
-#[derive(Clone, Copy, Debug, PartialEq, Eq)]
+#[derive(Clone, Copy)]
 pub(crate) enum TypeFlaw {
     Field(Flaw),
     // It is whole and names none.

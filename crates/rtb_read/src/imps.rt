@@ -11,7 +11,7 @@ use crate::banner::banner_field;
 use crate::deals::pmp_field;
 use crate::fault::ReqFault;
 use crate::parts::{
-    currency_field, fault, flag_field, floor_field, id_field, push, text_field, unless_faulty,
+    both, currency_field, fault, flag_field, floor_field, id_field, push, text_field, unless_faulty,
 };
 use exact_json::Value;
 use json_fields as fields;
@@ -27,8 +27,8 @@ pub(crate) fn imps_in(alloc: Global, at: u8, values: &[Value]) -> Result<List<Im
 {
     check_count(values.len())?;
     let imps = all_imps(alloc, at, values)?;
-    check_ids(&imps)?;
-    Ok(List::from_vec(imps))
+    check_ids(imps.as_slice())?;
+    Ok(imps)
 }
 
 // Whether there are 1 to 64.
@@ -46,9 +46,9 @@ fn check_count(count: usize) -> Result<(), ReqFault>
     Ok(())
 }
 
-fn all_imps(alloc: Global, at: u8, values: &[Value]) -> Result<Vec<Imp>, ReqFault>
+fn all_imps(alloc: Global, at: u8, values: &[Value]) -> Result<List<Imp>, ReqFault>
     requires forms { All (λ v. HasForms (tree_of v)) values.now }
-    ensures { Answers ReqFault.Memory (each_at imp_at (map tree_of values.now)) (imps_from at (map tree_of values.now)) (map_ok (λ v. v.items) result) }
+    ensures { Answers ReqFault.Memory (each_at imp_at (map tree_of values.now)) (imps_from at (map tree_of values.now)) result }
 {
     let mut imps = Vec::with_capacity(alloc, values.len())?;
     let read = push_all(alloc, at, values, &mut imps);
@@ -79,7 +79,6 @@ fn imp_entry(alloc: Global, at: u8, place: usize, value: &Value) -> Result<Imp, 
 }
 
 // An impression, by the request's auction type and by its place.
-#[tactic(auto, using(json_fields::proofs::First::firsts), unfolding(crate::specs::Imps::imp_faults, crate::specs::Imps::imp_from))]
 fn imp_in(alloc: Global, at: u8, place: usize, imp: &Value) -> Result<Imp, ReqFault>
     requires forms { HasForms (tree_of imp.now) }
     ensures { Answers ReqFault.Memory (imp_faults place (tree_of imp.now)) (imp_from at (tree_of imp.now)) result }
@@ -88,18 +87,21 @@ fn imp_in(alloc: Global, at: u8, place: usize, imp: &Value) -> Result<Imp, ReqFa
     let tagid = text_field(imp, Field::Imp(place, ImpField::Tagid))?;
     let secure = flag_field(imp, Field::Imp(place, ImpField::Secure))?;
     let floor = floor_field(imp, Field::Imp(place, ImpField::Bidfloor))?;
-    let currency = currency_field(alloc, imp, Field::Imp(place, ImpField::Bidfloorcur))?;
-    let banner = banner_field(alloc, place, imp)?;
-    let pmp = pmp_field(alloc, at, place, imp)?;
-    Ok(Imp {
-        id,
-        tagid,
-        secure,
-        floor,
-        currency,
-        banner,
-        pmp,
-    })
+    let read = currency_field(alloc, imp, Field::Imp(place, ImpField::Bidfloorcur));
+    let read = both(read, banner_field(alloc, place, imp));
+    let read = both(read, pmp_field(alloc, at, place, imp));
+    match read {
+        Ok(((currency, banner), pmp)) => Ok(Imp {
+            id,
+            tagid,
+            secure,
+            floor,
+            currency,
+            banner,
+            pmp,
+        }),
+        Err(fault) => Err(fault),
+    }
 }
 
 // Whether no two have one id. There are at most 64, so each is compared with each.

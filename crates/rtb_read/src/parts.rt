@@ -12,7 +12,7 @@ use crate::fault::ReqFault;
 use exact_json::Value;
 use json_fields as fields;
 use json_fields::{Bounds, Flaw};
-use rtb_num::{Micros, Txt};
+use rtb_num::{List as Items, Micros, Txt};
 use rtb_types::Field;
 use std::alloc::{AllocError, Global};
 
@@ -56,11 +56,11 @@ pub(crate) fn both<A: Drop, B: Drop>(
 pub(crate) fn unless_faulty<T: Drop>(
     items: Vec<T>,
     read: Result<(), ReqFault>,
-) -> Result<Vec<T>, ReqFault>
-    ensures { result ≡ map_ok (λ _. items) read }
+) -> Result<Items<T>, ReqFault>
+    ensures { result ≡ map_ok (λ _. items.items) read }
 {
     match read {
-        Ok(()) => Ok(items),
+        Ok(()) => Ok(Items::from_vec(items)),
         Err(fault) => Err(fault),
     }
 }

@@ -11,7 +11,7 @@ ghost use Rattle.rtb_read.specs.Request.{all_imps_faults, fields_faults, imp_arr
 use crate::context::{app_field, device_field, site_field, user_field};
 use crate::fault::ReqFault;
 use crate::imps::imps_in;
-use crate::parts::{fault, flag_field, id_field};
+use crate::parts::{both, fault, flag_field, id_field};
 use crate::types::type_field;
 use exact_json::{Doc, Value};
 use json_fields as fields;
@@ -49,7 +49,6 @@ const AUCTION_TYPES: u8 = 2;
 const SECOND_PRICE: u8 = 2;
 
 // The fields of a request, in the order in which they are read.
-#[tactic(auto, using(json_fields::proofs::First::firsts), unfolding(crate::specs::Request::fields_faults, crate::specs::Request::request_from))]
 fn request_in(alloc: Global, request: &Value) -> Result<BidRequest, ReqFault>
     requires forms { HasForms (tree_of request.now) }
     ensures { Answers ReqFault.Memory (fields_faults (tree_of request.now)) (request_from (tree_of request.now)) result }
@@ -62,31 +61,36 @@ fn request_in(alloc: Global, request: &Value) -> Result<BidRequest, ReqFault>
         SECOND_PRICE,
     )?;
     let test = flag_field(request, Field::Request(RequestField::Test))?;
-    let wseat = texts_field(alloc, request, RequestField::Wseat)?;
-    let bseat = texts_field(alloc, request, RequestField::Bseat)?;
-    let cur = texts_field(alloc, request, RequestField::Cur)?;
-    let bcat = texts_field(alloc, request, RequestField::Bcat)?;
-    let badv = texts_field(alloc, request, RequestField::Badv)?;
-    let site = site_field(request)?;
-    let app = app_field(request)?;
-    let device = device_field(request)?;
-    let user = user_field(request)?;
-    let imps = imps_field(alloc, at, request)?;
-    Ok(BidRequest {
-        id,
-        at,
-        test,
-        wseat,
-        bseat,
-        cur,
-        bcat,
-        badv,
-        site,
-        app,
-        device,
-        user,
-        imps,
-    })
+    let read = texts_field(alloc, request, RequestField::Wseat);
+    let read = both(read, texts_field(alloc, request, RequestField::Bseat));
+    let read = both(read, texts_field(alloc, request, RequestField::Cur));
+    let read = both(read, texts_field(alloc, request, RequestField::Bcat));
+    let read = both(read, texts_field(alloc, request, RequestField::Badv));
+    let read = both(read, site_field(request));
+    let read = both(read, app_field(request));
+    let read = both(read, device_field(request));
+    let read = both(read, user_field(request));
+    let read = both(read, imps_field(alloc, at, request));
+    match read {
+        Ok((((((((((wseat, bseat), cur), bcat), badv), site), app), device), user), imps)) => Ok(
+            BidRequest {
+                id,
+                at,
+                test,
+                wseat,
+                bseat,
+                cur,
+                bcat,
+                badv,
+                site,
+                app,
+                device,
+                user,
+                imps,
+            },
+        ),
+        Err(fault) => Err(fault),
+    }
 }
 
 // A list of texts.

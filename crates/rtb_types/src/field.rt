@@ -4,7 +4,7 @@ ghost use Rattle.rtb_types.specs.Paths.{app_member, app_name, banner_name, deal_
 /// A listed field of a bid request (OpenRTB 2.5, section 3.2), with its places in arrays.
 ///
 /// Places are counted from 0. `write` gives its path, as `imp[0].pmp.deals[1].bidfloor`.
-#[derive(Clone, Copy, Debug, PartialEq, Eq)]
+#[derive(Clone, Copy)]
 pub enum Field {
     /// A field of the request itself.
     Request(RequestField),
@@ -34,7 +34,7 @@ pub enum Field {
 }
 
 /// A field of the request (section 3.2.1).
-#[derive(Clone, Copy, Debug, PartialEq, Eq)]
+#[derive(Clone, Copy)]
 pub enum RequestField {
     Id,
     At,
@@ -52,7 +52,7 @@ pub enum RequestField {
 }
 
 /// A field of the site (section 3.2.13).
-#[derive(Clone, Copy, Debug, PartialEq, Eq)]
+#[derive(Clone, Copy)]
 pub enum SiteField {
     Id,
     Domain,
@@ -62,7 +62,7 @@ pub enum SiteField {
 }
 
 /// A field of the app (section 3.2.14).
-#[derive(Clone, Copy, Debug, PartialEq, Eq)]
+#[derive(Clone, Copy)]
 pub enum AppField {
     Id,
     Bundle,
@@ -72,7 +72,7 @@ pub enum AppField {
 }
 
 /// A field of the device (section 3.2.18).
-#[derive(Clone, Copy, Debug, PartialEq, Eq)]
+#[derive(Clone, Copy)]
 pub enum DeviceField {
     Geo,
     Devicetype,
@@ -86,7 +86,7 @@ pub enum DeviceField {
 }
 
 /// A field of the device's place (section 3.2.19).
-#[derive(Clone, Copy, Debug, PartialEq, Eq)]
+#[derive(Clone, Copy)]
 pub enum GeoField {
     Country,
     Region,
@@ -96,7 +96,7 @@ pub enum GeoField {
 }
 
 /// A field of the user (section 3.2.20).
-#[derive(Clone, Copy, Debug, PartialEq, Eq)]
+#[derive(Clone, Copy)]
 pub enum UserField {
     Id,
     Yob,
@@ -104,7 +104,7 @@ pub enum UserField {
 }
 
 /// A field of an impression (section 3.2.4).
-#[derive(Clone, Copy, Debug, PartialEq, Eq)]
+#[derive(Clone, Copy)]
 pub enum ImpField {
     Id,
     Tagid,
@@ -116,7 +116,7 @@ pub enum ImpField {
 }
 
 /// A field of a banner (section 3.2.6).
-#[derive(Clone, Copy, Debug, PartialEq, Eq)]
+#[derive(Clone, Copy)]
 pub enum BannerField {
     W,
     H,
@@ -126,21 +126,21 @@ pub enum BannerField {
 }
 
 /// A field of a size (section 3.2.10).
-#[derive(Clone, Copy, Debug, PartialEq, Eq)]
+#[derive(Clone, Copy)]
 pub enum SizeField {
     W,
     H,
 }
 
 /// A field of a private marketplace (section 3.2.11).
-#[derive(Clone, Copy, Debug, PartialEq, Eq)]
+#[derive(Clone, Copy)]
 pub enum PmpField {
     PrivateAuction,
     Deals,
 }
 
 /// A field of a deal (section 3.2.12).
-#[derive(Clone, Copy, Debug, PartialEq, Eq)]
+#[derive(Clone, Copy)]
 pub enum DealField {
     Id,
     Bidfloor,

@@ -7,7 +7,6 @@
 mod field;
 mod path;
 mod request;
-mod show;
 
 pub use field::{
     AppField, BannerField, DealField, DeviceField, Field, GeoField, ImpField, PmpField,

@@ -10,7 +10,7 @@ pub const MAX_IMPS: usize = 64;
 /// A bid request (OpenRTB 2.5, section 3.2.1).
 ///
 /// It is made by a reader, and every call that takes one wants it valid: see `is_valid`.
-#[derive(Debug, Drop)]
+#[derive(Drop)]
 pub struct BidRequest {
     /// Of 1 to 255 bytes.
     pub id: Txt,
@@ -37,7 +37,7 @@ pub struct BidRequest {
 }
 
 /// The website that the impressions are on (section 3.2.13).
-#[derive(Debug, Drop)]
+#[derive(Drop)]
 pub struct Site {
     pub id: Option<Txt>,
     pub domain: Option<Txt>,
@@ -46,7 +46,7 @@ pub struct Site {
 }
 
 /// The app that the impressions are in (section 3.2.14).
-#[derive(Debug, Drop)]
+#[derive(Drop)]
 pub struct App {
     pub id: Option<Txt>,
     pub bundle: Option<Txt>,
@@ -55,7 +55,7 @@ pub struct App {
 }
 
 /// The device of the user (section 3.2.18).
-#[derive(Debug, Drop)]
+#[derive(Drop)]
 pub struct Device {
     pub geo: Option<Geo>,
     /// By list 5.21.
@@ -73,7 +73,7 @@ pub struct Device {
 }
 
 /// Where the device is (section 3.2.19).
-#[derive(Debug, Drop)]
+#[derive(Drop)]
 pub struct Geo {
     pub country: Option<Txt>,
     pub region: Option<Txt>,
@@ -83,7 +83,7 @@ pub struct Geo {
 }
 
 /// Who sees the impressions (section 3.2.20).
-#[derive(Debug, Drop)]
+#[derive(Drop)]
 pub struct User {
     pub id: Option<Txt>,
     /// The year of birth.
@@ -92,7 +92,7 @@ pub struct User {
 }
 
 /// What is for sale (section 3.2.4).
-#[derive(Debug, Drop)]
+#[derive(Drop)]
 pub struct Imp {
     /// Of 1 to 255 bytes.
     pub id: Txt,
@@ -109,7 +109,7 @@ pub struct Imp {
 }
 
 /// A banner that is asked for (section 3.2.6).
-#[derive(Debug, Drop)]
+#[derive(Drop)]
 pub struct Banner {
     /// The sizes that fit: `w` and `h`, where both are given, and then each of `format` with both.
     pub sizes: List<Size>,
@@ -120,14 +120,14 @@ pub struct Banner {
 }
 
 /// A width and a height in device independent pixels (section 3.2.10).
-#[derive(Clone, Copy, Debug, PartialEq, Eq)]
+#[derive(Clone, Copy)]
 pub struct Size {
     pub w: i32,
     pub h: i32,
 }
 
 /// The private marketplace of an impression (section 3.2.11).
-#[derive(Debug, Drop)]
+#[derive(Drop)]
 pub struct Pmp {
     /// Whether only the deals may buy.
     pub private_auction: bool,
@@ -135,7 +135,7 @@ pub struct Pmp {
 }
 
 /// A deal between a publisher and buyers (section 3.2.12).
-#[derive(Debug, Drop)]
+#[derive(Drop)]
 pub struct Deal {
     pub id: Txt,
     /// `bidfloor`: the least bid, in micro-dollars per thousand impressions, rounded up.
