@@ -95,8 +95,8 @@ impl Core {
         requires few { self.old.edits < 2 ^ 63 }
         ensures { Applies (with_added facts.now expr.now (swept moment self.old.state)) 1 self.old self.new result }
     {
-        let entry = copy_entry(alloc, facts, expr)?;
         self.reserve_campaign()?;
+        let entry = copy_entry(alloc, facts, expr)?;
         self.sweep(moment);
         self.add(entry);
         Ok(())
@@ -186,8 +186,8 @@ impl Core {
         if !self.can_sell(items.as_slice(), moment) {
             return Err(ApplyFault::Unfit);
         }
-        let holdings = item_holdings(alloc, user, items.as_slice())?;
         self.reserve_sales(items.len() as u32)?;
+        let holdings = item_holdings(alloc, user, items.as_slice())?;
         self.sweep(moment);
         self.hold_all(holdings, moment);
         Ok(())

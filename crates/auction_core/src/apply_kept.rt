@@ -35,8 +35,8 @@ impl Core {
         if !self.can_keep(kept) {
             return Err(ApplyFault::Unfit);
         }
-        let entry = copy_entry(alloc, &kept.facts, &kept.expr)?;
         self.reserve_campaign()?;
+        let entry = copy_entry(alloc, &kept.facts, &kept.expr)?;
         self.keep(entry, kept.live, kept.gone);
         Ok(())
     }
@@ -116,10 +116,10 @@ impl Core {
         if !self.can_keep_sale(row) {
             return Err(ApplyFault::Unfit);
         }
-        let key = key_of(alloc, row.user.as_ref())?;
-        let row = copy_row(row)?;
         self.reserve_sales(1)?;
-        self.keep_sale(row, key);
+        let copy = copy_row(row)?;
+        let key = key_of(alloc, row.user.as_ref())?;
+        self.keep_sale(copy, key);
         Ok(())
     }
 

@@ -9,7 +9,7 @@ use crate::draft::Holding;
 use crate::exchange::Core;
 use budget_book::UserKey;
 use clearing::Win;
-use plain_exchange::{Change, Sold, SoldItem};
+use plain_exchange::{Change, SharedRecord, Sold, SoldItem};
 use rtb_num::{List, Nanos, Txt};
 use rtb_types::{BidRequest, Deal};
 use std::alloc::{AllocError, Global};
@@ -45,20 +45,30 @@ impl Core {
     {
         match self.table.get(award.1.campaign) {
             None => Ok(None),
-            Some(entry) => {
-                let record = entry.share()?;
-                let deal = deal_id(request, award.0, award.1.pool)?;
-                Ok(Some(Sold {
-                    imp: award.0,
-                    sale,
-                    price: award.1.price,
-                    deal,
-                    campaign: award.1.campaign,
-                    record,
-                }))
-            }
+            Some(entry) => Ok(Some(sold_of(request, award, sale, entry)?)),
         }
     }
+}
+
+// The award as it is answered, with what its campaign states.
+fn sold_of(
+    request: &BidRequest,
+    award: &(u32, Win),
+    sale: u64,
+    entry: &SharedRecord,
+) -> Result<Sold, AllocError>
+    ensures { IfOk result (λ s. s ≡ record { imp = award.now.0; sale = sale; price = award.now.1.price; deal = deal_of request.now award.now.0 award.now.1.pool; campaign = award.now.1.campaign; «record» = entry.now }) }
+{
+    let deal = deal_id(request, award.0, award.1.pool)?;
+    let record = entry.share()?;
+    Ok(Sold {
+        imp: award.0,
+        sale,
+        price: award.1.price,
+        deal,
+        campaign: award.1.campaign,
+        record,
+    })
 }
 
 fn push_sold(all: &mut List<Sold>, sold: Option<Sold>) -> Result<(), AllocError>

@@ -1,4 +1,4 @@
-ghost use Rattle.std.specs.Prelude.{◌≡◌, ℕ, List, ◌+◌, ◌-◌, ◌<◌, ◌≤◌, ◌∷◌, [], ◌++◌, length, option_map};
+ghost use Rattle.std.specs.Prelude.{◌≡◌, ℕ, List, ◌+◌, ◌-◌, ◌<◌, ◌≤◌, ◌∷◌, [], ◌++◌, length, OnOk, option_map};
 ghost use Rattle.std.proofs.Common.{get_or};
 ghost use Rattle.budget_book.specs.declared.account.Account.{Account};
 ghost use Rattle.budget_book.specs.Accounts.{charge};
@@ -10,7 +10,31 @@ use crate::dues::{Due, await_sale};
 use crate::last_sales::LastSales;
 use crate::sales::SaleRow;
 use crate::user_key::Spare;
+use std::alloc::AllocError;
 use std::collections::VecDeque;
+
+// Makes room for so many sales more in the lists.
+pub(crate) fn reserve_lists(
+    rows: &mut Vec<SaleRow>,
+    links: &mut Vec<u64>,
+    dues: &mut VecDeque<Due>,
+    sales: usize,
+) -> Result<(), AllocError>
+    ensures rows { rows.new.items ≡ rows.old.items }
+    ensures links { links.new.items ≡ links.old.items }
+    ensures dues { dues.new.items ≡ dues.old.items }
+    ensures row_room { OnOk result (sales ≤ rows.new.cap - rows.new.len) }
+    ensures link_room { OnOk result (sales ≤ links.new.cap - links.new.len) }
+    ensures due_room { OnOk result (sales ≤ dues.new.cap - dues.new.len) }
+    ensures row_room_stays { (rows.old.cap ≤ rows.new.cap) × (rows.new.len ≡ rows.old.len) }
+    ensures link_room_stays { (links.old.cap ≤ links.new.cap) × (links.new.len ≡ links.old.len) }
+    ensures due_room_stays { (dues.old.cap ≤ dues.new.cap) × (dues.new.len ≡ dues.old.len) }
+{
+    rows.reserve(sales)?;
+    links.reserve(sales)?;
+    dues.reserve(sales)?;
+    Ok(())
+}
 
 // Adds a sale, which its campaign can pay. There is room in all lists.
 pub(crate) fn append(

@@ -9,7 +9,7 @@ ghost use Rattle.budget_book.specs.Sales.{billing_fault, in_state, is_held, losi
 
 use crate::book::Book;
 use crate::sales::{SaleFault, SaleState};
-use crate::settling::settle;
+use crate::settling::settle_in;
 
 impl Book {
     /// A held sale becomes billed. A billed one stays as it is.
@@ -59,32 +59,13 @@ impl Book {
         ensures sale_room { self.old.sale_room ≤ self.new.sale_room }
         ensures campaign_room { self.old.campaign_room ≤ self.new.campaign_room }
     {
-        if sale <= self.forgotten {
-            return None;
-        }
-        let place = (sale - self.forgotten - 1) as usize;
-        if place >= self.rows.len() {
-            return None;
-        }
-        let was = self.rows[place].state;
-        if !was.is_held() {
-            return Some(was);
-        }
-        self.settle_at(place, state);
-        Some(was)
-    }
-
-    // The held sale at the place changes to that state.
-    fn settle_at(&mut self, place: usize, state: SaleState)
-        requires place { place < length self.old.sales }
-        requires held { (d : SaleRow) → (get_or self.old.sales place d).state ≡ SaleState.Held }
-        requires other { is_held state ≡ false }
-        ensures sales { (d : SaleRow) → self.new.sales ≡ set self.old.sales place (in_state state (get_or self.old.sales place d)) }
-        ensures campaigns { self.new.campaigns ≡ self.old.campaigns }
-        ensures sale_room { self.old.sale_room ≤ self.new.sale_room }
-        ensures campaign_room { self.old.campaign_room ≤ self.new.campaign_room }
-    {
-        settle(&mut self.rows, &mut self.accounts, place, state);
+        settle_in(
+            &mut self.rows,
+            &mut self.accounts,
+            self.forgotten,
+            sale,
+            state,
+        )
     }
 
     // Why there is no sale of that number in the list.

@@ -7,6 +7,7 @@ ghost use Rattle.budget_book.specs.Book.{Funds, BookState, IsBook, forgotten_of,
 ghost use Rattle.budget_book.specs.Sales.{committed_of, due_count, expired, forgettable, gone_with, sale_at};
 
 use crate::account::Account;
+use crate::appending::reserve_lists;
 use crate::dues::{Due, sweep_dues};
 use crate::forgetting::{add_gone, drop_front, forgettable};
 use crate::last_sales::LastSales;
@@ -70,11 +71,13 @@ impl Book {
         ensures campaign_room_stays { self.old.campaign_room ≤ self.new.campaign_room }
     {
         self.accounts.reserve(campaigns as usize)?;
-        self.rows.reserve(sales as usize)?;
-        self.links.reserve(sales as usize)?;
-        self.dues.reserve(sales as usize)?;
-        self.lasts.reserve()?;
-        Ok(())
+        reserve_lists(
+            &mut self.rows,
+            &mut self.links,
+            &mut self.dues,
+            sales as usize,
+        )?;
+        self.lasts.reserve()
     }
 
     /// How many sales are in the list.

@@ -15,7 +15,7 @@ use crate::settling::settle;
 use std::collections::VecDeque;
 
 // A sale that is to expire.
-#[derive(Clone, Copy, Debug, PartialEq, Eq)]
+#[derive(Clone, Copy)]
 pub(crate) struct Due {
     pub due: u64,
     // The number of the sale.

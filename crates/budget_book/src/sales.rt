@@ -12,7 +12,7 @@ pub const MOST_SALES: u64 = 4_194_304;
 pub(crate) const MOST_FORGOTTEN: u64 = 1 << 62;
 
 /// What has become of a sale.
-#[derive(Clone, Copy, Debug, PartialEq, Eq)]
+#[derive(Clone, Copy, PartialEq, Eq)]
 pub enum SaleState {
     /// Its price is reserved until it is due.
     Held,
@@ -36,7 +36,7 @@ impl SaleState {
 }
 
 /// Why a sale is not billed, or not lost.
-#[derive(Clone, Copy, Debug, PartialEq, Eq, Error)]
+#[derive(Clone, Copy, Debug, Error)]
 pub enum SaleFault {
     /// The number was never given to a sale.
     #[error("there is no sale of that number")]
@@ -53,14 +53,14 @@ pub enum SaleFault {
 }
 
 /// The budget is below what the campaign has spent and reserved.
-#[derive(Clone, Copy, Debug, PartialEq, Eq, Error)]
+#[derive(Clone, Copy, Debug, Error)]
 #[error("the budget is below what is committed")]
 pub struct BelowCommitted {
     pub committed: Nanos,
 }
 
 /// A sale.
-#[derive(Debug, Drop)]
+#[derive(Drop)]
 pub struct SaleRow {
     /// The number of the campaign that it is to.
     pub campaign: u32,
@@ -127,7 +127,7 @@ fn copy_user(user: &Option<Txt>) -> Result<Option<Txt>, AllocError>
 }
 
 /// What is left of a campaign's sales that were forgotten.
-#[derive(Clone, Copy, Debug, PartialEq, Eq)]
+#[derive(Clone, Copy)]
 pub struct Gone {
     pub spent: Nanos,
     pub billed: u64,
@@ -150,7 +150,7 @@ impl Gone {
 }
 
 /// What a campaign's sales add up to.
-#[derive(Clone, Copy, Debug, PartialEq, Eq)]
+#[derive(Clone, Copy)]
 pub struct Totals {
     /// The prices of the held sales.
     pub reserved: Nanos,

@@ -12,7 +12,7 @@ pub const MOST_SECONDS: u32 = 31_536_000;
 /// How often one user is shown a campaign: so many times in so many seconds.
 ///
 /// Contracts see it as these two numbers.
-#[derive(Clone, Copy, Debug, PartialEq, Eq)]
+#[derive(Clone, Copy)]
 pub struct Cap {
     count: u32,
     seconds: u32,

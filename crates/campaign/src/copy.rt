@@ -60,10 +60,10 @@ fn copy_parts(parts: &FactParts) -> Result<FactParts, AllocError>
     ensures { IfOk result (λ p. p ≡ parts.now) }
 {
     let alloc = allocator(parts);
-    let names = copy_names(alloc, parts)?;
     let attr = List::from_vec(Vec::from_slice(alloc, parts.attr.as_slice())?);
     let deals = copy_texts(alloc, parts.deals.as_slice())?;
     let creative = copy_creative(parts)?;
+    let names = copy_names(alloc, parts)?;
     Ok(join(parts, names, attr, deals, creative))
 }
 

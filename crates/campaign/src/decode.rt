@@ -16,6 +16,7 @@ use crate::parts::FactParts;
 use byte_fields::{Found, get_eight, get_flag, get_list, get_text, get_texts};
 use rtb_num::{List, Micros, Nanos, Txt};
 use std::alloc::{AllocError, Global};
+use std::fmt;
 use thiserror::Error;
 
 // `seat`, `adomain`, `cat`.
@@ -31,13 +32,20 @@ type Money = ((Micros, List<Txt>), Nanos);
 pub(crate) type Creative = ((Txt, Txt), Option<Txt>);
 
 /// Why no facts are decoded.
-#[derive(Clone, Copy, Debug, PartialEq, Eq, Error)]
+#[derive(Clone, Copy, Error)]
 pub enum FactBytes {
     /// The bytes of no facts begin at this place.
-    #[error("the bytes of no facts begin at byte {at}")]
+    #[error("the bytes are of no facts")]
     Torn { at: usize },
     #[error("memory ran out")]
     Memory,
+}
+
+impl fmt::Debug for FactBytes {
+    // As it is told.
+    fn fmt<W: fmt::Write>(&self, f: &mut fmt::Formatter<W>) -> fmt::Result {
+        fmt::Display::fmt(self, f)
+    }
 }
 
 impl From<AllocError> for FactBytes {
@@ -71,6 +79,7 @@ fn get_facts(alloc: Global, bytes: &[u8], place: usize) -> Found<Facts>
         return Ok(None);
     };
     if parts.budget.get() % 1000 != 0 {
+        drop(parts);
         return Ok(None);
     }
     match Facts::make(parts) {

@@ -1,4 +1,4 @@
-ghost use Rattle.std.specs.Prelude.{◌≡◌, ◌++◌, ℕ, List, Option, OnOk, OnErr};
+ghost use Rattle.std.specs.Prelude.{◌≡◌, ◌++◌, ℕ, List, Option, OnOk, OnErr, Some};
 ghost use Rattle.byte_fields.specs.Encodings.{IsListOf, IsOptionOf, IsShort, list_bytes, option_bytes, text_bytes};
 ghost use Rattle.campaign.specs.Encoding.{facts_bytes, int_bytes, sides_bytes};
 ghost use Rattle.campaign.specs.Groups.{AreNames, AreSides, IsCreative, IsLook, IsMoney, IsWhole, creative_bytes, creative_of, look_bytes, look_of, money_bytes, money_of, names_bytes, names_of};
@@ -88,12 +88,19 @@ fn put_optional(text: &Option<Txt>, out: &mut Txt) -> Result<(), AllocError>
     ensures front { (more : List ℕ) × (out.new ≡ out.old ++ more) }
 {
     match text {
-        None => put_flag(false, out)?,
-        Some(text) => {
-            put_flag(true, out)?;
-            put_text(text.as_bytes(), out)?;
-        }
+        None => put_flag(false, out),
+        Some(text) => put_one(text, out),
     }
+}
+
+// Appends that there is a text, and the text, or a front of it.
+fn put_one(text: &Txt, out: &mut Txt) -> Result<(), AllocError>
+    requires { IsShort text.now }
+    ensures ok { OnOk result (out.new ≡ out.old ++ option_bytes text_bytes (Some text.now)) }
+    ensures front { (more : List ℕ) × (out.new ≡ out.old ++ more) }
+{
+    put_flag(true, out)?;
+    put_text(text.as_bytes(), out)?;
     Ok(())
 }
 
@@ -104,12 +111,19 @@ fn put_size(size: Option<(i32, i32)>, out: &mut Txt) -> Result<(), AllocError>
     ensures front { (more : List ℕ) × (out.new ≡ out.old ++ more) }
 {
     match size {
-        None => put_flag(false, out)?,
-        Some((w, h)) => {
-            put_flag(true, out)?;
-            put_int(w, out)?;
-            put_int(h, out)?;
-        }
+        None => put_flag(false, out),
+        Some((w, h)) => put_sides(w, h, out),
     }
+}
+
+// Appends that there are sides, and the sides, or a front of it.
+fn put_sides(w: i32, h: i32, out: &mut Txt) -> Result<(), AllocError>
+    requires { AreSides (w, h) }
+    ensures ok { OnOk result (out.new ≡ out.old ++ option_bytes sides_bytes (Some (w, h))) }
+    ensures front { (more : List ℕ) × (out.new ≡ out.old ++ more) }
+{
+    put_flag(true, out)?;
+    put_int(w, out)?;
+    put_int(h, out)?;
     Ok(())
 }

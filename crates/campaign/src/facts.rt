@@ -12,7 +12,7 @@ use std::marker::Model;
 /// What an advertiser states of a campaign beside its target, within the limits.
 ///
 /// Contracts see it as its parts.
-#[derive(Debug, Drop)]
+#[derive(Drop)]
 pub struct Facts {
     parts: FactParts,
 }
@@ -37,7 +37,10 @@ impl Facts {
         ensures { result ≡ ok_unless (fact_faults parts) parts }
     {
         match first_fault(&parts) {
-            Some(fault) => Err(fault),
+            Some(fault) => {
+                drop(parts);
+                Err(fault)
+            }
             None => Ok(Facts { parts }),
         }
     }

@@ -4,7 +4,7 @@ ghost use Rattle.campaign.specs.Paths.{member_name};
 /// A field of a campaign's body, with its places in arrays.
 ///
 /// Places are counted from 0. `write` gives its path, as `cat[2]` and `target[0][1].attr`.
-#[derive(Clone, Copy, Debug, PartialEq, Eq)]
+#[derive(Clone, Copy)]
 pub enum CampField {
     Seat,
     Adomain,

@@ -4,10 +4,11 @@ ghost use Rattle.campaign.specs.Kept.{size_of};
 use crate::cap::Cap;
 use crate::field::CampField;
 use rtb_num::{List, Micros, Nanos, Txt};
+use std::fmt;
 use thiserror::Error;
 
 /// What an advertiser states of a campaign beside its target, field by field, not yet checked.
-#[derive(Debug, Drop)]
+#[derive(Drop)]
 pub struct FactParts {
     /// Who pays: the bidder's seat (OpenRTB 2.5, section 4.2.2).
     pub seat: Txt,
@@ -39,13 +40,13 @@ pub struct FactParts {
 }
 
 /// Why parts are no facts. The first in the order of the fields is answered.
-#[derive(Clone, Copy, Debug, PartialEq, Eq, Error)]
+#[derive(Clone, Copy, Error)]
 pub enum FactFault {
     /// A text that is not of 1 to 255 bytes, or markup of more than 65,536.
-    #[error("{field} is longer or shorter than its text may be")]
+    #[error("a text is longer or shorter than it may be")]
     TextLength { field: CampField },
     /// A list of more than 64 entries, or a negative attribute, with its place.
-    #[error("{field} is past what its list may have")]
+    #[error("a list is past what it may have")]
     ListLength { field: CampField },
     /// The bid is less than a micro-dollar.
     #[error("bid is less than a micro-dollar")]
@@ -53,6 +54,13 @@ pub enum FactFault {
     /// One of width and height without the other, or a side that is not of 1 to 32767 pixels.
     #[error("w and h are not both there, each of 1 to 32767 pixels")]
     Size,
+}
+
+impl fmt::Debug for FactFault {
+    // As it is told.
+    fn fmt<W: fmt::Write>(&self, f: &mut fmt::Formatter<W>) -> fmt::Result {
+        fmt::Display::fmt(self, f)
+    }
 }
 
 // Width and height, where both are given.

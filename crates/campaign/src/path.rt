@@ -1,10 +1,10 @@
 ghost use Rattle.std.specs.Prelude.{◌≡◌, ◌++◌, ℕ, List, OnOk, OnErr, codes};
 ghost use Rattle.campaign.specs.Paths.{camp_path, member_name, predicate_path};
+ghost use Rattle.rtb_num.specs.Paths.{place};
 
 use crate::field::CampField;
-use rtb_num::{PathName, Txt, put_item, put_member, put_name, put_place};
+use rtb_num::{Txt, put_item, put_member, put_name, put_place};
 use std::alloc::AllocError;
-use std::fmt;
 
 impl CampField {
     /// Appends its path, as `cat[2]` and `target[0][1].in[3]`. Where memory is refused the text stays
@@ -39,24 +39,45 @@ fn put_path(field: CampField, out: &mut Txt) -> Result<(), AllocError>
         | CampField::Crid
         | CampField::Adid
         | CampField::Cap
-        | CampField::Target => put_name(field.member(), out)?,
+        | CampField::Target => put_name(field.member(), out),
         CampField::CatItem(place) | CampField::AttrItem(place) | CampField::DealsItem(place) => {
-            put_item(field.member(), place, out)?
+            put_item(field.member(), place, out)
         }
-        CampField::CapCount | CampField::CapSeconds => {
-            put_name(CampField::Cap.member(), out)?;
-            put_member(field.member(), out)?;
-        }
-        CampField::Conjunction(i) => put_item(field.member(), i, out)?,
-        CampField::Predicate(i, j) => put_predicate(i, j, out)?,
+        CampField::CapCount | CampField::CapSeconds => put_in_cap(field, out),
+        CampField::Conjunction(i) => put_item(field.member(), i, out),
+        CampField::Predicate(i, j) => put_predicate(i, j, out),
         CampField::PredicateAttr(i, j) | CampField::In(i, j) | CampField::Not(i, j) => {
-            put_inside(i, j, field, out)?
+            put_inside(i, j, field, out)
         }
         CampField::InItem(i, j, place) | CampField::NotItem(i, j, place) => {
-            put_inside(i, j, field, out)?;
-            put_place(place, out)?;
+            put_item_inside(i, j, place, field, out)
         }
     }
+}
+
+// Appends the path of a member of the cap, or a front of it.
+fn put_in_cap(field: CampField, out: &mut Txt) -> Result<(), AllocError>
+    ensures ok { OnOk result (out.new ≡ out.old ++ (codes "cap" ++ codes "." ++ member_name field)) }
+    ensures front { (more : List ℕ) × (out.new ≡ out.old ++ more) }
+{
+    put_name(CampField::Cap.member(), out)?;
+    put_member(field.member(), out)?;
+    Ok(())
+}
+
+// Appends the path of an entry of a list of a predicate, or a front of it.
+fn put_item_inside(
+    i: usize,
+    j: usize,
+    entry: usize,
+    field: CampField,
+    out: &mut Txt,
+) -> Result<(), AllocError>
+    ensures ok { OnOk result (out.new ≡ out.old ++ (predicate_path i j ++ codes "." ++ member_name field ++ place entry)) }
+    ensures front { (more : List ℕ) × (out.new ≡ out.old ++ more) }
+{
+    put_inside(i, j, field, out)?;
+    put_place(entry, out)?;
     Ok(())
 }
 
@@ -78,50 +99,4 @@ fn put_predicate(conjunction: usize, predicate: usize, out: &mut Txt) -> Result<
     put_item(CampField::Target.member(), conjunction, out)?;
     put_place(predicate, out)?;
     Ok(())
-}
-
-impl fmt::Display for CampField {
-    /// Its path, as `write` gives it.
-    fn fmt<W: fmt::Write>(&self, f: &mut fmt::Formatter<W>) -> fmt::Result {
-        let name = PathName(self.member());
-        match Shape::of(*self) {
-            Shape::Name => name.fmt(f),
-            Shape::Item(place) => write!(f, "{name}[{place}]"),
-            Shape::InCap => write!(f, "cap.{name}"),
-            Shape::Predicate(i, j) => write!(f, "{name}[{i}][{j}]"),
-            Shape::InPredicate(i, j) => write!(f, "target[{i}][{j}].{name}"),
-            Shape::ItemInPredicate(i, j, place) => write!(f, "target[{i}][{j}].{name}[{place}]"),
-        }
-    }
-}
-
-// What stands around the name in a path.
-#[derive(Clone, Copy)]
-enum Shape {
-    Name,
-    Item(usize),
-    InCap,
-    Predicate(usize, usize),
-    InPredicate(usize, usize),
-    ItemInPredicate(usize, usize, usize),
-}
-
-impl Shape {
-    fn of(field: CampField) -> Shape {
-        match field {
-            CampField::CatItem(place)
-            | CampField::AttrItem(place)
-            | CampField::DealsItem(place)
-            | CampField::Conjunction(place) => Shape::Item(place),
-            CampField::CapCount | CampField::CapSeconds => Shape::InCap,
-            CampField::Predicate(i, j) => Shape::Predicate(i, j),
-            CampField::PredicateAttr(i, j) | CampField::In(i, j) | CampField::Not(i, j) => {
-                Shape::InPredicate(i, j)
-            }
-            CampField::InItem(i, j, place) | CampField::NotItem(i, j, place) => {
-                Shape::ItemInPredicate(i, j, place)
-            }
-            _ => Shape::Name,
-        }
-    }
 }

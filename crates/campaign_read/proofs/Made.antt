@@ -1,9 +1,9 @@
 -- The faults of what is made of the fields: facts and an expression.
-use Rattle.std.proofs.Common.{◌≡◌, ℕ, ◌*◌, ◌%◌, List, [], ◌∷◌, ◌++◌, map, subst, Some, Ok, Err, inl, inr, refl, ap, ◌∙◌, arith}
-use Rattle.rtb_num.proofs.Plain.{both_same}
+use Rattle.std.proofs.Common.{◌≡◌, ℕ, ◌*◌, ◌%◌, List, [], ◌∷◌, ◌++◌, append_assoc, map, subst, sym, Some, Ok, Err, inl, inr, refl, ap, arith}
+use Rattle.std.specs.Prelude.{Result}
 use Rattle.exact_json.specs.Tree.{Tree}
-use Rattle.json_fields.specs.Answers.{IsFirst}
-use Rattle.json_fields.proofs.First.{behind, in_front, neither}
+use Rattle.json_fields.specs.Answers.{Answers, IsFirst}
+use Rattle.json_fields.proofs.First.{behind, neither}
 use Rattle.campaign.specs.declared.parts.FactParts.{FactParts}
 use Rattle.campaign.specs.Paths.{member_name}
 use Rattle.campaign.specs.declared.field.CampField.{CampField}
@@ -47,32 +47,20 @@ whole_budget t = whole (amount_from (member_name CampField.Budget) t)
     whole : (n : ℕ) → n * 1000 % 1000 ≡ 0
     whole n = omega arith
 
--- ---- the four parts of what is wrong with a body
+-- ---- what is wrong with a body: with its fields, and then with what is made of them
 
-pub facts_first : (t : Tree) (p : FactParts) (f : CampFault) → parts_faults t ≡ [] → target_faults t ≡ [] → p ≡ parts_from t → IsFirst CampFault.Memory (map CampFault.Fact (fact_faults p)) f → IsFirst CampFault.Memory (body_faults t) f
-unfolding body_faults
-facts_first t p f a b e h =
-    let facts = map CampFault.Fact (fact_faults (parts_from t)) in
-    in_front CampFault.Memory (parts_faults t ++ target_faults t ++ facts) (map CampFault.Target (faults (target_from t))) f
-    (behind CampFault.Memory (parts_faults t ++ target_faults t) facts f (neither (parts_faults t) (target_faults t) a b) (subst (λ q. IsFirst CampFault.Memory (map CampFault.Fact (fact_faults q)) f) e h))
+answers_behind : {A F : Type 0} (memory : F) (a b : List F) (x : A) (r : Result A F) → a ≡ [] → Answers memory b x r → Answers memory (a ++ b) x r
+answers_behind memory a b x (Ok y) e (none, is) = (neither a b e none, is)
+answers_behind memory a b x (Err f) e h = behind memory a b f e h
 
-pub target_first : (t : Tree) (p : FactParts) (raw : List (List RawPred)) (f : CampFault) → parts_faults t ≡ [] → target_faults t ≡ [] → p ≡ parts_from t → map CampFault.Fact (fact_faults p) ≡ [] → raw ≡ target_from t
-    → IsFirst CampFault.Memory (map CampFault.Target (faults raw)) f → IsFirst CampFault.Memory (body_faults t) f
-unfolding body_faults
-target_first t p raw f a b e none r h =
-    let facts = map CampFault.Fact (fact_faults (parts_from t)) in
-    let no_fact : facts ≡ [] = subst (λ q. map CampFault.Fact (fact_faults q) ≡ []) e none in
-    behind CampFault.Memory (parts_faults t ++ target_faults t ++ facts) (map CampFault.Target (faults (target_from t))) f
-    (neither (parts_faults t ++ target_faults t) facts (neither (parts_faults t) (target_faults t) a b) no_fact)
-    (subst (λ q. IsFirst CampFault.Memory (map CampFault.Target (faults q)) f) r h)
-
-pub body_right : (t : Tree) (p facts : FactParts) (raw : List (List RawPred)) (expr : List (List Pred)) → parts_faults t ≡ [] → target_faults t ≡ [] → p ≡ parts_from t → map CampFault.Fact (fact_faults p) ≡ [] → raw ≡ target_from t → map CampFault.Target (faults raw) ≡ []
-    → facts ≡ p → expr ≡ keep raw → (body_faults t ≡ []) × ((facts, expr) ≡ campaign_from t)
+pub made_right : (t : Tree) (p : FactParts) (raw : List (List RawPred)) (r : Result (FactParts × List (List Pred)) CampFault) → parts_faults t ++ target_faults t ≡ [] → p ≡ parts_from t → raw ≡ target_from t
+    → Answers CampFault.Memory (map CampFault.Fact (fact_faults p) ++ map CampFault.Target (faults raw)) (p, keep raw) r → Answers CampFault.Memory (body_faults t) (campaign_from t) r
 unfolding body_faults campaign_from
-body_right t p facts raw expr a b e none r right f k =
-    let fs = map CampFault.Fact (fact_faults (parts_from t)) in
-    let no_fact : fs ≡ [] = subst (λ q. map CampFault.Fact (fact_faults q) ≡ []) e none in
-    let no_target : map CampFault.Target (faults (target_from t)) ≡ [] = subst (λ q. map CampFault.Target (faults q) ≡ []) r right in (
-      neither (parts_faults t ++ target_faults t ++ fs) (map CampFault.Target (faults (target_from t))) (neither (parts_faults t ++ target_faults t) fs (neither (parts_faults t) (target_faults t) a b) no_fact) no_target,
-      both_same facts (parts_from t) expr (keep (target_from t)) (f ∙ e) (k ∙ ap keep r),
-    )
+made_right t p raw r none parts target h =
+    let facts = map CampFault.Fact (fact_faults (parts_from t)) in
+    let targets = map CampFault.Target (faults (target_from t)) in
+    let front = parts_faults t ++ target_faults t in
+    let right_parts = subst (λ q. Answers CampFault.Memory (map CampFault.Fact (fact_faults q) ++ map CampFault.Target (faults raw)) (q, keep raw) r) parts h in
+    let right = subst (λ w. Answers CampFault.Memory (facts ++ map CampFault.Target (faults w)) (parts_from t, keep w) r) target right_parts in
+    subst (λ fs. Answers CampFault.Memory fs (parts_from t, keep (target_from t)) r) (sym (append_assoc front facts targets))
+    (answers_behind CampFault.Memory front (facts ++ targets) (parts_from t, keep (target_from t)) r none right)

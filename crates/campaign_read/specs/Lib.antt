@@ -2,3 +2,4 @@ pub mod Parts
 pub mod Cap
 pub mod Target
 pub mod Campaign
+pub mod Pairs

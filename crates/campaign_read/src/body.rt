@@ -1,6 +1,6 @@
 #![tactic(auto, using(json_fields::proofs::First::firsts), unfolding(crate::specs::Campaign::campaign_faults))]
 
-ghost use Rattle.std.specs.Prelude.{◌≡◌, ◌%◌, map};
+ghost use Rattle.std.specs.Prelude.{◌≡◌, ◌%◌, ◌++◌, map};
 ghost use Rattle.exact_json.specs.Docs.{doc_tree};
 ghost use Rattle.exact_json.specs.Forms.{HasForms};
 ghost use Rattle.exact_json.specs.View.{tree_of};
@@ -11,7 +11,7 @@ ghost use Rattle.campaign_read.specs.Campaign.{body_faults, campaign_faults, cam
 ghost use Rattle.campaign_read.specs.declared.fault.CampFault.{CampFault};
 
 use crate::fault::CampFault;
-use crate::parts::parts_in;
+use crate::parts::{both, parts_in};
 use crate::target::target_field;
 use campaign::{FactParts, Facts};
 use exact_json::{Doc, Value};
@@ -31,16 +31,29 @@ pub fn read_campaign(alloc: Global, doc: &Doc) -> Result<(Facts, Expr), CampFaul
     }
 }
 
-#[tactic(auto, using(json_fields::proofs::First::firsts), unfolding(crate::specs::Campaign::body_faults, crate::specs::Campaign::campaign_from))]
 fn campaign_in(alloc: Global, body: &Value) -> Result<(Facts, Expr), CampFault>
     requires forms { HasForms (tree_of body.now) }
     ensures { Answers CampFault.Memory (body_faults (tree_of body.now)) (campaign_from (tree_of body.now)) result }
 {
-    let parts = parts_in(alloc, body)?;
-    let target = target_field(alloc, body)?;
-    let facts = facts_of(parts)?;
-    let expr = expr_of(alloc, &target)?;
-    Ok((facts, expr))
+    let read = both(parts_in(alloc, body), target_field(alloc, body));
+    match read {
+        Ok((parts, target)) => made_of(alloc, parts, target),
+        Err(fault) => Err(fault),
+    }
+}
+
+// The facts and the expression of these parts and this target.
+fn made_of(
+    alloc: Global,
+    parts: FactParts,
+    target: List<List<RawPred>>,
+) -> Result<(Facts, Expr), CampFault>
+    requires { parts.budget % 1000 ≡ 0 }
+    ensures { Answers CampFault.Memory (map CampFault.Fact (fact_faults parts) ++ map CampFault.Target (faults target)) (parts, keep target) result }
+{
+    let made = both(facts_of(parts), expr_of(alloc, &target));
+    drop(target);
+    made
 }
 
 fn facts_of(parts: FactParts) -> Result<Facts, CampFault>

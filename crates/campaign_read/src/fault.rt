@@ -4,34 +4,42 @@ ghost use Rattle.std.specs.Prelude.{◌≡◌};
 use campaign::{CampField, FactFault};
 use rtb_num::PriceFault;
 use std::alloc::{AllocError, AllocFailed};
+use std::fmt;
 use target_expr::ExprFault;
 use thiserror::Error;
 
 /// Why a JSON text is no campaign.
-#[derive(Clone, Copy, Debug, PartialEq, Eq, Error)]
+#[derive(Clone, Copy, Error)]
 pub enum CampFault {
     #[error("the campaign is no object")]
     NotObject,
     /// The field is required and is absent or null.
-    #[error("{field} is missing")]
+    #[error("a field is missing")]
     Missing { field: CampField },
     /// The field has a value of another type, or stands beside one that excludes it.
-    #[error("{field} is of another type")]
+    #[error("a field is of another type")]
     WrongType { field: CampField },
     /// The field's number is not whole or out of its range.
-    #[error("{field} is out of its range")]
+    #[error("a field is out of its range")]
     Range { field: CampField },
     /// The field's number is no amount of money in whole micro-dollars.
-    #[error("{field} is no price: {fault}")]
+    #[error("a field is no price")]
     Price { field: CampField, fault: PriceFault },
     /// What it states is past a limit.
-    #[error("{fault}")]
+    #[error("a field is past a limit")]
     Fact { fault: FactFault },
     /// Its target is no expression.
-    #[error("target: {fault}")]
+    #[error("the target is no expression")]
     Target { fault: ExprFault },
     #[error("memory ran out")]
     Memory,
+}
+
+impl fmt::Debug for CampFault {
+    // As it is told.
+    fn fmt<W: fmt::Write>(&self, f: &mut fmt::Formatter<W>) -> fmt::Result {
+        fmt::Display::fmt(self, f)
+    }
 }
 
 impl From<AllocError> for CampFault {

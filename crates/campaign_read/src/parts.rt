@@ -1,20 +1,21 @@
-ghost use Rattle.std.specs.Prelude.{◌≡◌, ◌*◌, false, None, option_map, IfOk};
+ghost use Rattle.std.specs.Prelude.{◌≡◌, ◌*◌, ◌++◌, List, false, None, option_map, IfOk};
 ghost use Rattle.exact_json.specs.Forms.{HasForms};
 ghost use Rattle.exact_json.specs.View.{tree_of};
 ghost use Rattle.json_fields.specs.Answers.{Answers, value_or};
 ghost use Rattle.json_fields.specs.Fields.{as_flag, as_text, optional, or_absent, present};
 ghost use Rattle.campaign.specs.Paths.{member_name};
 ghost use Rattle.campaign_read.specs.Campaign.{parts_faults, parts_from};
+ghost use Rattle.campaign_read.specs.Pairs.{joined};
 ghost use Rattle.campaign_read.specs.Parts.{amount_faults, amount_from, fault_of, faults_at, side_faults, side_from, text_faults, text_from};
 
 use crate::cap::cap_field;
 use crate::fault::CampFault;
 use crate::lists::{ListField, attr_field, texts_field};
-use campaign::{CampField, FactParts};
+use campaign::{CampField, Cap, FactParts};
 use exact_json::Value;
 use json_fields as fields;
 use json_fields::{Bounds, Flaw};
-use rtb_num::{Micros, Nanos, Txt};
+use rtb_num::{List, Micros, Nanos, Txt};
 use std::alloc::{AllocError, Global};
 
 // The flaw of the field.
@@ -41,26 +42,77 @@ pub(crate) fn text_field(object: &Value, field: CampField) -> Result<Txt, CampFa
 }
 
 // The fields other than the target, in the order in which they are read.
-#[tactic(auto, using(json_fields::proofs::First::firsts), unfolding(crate::specs::Campaign::parts_faults, crate::specs::Campaign::parts_from))]
 pub(crate) fn parts_in(alloc: Global, body: &Value) -> Result<FactParts, CampFault>
     requires forms { HasForms (tree_of body.now) }
     ensures { Answers CampFault.Memory (parts_faults (tree_of body.now)) (parts_from (tree_of body.now)) result }
 {
-    let seat = text_field(body, CampField::Seat)?;
-    let adomain = text_field(body, CampField::Adomain)?;
-    let cat = texts_field(alloc, body, ListField::Cat)?;
-    let w = side_field(body, CampField::W)?;
-    let h = side_field(body, CampField::H)?;
-    let attr = attr_field(alloc, body)?;
-    let secure = secure_field(body)?;
-    let bid = amount_field(body, CampField::Bid)?;
-    let deals = texts_field(alloc, body, ListField::Deals)?;
-    let budget = nanos(amount_field(body, CampField::Budget)?);
-    let adm = text_field(body, CampField::Adm)?;
-    let crid = text_field(body, CampField::Crid)?;
-    let adid = adid_field(body)?;
-    let cap = cap_field(body)?;
-    Ok(FactParts {
+    let read = text_field(body, CampField::Seat);
+    let read = both(read, text_field(body, CampField::Adomain));
+    let read = both(read, texts_field(alloc, body, ListField::Cat));
+    let read = both(read, side_field(body, CampField::W));
+    let read = both(read, side_field(body, CampField::H));
+    let read = both(read, attr_field(alloc, body));
+    let read = both(read, secure_field(body));
+    let read = both(read, amount_field(body, CampField::Bid));
+    let read = both(read, texts_field(alloc, body, ListField::Deals));
+    let read = both(read, amount_field(body, CampField::Budget));
+    let read = both(read, text_field(body, CampField::Adm));
+    let read = both(read, text_field(body, CampField::Crid));
+    let read = both(read, adid_field(body));
+    let read = both(read, cap_field(body));
+    match read {
+        Ok(read) => Ok(joined(read)),
+        Err(fault) => Err(fault),
+    }
+}
+
+// What two fields hold, or the fault of the first that has one. A value of a type parameter is let go of in one
+// step, so a reader that ends in this lets go of nothing field by field.
+#[tactic(auto, using(json_fields::proofs::First::firsts))]
+pub(crate) fn both<A: Drop, B: Drop>(
+    first: Result<A, CampFault>,
+    second: Result<B, CampFault>,
+) -> Result<(A, B), CampFault>
+    ensures { (a b : List CampFault) (x : A) (y : B) → Answers CampFault.Memory a x first → Answers CampFault.Memory b y second → Answers CampFault.Memory (a ++ b) (x, y) result }
+{
+    match first {
+        Ok(first) => match second {
+            Ok(second) => Ok((first, second)),
+            Err(fault) => Err(fault),
+        },
+        Err(fault) => Err(fault),
+    }
+}
+
+// Seat, domain and categories, the sides, the attributes, whether it is secure, the bid, the deals, and the budget in
+// micro-dollars.
+type Stated = (
+    (
+        (
+            (
+                (
+                    ((((Txt, Txt), List<Txt>), Option<i32>), Option<i32>),
+                    List<i32>,
+                ),
+                bool,
+            ),
+            Micros,
+        ),
+        List<Txt>,
+    ),
+    Micros,
+);
+
+// The fields as they are read one after the other: those, the markup, two names of the creative, and the cap.
+type Read = ((((Stated, Txt), Txt), Option<Txt>), Option<Cap>);
+
+// The fields that were read; the budget in nano-dollars.
+fn joined(read: Read) -> FactParts
+    ensures { result ≡ joined read }
+{
+    let ((((stated, adm), crid), adid), cap) = read;
+    let (((((((((seat, adomain), cat), w), h), attr), secure), bid), deals), budget) = stated;
+    FactParts {
         seat,
         adomain,
         cat,
@@ -70,12 +122,12 @@ pub(crate) fn parts_in(alloc: Global, body: &Value) -> Result<FactParts, CampFau
         secure,
         bid,
         deals,
-        budget,
+        budget: nanos(budget),
         adm,
         crid,
         adid,
         cap,
-    })
+    }
 }
 
 // A side of the creative has 1 to 32767 pixels.

@@ -14,7 +14,7 @@ const MOST_VALUES: u32 = 4_194_304;
 const MOST_TEXT_BYTES: u32 = 67_108_864;
 
 // What one record holds, or several.
-#[derive(Clone, Copy, Debug, PartialEq, Eq)]
+#[derive(Clone, Copy)]
 pub(crate) struct Counts {
     pub conjunctions: u32,
     pub values: u32,

@@ -1,5 +1,5 @@
 /// What an exchange holds no more of.
-#[derive(Clone, Copy, Debug, PartialEq, Eq)]
+#[derive(Clone, Copy)]
 pub enum Limit {
     /// Sales in the list.
     Sales,
@@ -13,7 +13,7 @@ pub enum Limit {
 }
 
 /// A limit would be passed.
-#[derive(Clone, Copy, Debug, PartialEq, Eq)]
+#[derive(Clone, Copy)]
 pub struct Full {
     pub limit: Limit,
 }

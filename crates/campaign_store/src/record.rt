@@ -9,7 +9,7 @@ use std::sync::Arc;
 use target_expr::Expr;
 
 /// What an advertiser states of a campaign, and whom it wants to reach.
-#[derive(Debug, Drop)]
+#[derive(Drop)]
 pub struct Record {
     pub facts: Facts,
     pub expr: Expr,

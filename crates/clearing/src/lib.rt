@@ -16,7 +16,7 @@ const INCREMENT: u64 = 10_000;
 /// What a campaign bids for an impression in one pool.
 ///
 /// Pool 0 is the public pool, and pool k + 1 that of the impression's deal k.
-#[derive(Clone, Copy, Debug, PartialEq, Eq)]
+#[derive(Clone, Copy)]
 pub struct Offer {
     /// The campaign's number.
     pub campaign: u32,
@@ -58,7 +58,7 @@ impl Offer {
 }
 
 /// How the price of a sale is made (OpenRTB 2.5, section 3.2.1, `at`; section 3.2.12 for deals).
-#[derive(Clone, Copy, Debug, PartialEq, Eq)]
+#[derive(Clone, Copy)]
 pub enum PriceKind {
     /// The winner pays its bid.
     First,
@@ -70,7 +70,7 @@ pub enum PriceKind {
 }
 
 /// The terms of a pool.
-#[derive(Clone, Copy, Debug, PartialEq, Eq)]
+#[derive(Clone, Copy)]
 pub struct Terms {
     /// The least bid, in micro-dollars per thousand impressions.
     pub floor: Micros,
@@ -78,7 +78,7 @@ pub struct Terms {
 }
 
 /// A sale.
-#[derive(Clone, Copy, Debug, PartialEq, Eq)]
+#[derive(Clone, Copy)]
 pub struct Win {
     /// The winner's campaign number.
     pub campaign: u32,

@@ -1,7 +1,7 @@
 /// Why a campaign does not offer for an impression, in the order in which the rules are asked.
 ///
 /// Sections are of OpenRTB 2.5.
-#[derive(Clone, Copy, Debug, PartialEq, Eq)]
+#[derive(Clone, Copy)]
 pub enum Rule {
     /// The request is a test (`test`), or takes no bid in US dollars (`cur`, section 3.2.1).
     Request,

@@ -5,10 +5,10 @@ use std::alloc::AllocError;
 use thiserror::Error;
 
 /// Why bytes are no effects.
-#[derive(Clone, Copy, Debug, PartialEq, Eq, Error)]
+#[derive(Clone, Copy, Debug, Error)]
 pub enum EffectFault {
     /// What begins at this place is no effect.
-    #[error("what begins at byte {at} is no effect")]
+    #[error("the bytes are of no effect")]
     Torn { at: usize },
     #[error("memory ran out")]
     Memory,

@@ -1,4 +1,4 @@
-ghost use Rattle.std.specs.Prelude.{◌≡◌, ◌≤◌, ℕ, List, ◌++◌, OnOk};
+ghost use Rattle.std.specs.Prelude.{◌≡◌, ◌≤◌, ℕ, List, ◌++◌, OnOk, Some};
 ghost use Rattle.byte_fields.specs.Encodings.{IsOptionOf, option_bytes, text_bytes};
 ghost use Rattle.effects.specs.Bytes.{IsCap, IsGone, IsRecord, IsRow, IsUser, cap_bytes, gone_bytes, record_bytes, row_bytes, state_number, terms_bytes};
 
@@ -49,12 +49,18 @@ pub(crate) fn put_optional_cap(cap: Option<Cap>, out: &mut Txt) -> Result<(), Al
     ensures valid { OnOk result (IsOptionOf IsCap cap) }
 {
     match cap {
-        Some(cap) => {
-            put_flag(true, out)?;
-            put_terms(cap, out)?;
-        }
-        None => put_flag(false, out)?,
+        Some(cap) => put_one_cap(cap, out),
+        None => put_flag(false, out),
     }
+}
+
+fn put_one_cap(cap: Cap, out: &mut Txt) -> Result<(), AllocError>
+    ensures ok { OnOk result (out.new ≡ out.old ++ option_bytes terms_bytes (Some cap)) }
+    ensures front { (more : List ℕ) × (out.new ≡ out.old ++ more) }
+    ensures valid { OnOk result (IsCap cap) }
+{
+    put_flag(true, out)?;
+    put_terms(cap, out)?;
     Ok(())
 }
 
@@ -102,11 +108,17 @@ fn put_optional_user(user: &Option<Txt>, out: &mut Txt) -> Result<(), AllocError
     ensures front { (more : List ℕ) × (out.new ≡ out.old ++ more) }
 {
     match user {
-        Some(user) => {
-            put_flag(true, out)?;
-            put_text(user.as_bytes(), out)?;
-        }
-        None => put_flag(false, out)?,
+        Some(user) => put_one_user(user, out),
+        None => put_flag(false, out),
     }
+}
+
+fn put_one_user(user: &Txt, out: &mut Txt) -> Result<(), AllocError>
+    requires { IsUser user.now }
+    ensures ok { OnOk result (out.new ≡ out.old ++ option_bytes text_bytes (Some user.now)) }
+    ensures front { (more : List ℕ) × (out.new ≡ out.old ++ more) }
+{
+    put_flag(true, out)?;
+    put_text(user.as_bytes(), out)?;
     Ok(())
 }

@@ -8,7 +8,7 @@ use rtb_num::Txt;
 use std::alloc::AllocError;
 
 // What the bytes of a change hold.
-#[derive(Clone, Copy, Debug, PartialEq, Eq)]
+#[derive(Clone, Copy)]
 pub(crate) enum Tag {
     Swept = 0,
     Sold = 1,

@@ -7,7 +7,7 @@ use rtb_num::{List, Nanos, Txt};
 use target_expr::Expr;
 
 /// One sale of an auction.
-#[derive(Debug, Drop)]
+#[derive(Drop)]
 pub struct SoldItem {
     pub campaign: u32,
     pub price: Nanos,

@@ -9,7 +9,7 @@ use std::marker::Model;
 /// The values that an impression gives to attributes. Contracts see it as the list of its pairs.
 ///
 /// No attribute stands twice.
-#[derive(Debug, Drop)]
+#[derive(Drop)]
 pub struct Assignment {
     pairs: List<(Attr, Txt)>,
 }

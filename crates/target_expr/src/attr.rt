@@ -3,7 +3,7 @@ ghost use Rattle.target_expr.specs.Attributes.{attributes, name_of, attr_named, 
 
 /// An attribute of an impression that an expression may speak of. Each is a field of a bid request
 /// (OpenRTB 2.5, sections 3.2.4 to 3.2.20).
-#[derive(Clone, Copy, Debug, PartialEq, Eq, PartialOrd, Ord, Hash)]
+#[derive(Clone, Copy, Debug, PartialEq, Eq, Hash)]
 pub enum Attr {
     /// `site.domain`
     Domain = 1,

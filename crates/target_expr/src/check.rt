@@ -116,5 +116,11 @@ fn is_too_much(pred: &RawPred) -> bool
 fn has_long(values: &[Txt]) -> bool
     ensures { result ≡ list_any (λ v. nat_lt 255 (length v)) values.now }
 {
-    values.iter().any(|value| value.len() > LONGEST_VALUE)
+    values.iter().any(|value| is_long(value))
+}
+
+fn is_long(value: &Txt) -> bool
+    ensures { result ≡ nat_lt 255 (length value.now) }
+{
+    value.len() > LONGEST_VALUE
 }

@@ -14,16 +14,24 @@ use crate::{MOST_CONJUNCTIONS, MOST_PREDICATES, MOST_VALUES};
 use byte_fields::{Element, Found, get_byte, get_flag, get_list, get_texts, put_list};
 use rtb_num::{List, Txt};
 use std::alloc::{AllocError, Global};
+use std::fmt;
 use thiserror::Error;
 
 /// Why no expression is decoded.
-#[derive(Clone, Copy, Debug, PartialEq, Eq, Error)]
+#[derive(Clone, Copy, Error)]
 pub enum ExprBytes {
     /// The bytes of no expression begin at this place.
-    #[error("the bytes of no expression begin at byte {at}")]
+    #[error("the bytes are of no expression")]
     Torn { at: usize },
     #[error("memory ran out")]
     Memory,
+}
+
+impl fmt::Debug for ExprBytes {
+    // As it is told.
+    fn fmt<W: fmt::Write>(&self, f: &mut fmt::Formatter<W>) -> fmt::Result {
+        fmt::Display::fmt(self, f)
+    }
 }
 
 impl From<AllocError> for ExprBytes {

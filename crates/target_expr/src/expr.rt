@@ -11,7 +11,7 @@ use std::marker::Model;
 /// Contracts see it as the list of its conjunctions, each the list of its predicates. There are 1 to
 /// 64 conjunctions of at most 16 predicates, which rise by attribute. A predicate has 1 to 256 values
 /// of at most 255 bytes, which rise in byte order.
-#[derive(Debug, Drop)]
+#[derive(Drop)]
 pub struct Expr {
     conjunctions: Vec<List<Pred>>,
 }

@@ -2,7 +2,7 @@ use crate::attr::Attr;
 use rtb_num::{List, Txt};
 
 /// A predicate as a campaign states it.
-#[derive(Debug, Drop)]
+#[derive(Drop)]
 pub struct RawPred {
     /// The attribute's name.
     pub attr: Txt,
@@ -13,7 +13,7 @@ pub struct RawPred {
 }
 
 /// A predicate of an expression. Its values stand in byte order, each once.
-#[derive(Debug, Drop)]
+#[derive(Drop)]
 pub struct Pred {
     pub attr: Attr,
     /// Whether it asks that the value is none of the listed ones.
@@ -23,7 +23,7 @@ pub struct Pred {
 }
 
 /// An attribute with a value that an expression names.
-#[derive(Debug, Drop)]
+#[derive(Drop)]
 pub struct Pair {
     /// The place of the conjunction in its expression, counted from 0.
     pub conjunction: u32,
