@@ -159,9 +159,7 @@ impl<'a> Cursor<'a> {
         ensures passed { Passed id self.old self.new }
         ensures cost { steps.new ≤ steps.old + (self.new.place - self.old.place) }
     {
-        while let Some(passed) = self.current()
-            && passed.id <= id
-        {
+        while self.reaches(id) {
             self.advance(steps);
         }
     }

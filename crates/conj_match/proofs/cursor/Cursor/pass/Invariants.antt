@@ -2,8 +2,8 @@ use Rattle.std.proofs.Common.{◌≡◌, ◌≤◌, ◌<◌, ◌+◌, ◌-◌, �
 use Rattle.postings.specs.Order.{entry_at}
 use Rattle.conj_match.proofs.cursor.Cursor.pass.Given as goal
 
-abbrev pub invariant-loop-passed : goal.invariant-loop-passed
-invariant-loop-passed g l = record {
+abbrev pub invariant-loop-self : goal.invariant-loop-self
+invariant-loop-self g l = record {
   entries : l.self.entries ≡ l.fn.self.entries;
   loaded : l.self.loaded ≡ true;
   from : l.fn.self.place ≤ l.self.place;
@@ -11,5 +11,5 @@ invariant-loop-passed g l = record {
   cost : l.steps + l.fn.self.place ≤ l.fn.steps + l.self.place;
 }
 
-abbrev pub decreases-loop-passed : goal.decreases-loop-passed
-decreases-loop-passed g l = length l.self.entries - l.self.place
+abbrev pub decreases-loop-self : goal.decreases-loop-self
+decreases-loop-self g l = length l.self.entries - l.self.place
