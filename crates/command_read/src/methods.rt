@@ -4,7 +4,7 @@ ghost use Rattle.command_read.specs.Methods.{method_of, takes};
 use http_wire::Allow;
 
 /// A method that some path takes.
-#[derive(Clone, Copy, Debug, PartialEq, Eq)]
+#[derive(Clone, Copy)]
 pub(crate) enum Method {
     Get,
     Post,

@@ -6,7 +6,7 @@ use crate::numbers::number_in;
 use http_wire::Allow;
 
 /// What a path stands for. Numbers are of campaigns and of sales.
-#[derive(Clone, Copy, Debug, PartialEq, Eq)]
+#[derive(Clone, Copy)]
 pub(crate) enum Route {
     Auction,
     Campaigns,

@@ -23,7 +23,7 @@ use run_commands::{end_with, tell};
 use std::alloc::{AllocError, Global};
 
 /// A status and the line that goes with it.
-#[derive(Debug, Drop)]
+#[derive(Drop)]
 struct Reply {
     status: Status,
     line: Txt,

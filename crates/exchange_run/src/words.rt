@@ -8,7 +8,7 @@ use json_fields::exact_amount;
 use rtb_num::{Micros, Txt, is_number};
 
 /// A campaign that a word names.
-#[derive(Debug, Drop)]
+#[derive(Drop)]
 pub(crate) struct NamedCampaign<'a> {
     /// Micro-dollars per thousand impressions.
     pub bid: Micros,

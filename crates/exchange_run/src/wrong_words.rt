@@ -17,7 +17,10 @@ pub fn explain(alloc: Global, words: &[Txt], out: &mut Txt) -> Result<(), AllocE
     ensures err { OnErr result (out.new ≡ out.old) }
 {
     match command_line(alloc, words) {
-        Ok(_) => Ok(()),
+        Ok(line) => {
+            drop(line);
+            Ok(())
+        }
         Err(WordsFault::Usage) => tell_what_is_wrong(alloc, words, out),
         Err(WordsFault::Memory) => Err(AllocError),
     }

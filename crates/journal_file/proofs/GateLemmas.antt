@@ -1,11 +1,13 @@
 -- What stands at a gate.
-use Rattle.std.proofs.Common.{◌≡◌, ◌≢◌, ◌⊎◌, inl, inr, ℕ, ◌+◌, ◌-◌, ◌<◌, ◌≤◌, ◌^◌, min, List, [], ◌∷◌, ◌++◌, length, take, drop, get_or, Option, Some, None, refl, sym, ◌∙◌, ap, subst, arith, append_assoc, length-append, length-drop, take-append-drop}
+use Rattle.std.proofs.Common.{◌≡◌, ◌≢◌, ◌⊎◌, inl, inr, ℕ, ◌+◌, ◌-◌, ◌<◌, ◌≤◌, ◌^◌, min, List, [], ◌∷◌, ◌++◌, length, take, drop, get_or, Option, Some, None, true, false, refl, sym, ◌∙◌, ap, subst, arith, append_assoc, length-append, length-drop, take-append-drop}
 use Rattle.std.proofs.lemmas.List.{take_at, drop_at, drop-drop, drop_more, length-take, length-take-le, append-nil, take_min}
+use Rattle.std.proofs.lemmas.Bool.{eq-eqb, eqb-true}
 use Rattle.byte_fields.specs.Codes.{BeginsAt}
 use Rattle.byte_fields.specs.Encodings.{FitsEight, eight_bytes}
 use Rattle.byte_fields.proofs.Numbers.{length-eight, eight_code}
 use Rattle.journal_file.specs.Blocks.{HasBlocks, IsName, block_bytes, end_of, front_of, open_blocks}
 use Rattle.journal_file.specs.Damage.{HasBlock, IsCutShort, IsDamaged, IsShut}
+use Rattle.journal_file.specs.Gates.{begins_open}
 use Rattle.journal_file.specs.Sizes.{IsSizeAt}
 use Rattle.journal_file.proofs.Writing.{end_push, front_long, front_push}
 
@@ -23,13 +25,13 @@ pub first_bytes : (k : ℕ) (bytes front : List ℕ) (n : ℕ) → n ≡ min k (
 first_bytes k bytes front n is e = e ∙ ap (λ i. take i bytes) is ∙ take_min k bytes
 
 -- the first byte tells whether the gate is open
-pub open_whole : (bytes : List ℕ) → (rest : List ℕ) × (take 1 bytes ≡ 1 ∷ rest) → (rest : List ℕ) × (bytes ≡ 1 ∷ rest)
-open_whole bytes (rest, e) = (rest ++ drop 1 bytes, sym (take-append-drop 1 bytes) ∙ ap (λ l. l ++ drop 1 bytes) e)
+pub open_whole : (bytes : List ℕ) → begins_open (take 1 bytes) ≡ true → (rest : List ℕ) × (bytes ≡ 1 ∷ rest)
+open_whole [] e = absurd (cc e)
+open_whole (b ∷ bytes) e = (bytes, ap (λ g. g ∷ bytes) (eqb-true b 1 e))
 
-pub shut_whole : (bytes : List ℕ) → IsShut (take 1 bytes) → IsShut bytes
-shut_whole [] shut = inl refl
-shut_whole (b ∷ bytes) (inl e) = absurd (cc e)
-shut_whole (b ∷ bytes) (inr (gate, rest, closed, e)) = inr (gate, rest ++ bytes, closed, ap (λ l. l ++ bytes) e)
+pub shut_whole : (bytes : List ℕ) → begins_open (take 1 bytes) ≡ false → IsShut bytes
+shut_whole [] e = inl refl
+shut_whole (b ∷ bytes) e = inr (b, bytes, (λ one. cc (eq-eqb b 1 one, e)), refl)
 
 -- the first eight bytes tell the length
 pub size_whole : (bytes : List ℕ) (found : Option ℕ) → IsSizeAt (take 8 bytes) found → IsSizeAt bytes found

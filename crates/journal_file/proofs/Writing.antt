@@ -2,7 +2,8 @@
 use Rattle.std.proofs.Common.{◌≡◌, ◌≢◌, inl, inr, ℕ, ◌+◌, ◌<◌, ◌≤◌, List, [], ◌∷◌, ◌++◌, length, take, drop, true, refl, sym, ◌∙◌, ap, subst, arith, append_assoc, length-append, length-drop}
 use Rattle.std.proofs.lemmas.List.{length-take, append-nil}
 use Rattle.std.proofs.lemmas.Bool.{cases_eq}
-use Rattle.rtb_disk.specs.Stores.{Store, Change, write, EachImage, Always, Fails, Torn, changed, settled, overwritten}
+use Rattle.rtb_disk.specs.Stores.{Store, Change, write, EachImage, IsImage, Always, Fails, Torn, changed, settled, overwritten}
+use Rattle.rtb_disk.specs.Images.{torn_part}
 use Rattle.rtb_disk.proofs.Moments.{Keeps, always_changed, always_failed, always_settled, always_then}
 use Rattle.rtb_disk.proofs.Writes.{written_behind, front_kept, byte_kept}
 use Rattle.byte_fields.specs.Encodings.{eight_bytes}
@@ -82,18 +83,30 @@ pub fails_longer : (place n : ℕ) (s t : Store) → Fails (write place n) s t �
 fails_longer place n s t (inl e) = omega (arith, ap (λ (u : Store). length u.reads) e)
 fails_longer place n s t (inr done) = omega (arith, ap (λ (u : Store). length u.reads) done.2, done.1.no_shorter)
 
+-- a write that is synced
+pub synced_longer : (change : Change) (bytes : List ℕ) (place : ℕ) (s t : Store) → t ≡ settled (changed change (overwritten s.reads place bytes) s) → length s.reads ≤ length t.reads
+synced_longer change bytes place s t e = omega (arith, ap (λ (u : Store). length u.reads) e, written_long s.reads bytes place)
+
+pub syncs_on : (names payloads : List (List ℕ)) (place : ℕ) (bytes : List ℕ) → end_of payloads < place → (s t u : Store) → Always (HasBlocks names payloads) s t → IsImage t.now t.reads
+    → u ≡ settled (changed (write place (length bytes)) (overwritten t.reads place bytes) t) → Always (HasBlocks names payloads) s u
+syncs_on names payloads place bytes lt s t u so_far stands e =
+    let keeps = behind_keeps names payloads place (length bytes) lt in
+    let reads = overwritten t.reads place bytes in
+    let one = goes_on names payloads place (length bytes) lt s t (changed (write place (length bytes)) reads t) reads so_far refl in
+    always_then _ s _ u one (always_settled _ _ u one.last (keeps t.reads reads (so_far.last t.reads stands) (torn_part t.reads bytes place (length bytes) (omega arith))) e)
+
 -- once the three writes are synced, the block stands behind the gate in every image
-pub behind_now : (names payloads : List (List ℕ)) (block size : List ℕ) (gate : ℕ) (w1 w2 w3 : Change) (s0 s1 s2 s3 s4 : Store) → gate ≡ end_of payloads → size ≡ eight_bytes (length block) → HasBlocks names payloads s0.reads
-    → s1 ≡ changed w1 (overwritten s0.reads (gate + 1) size) s0 → s2 ≡ changed w2 (overwritten s1.reads (gate + 9) block) s1 → s3 ≡ changed w3 (overwritten s2.reads (gate + 9 + length block) (0 ∷ [])) s2
-    → s4 ≡ settled s3 → EachImage (HasBehind names payloads block) s4.now
-behind_now names payloads block size gate w1 w2 w3 s0 s1 s2 s3 s4 is size_is has e1 e2 e3 e4 =
+pub behind_now : (names payloads : List (List ℕ)) (block size : List ℕ) (gate : ℕ) (w1 w2 w3 : Change) (s0 s1 s2 s3 : Store) → gate ≡ end_of payloads → size ≡ eight_bytes (length block) → HasBlocks names payloads s0.reads
+    → s1 ≡ changed w1 (overwritten s0.reads (gate + 1) size) s0 → s2 ≡ changed w2 (overwritten s1.reads (gate + 9) block) s1
+    → s3 ≡ settled (changed w3 (overwritten s2.reads (gate + 9 + length block) (0 ∷ [])) s2) → EachImage (HasBehind names payloads block) s3.now
+behind_now names payloads block size gate w1 w2 w3 s0 s1 s2 s3 is size_is has e1 e2 e3 =
     let b1 = overwritten s0.reads (gate + 1) (eight_bytes (length block)) in
     let b2 = overwritten b1 (gate + 9) block in
     let r1 : s1.reads ≡ b1 = ap (λ (u : Store). u.reads) e1 ∙ ap (λ n. overwritten s0.reads (gate + 1) n) size_is in
     let r2 : s2.reads ≡ b2 = ap (λ (u : Store). u.reads) e2 ∙ ap (λ r. overwritten r (gate + 9) block) r1 in
-    let r3 : s3.reads ≡ overwritten b2 (gate + 9 + length block) (0 ∷ []) = ap (λ (u : Store). u.reads) e3 ∙ ap (λ r. overwritten r (gate + 9 + length block) (0 ∷ [])) r2 in
-    let has3 : HasBehind names payloads block s3.reads = subst (HasBehind names payloads block) (sym r3) (three_writes names payloads block s0.reads gate is has) in
-    subst (λ (u : Store). EachImage (HasBehind names payloads block) u.now) (sym e4) (λ c i. subst (HasBehind names payloads block) (sym i) has3)
+    let r3 : overwritten s2.reads (gate + 9 + length block) (0 ∷ []) ≡ overwritten b2 (gate + 9 + length block) (0 ∷ []) = ap (λ r. overwritten r (gate + 9 + length block) (0 ∷ [])) r2 in
+    let has3 = subst (HasBehind names payloads block) (sym r3) (three_writes names payloads block s0.reads gate is has) in
+    subst (λ (u : Store). EachImage (HasBehind names payloads block) u.now) (sym e3) (λ c i. subst (HasBehind names payloads block) (sym i) has3)
 
 -- a write of the gate alone keeps what stands behind it
 pub gate_keeps : (names payloads : List (List ℕ)) (block : List ℕ) (gate : ℕ) → gate ≡ end_of payloads → Keeps (HasBehind names payloads block) (write gate 1)
@@ -133,7 +146,7 @@ either names payloads block image has = elim (cases_eq has.gate 1) [
   | inr shut ↦ inl (record { name = has.name; named = has.named; gate = has.gate; rest = block_bytes block ++ 0 ∷ has.rest; closed = shut; file = has.file })
 ]
 
-opened_reads : (names payloads : List (List ℕ)) (block old : List ℕ) (gate : ℕ) → gate ≡ end_of payloads → HasBehind names payloads block old → HasBlocks names (payloads ++ block ∷ []) (overwritten old gate (1 ∷ []))
+pub opened_reads : (names payloads : List (List ℕ)) (block old : List ℕ) (gate : ℕ) → gate ≡ end_of payloads → HasBehind names payloads block old → HasBlocks names (payloads ++ block ∷ []) (overwritten old gate (1 ∷ []))
 opened_reads names payloads block old gate is has =
     let behind = block_bytes block ++ 0 ∷ has.rest in
     record {
@@ -147,9 +160,3 @@ opened_reads names payloads block old gate is has =
           ∙ append_assoc (front_of has.name payloads) (1 ∷ []) behind
           ∙ front_push has.name payloads block (0 ∷ has.rest);
     }
-
-pub opened_now : (names payloads : List (List ℕ)) (block : List ℕ) (gate : ℕ) (w : Change) (s0 s1 s2 : Store) → gate ≡ end_of payloads → HasBehind names payloads block s0.reads
-    → s1 ≡ changed w (overwritten s0.reads gate (1 ∷ [])) s0 → s2 ≡ settled s1 → EachImage (HasBlocks names (payloads ++ block ∷ [])) s2.now
-opened_now names payloads block gate w s0 s1 s2 is has e1 e2 =
-    let has1 : HasBlocks names (payloads ++ block ∷ []) s1.reads = subst (HasBlocks names (payloads ++ block ∷ [])) (sym (ap (λ (u : Store). u.reads) e1)) (opened_reads names payloads block s0.reads gate is has) in
-    subst (λ (u : Store). EachImage (HasBlocks names (payloads ++ block ∷ [])) u.now) (sym e2) (λ c i. subst (HasBlocks names (payloads ++ block ∷ [])) (sym i) has1)

@@ -1,5 +1,5 @@
--- Where a reading stands at a gate of the file. Private.
-use Rattle.std.specs.Prelude.{Bool, true, false}
+-- Where a reading stands at a gate of the file, and whether that is open. Private.
+use Rattle.std.specs.Prelude.{ℕ, nat_eq, List, [], ◌∷◌, Bool, true, false}
 use Rattle.journal_file.specs.declared.reading.Found.{Found}
 use Rattle.journal_file.specs.declared.reading.Found.TheVariants as found
 
@@ -9,3 +9,8 @@ has_gate found.Ended = true
 has_gate found.Creation = false
 has_gate found.Failed = false
 has_gate found.Damaged = false
+
+-- these bytes begin with an open gate
+abbrev pub begins_open : List ℕ → Bool
+begins_open [] = false
+begins_open (gate ∷ rest) = nat_eq gate 1

@@ -2,7 +2,8 @@ ghost use Rattle.std.specs.Prelude.{◌≡◌, ◌+◌, ◌<◌, ◌≤◌, ◌^
 ghost use Rattle.rtb_base.specs.Faults.{CountsErrors, RisesOnlyWhere};
 ghost use Rattle.byte_fields.specs.Encodings.{eight_bytes};
 ghost use Rattle.journal_file.specs.Damage.{IsBlockAt, IsShut};
-ghost use Rattle.journal_file.specs.Sizes.{IsSizeAt};
+ghost use Rattle.journal_file.specs.Gates.{begins_open};
+ghost use Rattle.journal_file.specs.Sizes.{IsSizeAt, IsWholeSize};
 
 use crate::faults::JournalFault;
 use crate::payloads::{ReadFault, read_payload};
@@ -49,8 +50,7 @@ fn is_open<D: Disk>(disk: &mut D, gate: u64) -> Result<bool, Failed>
 }
 
 fn is_one(bytes: &[u8]) -> bool
-    ensures open { result ≡ true → (rest : List ℕ) × (bytes.now ≡ 1 ∷ rest) }
-    ensures shut { result ≡ false → IsShut bytes.now }
+    ensures { result ≡ begins_open bytes.now }
 {
     match bytes.split_first() {
         Some((gate, _)) => *gate == 1,
@@ -58,8 +58,7 @@ fn is_one(bytes: &[u8]) -> bool
     }
 }
 
-// The block behind an open gate. Besides its payload a block has its gate and its length, and the next
-// gate stands behind it: ten bytes.
+// The block behind an open gate.
 fn block_behind<D: Disk>(
     disk: &mut D,
     gate: u64,
@@ -74,15 +73,30 @@ fn block_behind<D: Disk>(
     ensures same { D.store disk.new ≡ D.store disk.old }
     ensures cause { RisesOnlyWhere (result ≡ Err JournalFault.DiskFailed) (D.faults disk.old) (D.faults disk.new) }
 {
+    match whole_size(disk, gate)? {
+        Some(size) => payload_behind(disk, gate, size, out),
+        None => Err(JournalFault::Damaged { at: gate }),
+    }
+}
+
+// The payload's length behind an open gate; none where its block and the next gate are not all there.
+// Besides its payload a block has its gate and its length, and the next gate stands behind it: ten bytes.
+fn whole_size<D: Disk>(disk: &mut D, gate: u64) -> Result<Option<u64>, Failed>
+    ensures whole { (D.store disk.old).told ≡ true → IfOk result (λ found. (rest : List ℕ) → drop gate (D.store disk.old).reads ≡ 1 ∷ rest → IsWholeSize rest found) }
+    ensures inside { (D.store disk.old).told ≡ true → IfOk result (λ found. IfSome found (λ size. gate + 9 + size < length (D.store disk.old).reads)) }
+    ensures fits { IfOk result (λ found. IfSome found (λ size. gate + 10 + size < 2 ^ 63)) }
+    ensures same { D.store disk.new ≡ D.store disk.old }
+    ensures cause { CountsErrors (D.faults disk.old) (D.faults disk.new) result }
+{
     let end = disk.length()?;
     let behind = end.saturating_sub(gate);
     if behind < 10 {
-        return Err(JournalFault::Damaged { at: gate });
+        return Ok(None);
     }
     match size_at(disk, gate + 1)? {
-        None => Err(JournalFault::Damaged { at: gate }),
-        Some(size) if size > behind - 10 => Err(JournalFault::Damaged { at: gate }),
-        Some(size) => payload_behind(disk, gate, size, out),
+        None => Ok(None),
+        Some(size) if size > behind - 10 => Ok(None),
+        Some(size) => Ok(Some(size)),
     }
 }
 

@@ -4,6 +4,7 @@ ghost use Rattle.rtb_disk.specs.Stores.{EachImage, Always};
 ghost use Rattle.byte_fields.specs.Encodings.{eight_bytes};
 ghost use Rattle.journal_file.specs.Blocks.{HasBlocks, HasBehind, end_of};
 
+use crate::steps::write_synced;
 use rtb_disk::Disk;
 use rtb_num::Failed;
 
@@ -22,8 +23,7 @@ pub(crate) fn write_block<D: Disk>(disk: &mut D, gate: u64, block: &[u8]) -> Res
     let size = block.len() as u64;
     disk.write_at(gate + 1, &size_bytes(size))?;
     disk.write_at(gate + 9, block)?;
-    disk.write_at(gate + 9 + size, &[0])?;
-    disk.sync()?;
+    write_synced(disk, gate + 9 + size, &[0])?;
     Ok(())
 }
 
@@ -44,7 +44,6 @@ pub(crate) fn open_gate<D: Disk>(disk: &mut D, gate: u64) -> Result<(), Failed>
     ensures opened { (D.store disk.old).told ≡ true → (names payloads : List (List ℕ)) → (block : List ℕ) → gate ≡ end_of payloads → EachImage (HasBehind names payloads block) (D.store disk.old).now → OnOk result (EachImage (HasBlocks names (payloads ++ block ∷ [])) (D.store disk.new).now) }
     ensures cause { CountsErrors (D.faults disk.old) (D.faults disk.new) result }
 {
-    disk.write_at(gate, &[1])?;
-    disk.sync()?;
+    write_synced(disk, gate, &[1])?;
     Ok(())
 }

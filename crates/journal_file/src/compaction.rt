@@ -1,12 +1,12 @@
-ghost use Rattle.std.specs.Prelude.{◌≡◌, ◌⊎◌, ◌+◌, ◌<◌, ◌≤◌, ◌^◌, ◌∷◌, ◌++◌, [], ℕ, List, length, take, true, false, IfOk, MatchBool, MatchResult, OnOk};
+ghost use Rattle.std.specs.Prelude.{◌≡◌, ◌⊎◌, ◌+◌, ◌<◌, ◌≤◌, ◌^◌, ◌∷◌, ◌++◌, [], ℕ, List, length, take, true, false, IfOk, MatchBool, MatchResult, OnErr, OnOk};
 ghost use Rattle.rtb_base.specs.Faults.{CountsErrors};
-ghost use Rattle.rtb_disk.specs.Stores.{Always, EachImage, settled};
+ghost use Rattle.rtb_disk.specs.Stores.{Always, EachImage, Fails, changed, cut, settled};
 ghost use Rattle.journal_file.specs.Blocks.{HasBlocks, block_bytes, compacted_name, end_of, open_blocks};
 ghost use Rattle.journal_file.specs.Unfinished.{BeginsZero, IsUnfinished, IsUnfinishedOr};
 
 use crate::blocks::size_bytes;
 use crate::faults::{CompactFault, DiskFailed};
-use crate::steps::{cut_synced, write_synced};
+use crate::steps::write_synced;
 use rtb_disk::Disk;
 use rtb_num::Failed;
 
@@ -160,6 +160,19 @@ fn cut_and_name<D: Disk>(disk: &mut D) -> Result<(), Failed>
 {
     cut_synced(disk, 8)?;
     name_short(disk)?;
+    Ok(())
+}
+
+// Cuts the disk to its first bytes, and syncs.
+fn cut_synced<D: Disk>(disk: &mut D, count: u64) -> Result<(), Failed>
+    requires inside { (D.store disk.old).told ≡ true → count ≤ length (D.store disk.old).reads }
+    ensures done { (D.store disk.old).told ≡ true → OnOk result (D.store disk.new ≡ settled (changed (cut count) (take count (D.store disk.old).reads) (D.store disk.old))) }
+    ensures failed { (D.store disk.old).told ≡ true → OnErr result (Fails (cut count) (D.store disk.old) (D.store disk.new)) }
+    ensures told { (D.store disk.new).told ≡ (D.store disk.old).told }
+    ensures cause { CountsErrors (D.faults disk.old) (D.faults disk.new) result }
+{
+    disk.cut(count)?;
+    disk.sync()?;
     Ok(())
 }
 

@@ -6,13 +6,13 @@ use std::alloc::AllocError;
 use thiserror::Error;
 
 /// Why a journal was not read.
-#[derive(Clone, Copy, Debug, PartialEq, Eq, Error)]
+#[derive(Clone, Copy, Debug, Error)]
 pub enum JournalFault {
     /// A call of the disk failed, and its count of faults rose.
     #[error("the disk failed")]
     DiskFailed,
     /// The file is no journal from this place on.
-    #[error("damaged at {at}")]
+    #[error("damaged")]
     Damaged { at: u64 },
     /// Memory was refused.
     #[error("memory ran out")]
@@ -36,7 +36,7 @@ impl From<AllocError> for JournalFault {
 }
 
 /// A call of the disk failed, and its count of faults rose.
-#[derive(Clone, Copy, Debug, PartialEq, Eq, Error)]
+#[derive(Clone, Copy, Debug, Error)]
 #[error("the disk failed")]
 pub struct DiskFailed;
 
@@ -47,7 +47,7 @@ impl From<Failed> for DiskFailed {
 }
 
 /// Why a file was not begun to be written whole.
-#[derive(Clone, Copy, Debug, PartialEq, Eq, Error)]
+#[derive(Clone, Copy, Debug, Error)]
 pub enum CompactFault {
     /// A call of the disk failed, and its count of faults rose.
     #[error("the disk failed")]

@@ -5,7 +5,7 @@ use crate::faults::DiskFailed;
 use rtb_disk::Disk;
 
 // How far an append came: it is done, it stopped in its first four calls, or in its last two.
-#[derive(Clone, Copy, Debug)]
+#[derive(Clone, Copy)]
 pub(crate) enum Stage {
     Whole,
     Block,

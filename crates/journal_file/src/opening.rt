@@ -7,7 +7,7 @@ use rtb_disk::Disk;
 use rtb_num::Failed;
 
 // What a file begins as: a creation that was not finished, a journal, or neither.
-#[derive(Clone, Copy, Debug)]
+#[derive(Clone, Copy)]
 pub(crate) enum Opening {
     Creation,
     Journal,

@@ -7,7 +7,7 @@ use rtb_num::{Failed, Txt};
 use std::alloc::AllocError;
 
 // Why a payload was not read.
-#[derive(Clone, Copy, Debug)]
+#[derive(Clone, Copy)]
 pub(crate) enum ReadFault {
     Failed,
     Memory,

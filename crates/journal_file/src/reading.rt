@@ -10,7 +10,7 @@ use rtb_disk::Disk;
 use rtb_num::Txt;
 
 // What the next answer rests on: more blocks, or what was found.
-#[derive(Clone, Copy, Debug)]
+#[derive(Clone, Copy)]
 pub(crate) enum Found {
     Blocks,
     Ended,

@@ -15,7 +15,7 @@ use std::marker::Model;
 ///
 /// The last of its moments repeats. It keeps the links that come back, for which it has room from the
 /// start; a link beyond those that it gave is dropped.
-#[derive(Debug, Drop)]
+#[derive(Drop)]
 pub struct MemDoor {
     // The first link that is left stands last.
     links: Vec<MemLink>,

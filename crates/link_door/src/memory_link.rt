@@ -13,7 +13,7 @@ use std::marker::Model;
 /// A link in memory, where the calls whose numbers are listed fail.
 ///
 /// Reads and writes are numbered together. A write that finds no memory fails too.
-#[derive(Debug, Drop)]
+#[derive(Drop)]
 pub struct MemLink {
     bytes: Txt,
     place: usize,

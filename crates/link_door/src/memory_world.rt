@@ -18,7 +18,7 @@ use std::mem;
 ///
 /// Calls of `doors` and `disk` are numbered together. Addresses and names are passed over: doors and
 /// disks are handed out in their order. A call that asks for more than are left fails too.
-#[derive(Debug, Drop)]
+#[derive(Drop)]
 pub struct MemWorld {
     doors: Vec<MemDoor>,
     disks: Vec<MemDisk>,

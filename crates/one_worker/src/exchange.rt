@@ -16,7 +16,7 @@ pub struct Exchange<D: Disk> {
 }
 
 // Why a command was not carried out, or was and is not on the disk.
-#[derive(Clone, Copy, Debug)]
+#[derive(Clone, Copy)]
 pub(crate) enum Fault {
     StoreFailed,
     Memory,

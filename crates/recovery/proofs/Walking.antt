@@ -1,6 +1,6 @@
 -- A turn of the reading, and its end.
 use Rattle.std.proofs.Common.{◌≡◌, ◌≢◌, inl, inr, ℕ, ◌+◌, ◌<◌, ◌≤◌, List, [], ◌∷◌, ◌++◌, length, Bool, true, false, refl, sym, ◌∙◌, ap, subst, arith, length-append, Some, None, Option}
-use Rattle.std.specs.Prelude.{Result, Ok, Err}
+use Rattle.std.specs.Prelude.{IfOk, MatchResult, OnOk, Result, Ok, Err}
 use Rattle.effects.specs.Bytes.{IsDecoded}
 use Rattle.rtb_base.specs.Faults.{RisesOnlyWhere, Rose}
 use Rattle.auction_core.specs.Core.{CoreState}
@@ -25,7 +25,7 @@ head_of [] lt = absurd (omega (arith, lt))
 head_of (g ∷ rest) lt = (g, rest, refl)
 
 -- a fault is handed on
-pub rises_as : (r : Result CoreState JournalFault) (inner : Result Bool JournalFault) (e : JournalFault) (first before now : ℕ) → r ≡ Err e → inner ≡ Err e → before ≡ first → RisesOnlyWhere (inner ≡ Err fault.DiskFailed) before now → RisesOnlyWhere (r ≡ Err fault.DiskFailed) first now
+pub rises_as : {T : Type 0} (r : Result T JournalFault) (inner : Result Bool JournalFault) (e : JournalFault) (first before now : ℕ) → r ≡ Err e → inner ≡ Err e → before ≡ first → RisesOnlyWhere (inner ≡ Err fault.DiskFailed) before now → RisesOnlyWhere (r ≡ Err fault.DiskFailed) first now
 rises_as r inner e first before now is is2 same rise =
     let there : r ≡ Err fault.DiskFailed → inner ≡ Err fault.DiskFailed = λ f. let k : e ≡ fault.DiskFailed = cc (is, f) in is2 ∙ ap Err k in
     let back : inner ≡ Err fault.DiskFailed → r ≡ Err fault.DiskFailed = λ f. let k : e ≡ fault.DiskFailed = cc (is2, f) in is ∙ ap Err k in
@@ -178,3 +178,35 @@ module _ {D : Type 0} {G : Ghosts D} where
 -- where no call failed, the count stays
 pub stays : (Failed : Type 0) (before now : ℕ) → (Failed → ⊥) → now ≡ before → RisesOnlyWhere Failed before now
 stays Failed before now none same = (omega (arith, same), (λ f. absurd (none f)), (λ _. same))
+
+-- want of memory is no fault of the disk
+pub no_fault : {T : Type 0} (r : Result T JournalFault) (e : JournalFault) → r ≡ Err e → e ≡ fault.Memory → r ≡ Err fault.DiskFailed → ⊥
+no_fault r e is memory failed = let same : ◌≡◌ {A = JournalFault} fault.Memory fault.DiskFailed = cc (is, memory, failed) in absurd (cc same)
+
+-- what a value is that was handed on unless something failed
+module _ {T : Type 0} (value : T) where
+  abbrev pub Handed : Result Unit JournalFault → Result T JournalFault → Type 0
+  Handed done r = MatchResult done (λ _. r ≡ Ok value) (λ e. r ≡ Err e)
+
+  pub handed : (P : Result T JournalFault → Type 0) (done : Result Unit JournalFault) (r : Result T JournalFault) → Handed done r → MatchResult done (λ _. P (Ok value)) (λ e. P (Err e)) → P r
+  handed P (Ok _) r is has = subst P (sym is) has
+  handed P (Err e) r is has = subst P (sym is) has
+
+  pub handed_whole : (P : T → Type 0) (done : Result Unit JournalFault) (r : Result T JournalFault) → Handed done r → OnOk done (P value) → IfOk r P
+  handed_whole P (Ok _) r is has = subst (λ a. IfOk a P) (sym is) has
+  handed_whole P (Err e) r is has = subst (λ a. IfOk a P) (sym is) tt
+
+  pub handed_ended : (P : Type 0) (done : Result Unit JournalFault) (r : Result T JournalFault) → Handed done r → OnOk done P → OnOk r P
+  handed_ended P (Ok _) r is has = subst (λ a. OnOk a P) (sym is) has
+  handed_ended P (Err e) r is has = subst (λ a. OnOk a P) (sym is) tt
+
+  pub handed_cause : (done : Result Unit JournalFault) (r : Result T JournalFault) (before now : ℕ) → Handed done r → RisesOnlyWhere (done ≡ Err fault.DiskFailed) before now → RisesOnlyWhere (r ≡ Err fault.DiskFailed) before now
+  handed_cause (Ok u) r before now is rise = stays _ before now (λ e. absurd (cc (is, e))) (rise.2 (λ e. absurd (cc e)))
+  handed_cause (Err e) r before now is rise =
+      let there : r ≡ Err fault.DiskFailed → ◌≡◌ {A = Result Unit JournalFault} (Err e) (Err fault.DiskFailed) = λ f. let k : e ≡ fault.DiskFailed = cc (is, f) in ap Err k in
+      let back : ◌≡◌ {A = Result Unit JournalFault} (Err e) (Err fault.DiskFailed) → r ≡ Err fault.DiskFailed = λ f. let k : e ≡ fault.DiskFailed = cc f in is ∙ ap Err k in
+      (rise.0, (λ f. rise.1 (there f)), (λ not_so. rise.2 (λ f. not_so (back f))))
+
+pub always_ok : (P : Type 0) (r : Result Unit JournalFault) → P → OnOk r P
+always_ok P (Ok _) p = p
+always_ok P (Err e) p = tt

@@ -22,11 +22,15 @@ pub(crate) fn apply_block(
     ensures ttl { core.new.ttl ≡ core.old.ttl }
 {
     match decode(alloc, payload) {
-        Ok(effects) => match apply_all(alloc, effects.as_slice(), core) {
-            Ok(()) => Ok(()),
-            Err(ApplyFault::Unfit) => Err(JournalFault::Damaged { at: gate }),
-            Err(ApplyFault::Memory) => Err(JournalFault::Memory),
-        },
+        Ok(effects) => {
+            let done = apply_all(alloc, effects.as_slice(), core);
+            drop(effects);
+            match done {
+                Ok(()) => Ok(()),
+                Err(ApplyFault::Unfit) => Err(JournalFault::Damaged { at: gate }),
+                Err(ApplyFault::Memory) => Err(JournalFault::Memory),
+            }
+        }
         Err(EffectFault::Torn { .. }) => Err(JournalFault::Damaged { at: gate }),
         Err(EffectFault::Memory) => Err(JournalFault::Memory),
     }

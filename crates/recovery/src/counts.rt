@@ -11,7 +11,7 @@ use std::alloc::AllocError;
 
 /// How many campaigns there are, how many of them are live, and how many sales there are, in all and by their
 /// states. Sales that were forgotten count too.
-#[derive(Clone, Copy, Debug, PartialEq, Eq)]
+#[derive(Clone, Copy)]
 pub struct Counts {
     pub campaigns: u64,
     pub live: u64,

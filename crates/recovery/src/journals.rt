@@ -59,7 +59,10 @@ fn open_from<D: Disk>(
     match replay(alloc, &mut reading, ttl) {
         Ok(core) => match reading.finish() {
             Ok(journal) => Ok((journal, core)),
-            Err(failed) => Err(failed),
+            Err(failed) => {
+                drop(core);
+                Err(failed)
+            }
         },
         Err(fault) => Err((reading.into_disk(), fault)),
     }

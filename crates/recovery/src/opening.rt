@@ -1,4 +1,4 @@
-ghost use Rattle.std.specs.Prelude.{◌≡◌, Err, IfOk, Ok, OnOk, false, true};
+ghost use Rattle.std.specs.Prelude.{◌≡◌, Err, IfOk, MatchResult, Ok, OnOk, false, true};
 ghost use Rattle.journal_file.specs.Readings.{HasNotFailed, faults_read, has_ended, reads_of, store_read};
 ghost use Rattle.recovery.specs.Openings.{IsAtEnd, IsAtStart, IsMadeBy, Opens};
 ghost use Rattle.recovery.specs.Turns.{IsWithin, Turns};
@@ -29,15 +29,42 @@ pub fn replay<D: Disk>(
     ensures cause { HasNotFailed reading.old → RisesOnlyWhere (result ≡ Err JournalFault.DiskFailed) (faults_read reading.old) (faults_read reading.new) }
 {
     let mut core = Core::new(alloc, ttl);
+    let done = apply_blocks(alloc, reading, &mut core);
+    unless_faulty(core, done)
+}
+
+// Reads the blocks that are left, and carries out the effects of each.
+fn apply_blocks<D: Disk>(
+    alloc: Global,
+    reading: &mut Reading<D>,
+    core: &mut Core,
+) -> Result<(), JournalFault>
+    ensures opened { IsMadeBy (IsWithin reading.old) core.old → MatchResult result (λ _. Opens (reads_of reading.old) (Ok core.new)) (λ e. Opens (reads_of reading.old) (Err e)) }
+    ensures made { IsMadeBy (IsWithin reading.old) core.old → OnOk result (IsMadeBy (IsAtEnd reading.new) core.new) }
+    ensures ended { OnOk result (has_ended reading.new ≡ true) }
+    ensures ttl { core.new.ttl ≡ core.old.ttl }
+    ensures same { store_read reading.new ≡ store_read reading.old }
+    ensures cause { HasNotFailed reading.old → RisesOnlyWhere (result ≡ Err JournalFault.DiskFailed) (faults_read reading.old) (faults_read reading.new) }
+{
     let mut payload = Txt::new(alloc);
     for _ in 0..u64::MAX {
-        let more = apply_next(alloc, reading, &mut payload, &mut core)?;
+        let more = apply_next(alloc, reading, &mut payload, core)?;
         if !more {
-            return Ok(core);
+            return Ok(());
         }
     }
     // No disk has so many blocks.
     Err(JournalFault::Memory)
+}
+
+// The value, unless something failed.
+fn unless_faulty<T: Drop>(value: T, done: Result<(), JournalFault>) -> Result<T, JournalFault>
+    ensures { MatchResult done (λ _. result ≡ Ok value) (λ e. result ≡ Err e) }
+{
+    match done {
+        Ok(()) => Ok(value),
+        Err(error) => Err(error),
+    }
 }
 
 // Reads the next block into the text, in place of what it has, and carries out its effects. False where there

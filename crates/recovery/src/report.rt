@@ -55,6 +55,8 @@ fn tell_counts<D: Disk>(
 {
     // No sale is made, so that it is all one how long one would be held.
     let core = replay(alloc, reading, 0)?;
-    Counts::of(&core).put(out)?;
+    let counts = Counts::of(&core);
+    drop(core);
+    counts.put(out)?;
     Ok(())
 }

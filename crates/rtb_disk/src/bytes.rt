@@ -8,7 +8,7 @@ use std::alloc::{AllocError, Global};
 use std::marker::Model;
 
 // The bytes of a disk in memory, which are written over where they lie.
-#[derive(Debug, Drop)]
+#[derive(Drop)]
 pub(crate) struct Bytes {
     items: Vec<u8>,
 }

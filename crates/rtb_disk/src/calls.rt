@@ -1,7 +1,7 @@
 use rtb_num::Txt;
 
 /// A call of a disk.
-#[derive(Debug, Drop)]
+#[derive(Drop)]
 pub enum Call {
     Length,
     /// A read of up to `count` bytes.
@@ -13,7 +13,7 @@ pub enum Call {
 }
 
 /// A call that was made of a disk in memory, and whether it failed.
-#[derive(Debug, Drop)]
+#[derive(Drop)]
 pub struct Made {
     pub call: Call,
     pub failed: bool,

@@ -9,7 +9,7 @@ use rtb_num::{SpareList, Txt};
 use std::alloc::{AllocError, Global};
 
 // What a disk in memory was made with, what it has now, and each call that it was asked.
-#[derive(Debug, Drop)]
+#[derive(Drop)]
 pub(crate) struct Log {
     alloc: Global,
     pub(crate) first: Txt,

@@ -21,7 +21,7 @@ const MAX_LENGTH: u64 = (1 << 63) - 1;
 /// Calls are numbered from 1. It keeps a record of them, but for those that were stopped. A write that
 /// fails has written the first half of its bytes, rounded down; any other call that fails does nothing.
 /// A call that finds no memory for what it has to keep fails too, and is not in the record.
-#[derive(Debug, Drop)]
+#[derive(Drop)]
 pub struct MemDisk {
     log: Log,
     calls: Calls,
@@ -195,8 +195,7 @@ impl Disk for MemDisk {
         ensures cause { CountsErrors self.old.calls.faults self.new.calls.faults result }
         ensures did { Did (Call.Cut count) self.old self.new result }
     {
-        self.make(Call::Cut { count })?;
-        Ok(())
+        self.make(Call::Cut { count })
     }
 
     fn sync(&mut self) -> Result<(), Failed>
@@ -206,8 +205,7 @@ impl Disk for MemDisk {
         ensures cause { CountsErrors self.old.calls.faults self.new.calls.faults result }
         ensures did { Did Call.Sync self.old self.new result }
     {
-        self.make(Call::Sync)?;
-        Ok(())
+        self.make(Call::Sync)
     }
 
     ghost stands = { λ d told. memory_stands d };

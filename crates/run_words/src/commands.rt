@@ -9,7 +9,7 @@ use rtb_num::Txt;
 use std::alloc::Global;
 
 /// What is asked about.
-#[derive(Clone, Copy, Debug, PartialEq, Eq)]
+#[derive(Clone, Copy)]
 pub enum Topic {
     /// The whole program.
     Program,
@@ -20,7 +20,7 @@ pub enum Topic {
 }
 
 /// What words ask for, where they are of no command that is read by hand.
-#[derive(Debug, Drop)]
+#[derive(Drop)]
 pub enum CommandLine {
     /// `serve` with its options.
     Serve(ServeOptions),
@@ -45,11 +45,17 @@ pub fn command_line(alloc: Global, words: &[Txt]) -> Result<CommandLine, WordsFa
             if name.as_bytes() == b"recover".as_slice() {
                 return recover_line(alloc, words, rest);
             }
-            match asked(Topic::Program, words) {
-                Some(line) => Ok(line),
-                None => Err(WordsFault::Usage),
-            }
+            program_line(words)
         }
+    }
+}
+
+fn program_line(words: &[Txt]) -> Result<CommandLine, WordsFault>
+    ensures { MatchResult result (λ line. asked Topic.Program words.now ≡ Some line) (λ e. e ≡ Usage → asked Topic.Program words.now ≡ None) }
+{
+    match asked(Topic::Program, words) {
+        Some(line) => Ok(line),
+        None => Err(WordsFault::Usage),
     }
 }
 

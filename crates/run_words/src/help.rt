@@ -87,21 +87,13 @@ fn told_recover<'a>(command: Result<Command<'a>, AllocError>) -> Result<Command<
 }
 
 fn program_command<'a>(alloc: Global) -> Result<Command<'a>, AllocError> {
-    let command = Command::new(alloc, "rtbx").disable_help_subcommand(true);
-    let with_try = with_command(alloc, command, "try", TRY_ABOUT)?;
-    let with_serve = with_command(alloc, with_try, "serve", SERVE_ABOUT)?;
-    let with_all = with_command(alloc, with_serve, "recover", RECOVER_ABOUT)?;
-    described(with_all, "rtbx", PROGRAM_ABOUT, PROGRAM_END)
-}
-
-fn with_command<'a>(
-    alloc: Global,
-    command: Command<'a>,
-    name: &'a str,
-    about: &'a str,
-) -> Result<Command<'a>, AllocError> {
-    let named = Command::new(alloc, name).about(about);
-    command.subcommand(named)
+    let try_command = Command::new(alloc, "try").about(TRY_ABOUT);
+    let serve = Command::new(alloc, "serve").about(SERVE_ABOUT);
+    let recover = Command::new(alloc, "recover").about(RECOVER_ABOUT);
+    let commands = vec![in alloc; try_command, serve, recover]?;
+    let program = Command::new(alloc, "rtbx").disable_help_subcommand(true);
+    let with_commands = program.subcommands(commands)?;
+    described(with_commands, "rtbx", PROGRAM_ABOUT, PROGRAM_END)
 }
 
 fn described<'a>(

@@ -1,18 +1,18 @@
-ghost use Rattle.std.specs.Prelude.{◌≡◌, IfOk, MatchResult, None, Some, map, option_map};
+ghost use Rattle.std.specs.Prelude.{◌≡◌, ◌≢◌, IfOk, MatchResult, None, Some, map, option_map};
 ghost use Rattle.clap.specs.Words.{app_of, found_of, rows_of};
 ghost use Rattle.run_words.specs.Commands.{given_by, recover_app, recover_of, recover_options};
 ghost use Rattle.run_words.specs.declared.fault.WordsFault.TheVariants.{Usage};
 
 use crate::fault::WordsFault;
 use crate::matched::{match_words, option_text};
-use crate::options::with_text;
+use crate::options::text_option;
 use crate::texts::texts;
 use clap::{ArgMatches, Command};
 use rtb_num::Txt;
 use std::alloc::{AllocError, Global};
 
 /// The options of `recover`.
-#[derive(Debug, Drop)]
+#[derive(Drop)]
 pub struct RecoverOptions {
     /// The path of the journal.
     pub journal: Txt,
@@ -31,13 +31,17 @@ fn options_in<'a>(alloc: Global, words: &'a [&'a str]) -> Result<RecoverOptions,
 {
     let command = recover_command(alloc)?;
     match match_words(command, words) {
-        Ok(matches) => Ok(options(alloc, &matches)?),
+        Ok(matches) => {
+            let given = options(alloc, &matches);
+            drop(matches);
+            given
+        }
         Err(fault) => Err(fault),
     }
 }
 
-fn options(alloc: Global, matches: &ArgMatches<'_>) -> Result<RecoverOptions, AllocError>
-    ensures { IfOk result (λ o. o ≡ recover_of (rows_of (found_of matches.now))) }
+fn options(alloc: Global, matches: &ArgMatches<'_>) -> Result<RecoverOptions, WordsFault>
+    ensures { MatchResult result (λ o. o ≡ recover_of (rows_of (found_of matches.now))) (λ e. e ≢ Usage) }
 {
     let journal = option_text(alloc, matches, "journal")?;
     Ok(RecoverOptions { journal })
@@ -49,6 +53,6 @@ const JOURNAL_HELP: &str = "The file that keeps the exchange, as exchange.journa
 pub(crate) fn recover_command<'a>(alloc: Global) -> Result<Command<'a>, AllocError>
     ensures { IfOk result (λ c. app_of c ≡ recover_app) }
 {
-    let command = Command::new(alloc, "recover");
-    with_text(alloc, command, "journal", JOURNAL_HELP)
+    let journal = text_option(alloc, "journal", JOURNAL_HELP);
+    Command::new(alloc, "recover").arg(journal)
 }

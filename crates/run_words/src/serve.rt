@@ -1,18 +1,18 @@
-ghost use Rattle.std.specs.Prelude.{◌≡◌, IfOk, MatchResult, None, Some, map, option_and_then};
-ghost use Rattle.clap.specs.Words.{app_of, found_of, rows_of};
-ghost use Rattle.run_words.specs.Commands.{given_by, serve_app, serve_of, serve_options};
+ghost use Rattle.std.specs.Prelude.{◌≡◌, IfOk, MatchResult, None, Some, codes, false, map, option_and_then};
+ghost use Rattle.clap.specs.Words.{app_of, found_of, rows_of, rule_of};
+ghost use Rattle.run_words.specs.Commands.{given_by, number_between, serve_app, serve_of, serve_options};
 ghost use Rattle.run_words.specs.declared.fault.WordsFault.TheVariants.{Usage};
 
 use crate::fault::WordsFault;
 use crate::matched::{match_words, number, option_text};
-use crate::options::{with_number, with_text};
+use crate::options::{number_option, text_option};
 use crate::texts::texts;
-use clap::{ArgMatches, Command};
+use clap::{Arg, ArgMatches, Command};
 use rtb_num::Txt;
 use std::alloc::{AllocError, Global};
 
 /// The options of `serve`.
-#[derive(Debug, Drop)]
+#[derive(Drop)]
 pub struct ServeOptions {
     /// The address of the door, as `127.0.0.1:8080`.
     pub listen: Txt,
@@ -81,9 +81,18 @@ const TTL_HELP: &str =
 pub(crate) fn serve_command<'a>(alloc: Global) -> Result<Command<'a>, AllocError>
     ensures { IfOk result (λ c. app_of c ≡ serve_app) }
 {
-    let command = Command::new(alloc, "serve");
-    let with_listen = with_text(alloc, command, "listen", LISTEN_HELP)?;
-    let with_journal = with_text(alloc, with_listen, "journal", JOURNAL_HELP)?;
-    let with_public = with_text(alloc, with_journal, "public", PUBLIC_HELP)?;
-    with_number(alloc, with_public, "ttl", 1, MAX_TTL, "300000", TTL_HELP)
+    let listen = text_option(alloc, "listen", LISTEN_HELP);
+    let journal = text_option(alloc, "journal", JOURNAL_HELP);
+    let public = text_option(alloc, "public", PUBLIC_HELP);
+    let ttl = ttl_option(alloc);
+    let options = vec![in alloc; listen, journal, public, ttl]?;
+    Command::new(alloc, "serve").args(options)
+}
+
+// How long a sale is held: five minutes, where it is not given.
+fn ttl_option<'a>(alloc: Global) -> Arg<'a>
+    ensures rule { rule_of result ≡ number_between 1 31536000000 (codes "300000") (codes "ttl") }
+    ensures local { result.global ≡ false }
+{
+    number_option(alloc, "ttl", 1, MAX_TTL, "300000", TTL_HELP)
 }

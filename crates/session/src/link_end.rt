@@ -6,7 +6,7 @@ ghost use Rattle.session.specs.declared.link_end.LinkEnd.{LinkEnd as LinkEndValu
 use rtb_num::Txt;
 
 /// Why a link ended.
-#[derive(Debug, Drop)]
+#[derive(Drop)]
 pub enum LinkEnd {
     /// Nothing more came, between messages.
     Done,

@@ -33,17 +33,24 @@ pub fn serve_link<S: Service, L: Link, G: Ledger>(
     ensures once { RoseAtMost 1 (L.faults link.old) (L.faults link.new) }
 {
     match Input::new(alloc) {
-        Ok(mut input) => converse(alloc, service, link, &mut input, steps),
+        Ok(mut input) => {
+            let mut out = Txt::new(alloc);
+            let end = converse(alloc, service, link, &mut input, &mut out, steps);
+            drop(out);
+            drop(input);
+            end
+        }
         Err(_) => LinkEnd::NoMemory,
     }
 }
 
-// The messages of a link, from the first.
+// The messages of a link, from the first. `out` holds the text of one answer after the other.
 fn converse<S: Service, L: Link, G: Ledger>(
     alloc: Global,
     service: &mut S,
     link: &mut L,
     input: &mut Input,
+    out: &mut Txt,
     steps: &mut Steps<G>,
 ) -> LinkEnd
     requires { input.old ≡ [] }
@@ -52,20 +59,23 @@ fn converse<S: Service, L: Link, G: Ledger>(
     ensures cause { RisesOnlyWhere (result ≡ LinkEnd.LinkFailed) (L.faults link.old) (L.faults link.new) }
     ensures once { RoseAtMost 1 (L.faults link.old) (L.faults link.new) }
 {
-    let mut out = Txt::new(alloc);
     let mut number: u32 = 0;
     'messages: loop {
         let message = match receive(alloc, input, link, steps) {
             Received::Message(message) => message,
             Received::Refused { status, word } => {
-                return refuse(alloc, status, &word, &mut out, link);
+                let end = refuse(alloc, status, &word, out, link);
+                drop(word);
+                return end;
             }
             Received::Ended => return end_of_input(alloc, input),
             Received::Failed => return LinkEnd::LinkFailed,
             Received::Memory => return out_of_memory(link),
         };
         number += 1;
-        match take_turn(service, &message, number, &mut out, link) {
+        let end = take_turn(service, &message, number, out, link);
+        drop(message);
+        match end {
             Some(end) => return end,
             None => {}
         }

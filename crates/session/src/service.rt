@@ -5,7 +5,7 @@ ghost use Rattle.session.specs.Talk.{IsGivable};
 use http_wire::{Answer, Message};
 
 /// What a service gives for a message.
-#[derive(Debug, Drop)]
+#[derive(Drop)]
 pub enum Given {
     /// An answer. `entered`: the message has an entry, so that want of memory for the text is told as
     /// `memory-late`.

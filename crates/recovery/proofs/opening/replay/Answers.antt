@@ -1,53 +1,27 @@
-use Rattle.std.proofs.Common.{◌≡◌, refl, ap, subst, sym, ◌∙◌, Err, Some}
-use Rattle.std.proofs.lemmas.Result.{err_from_is_err_and}
+use Rattle.std.proofs.Common.{◌≡◌, ◌∙◌, ap, sym, Ok, Err, Some}
 use Rattle.auction_core.specs.Core.{CoreState}
-use Rattle.journal_file.specs.Readings.{faults_read, reads_of}
-use Rattle.recovery.specs.Openings.{Opens}
-use Rattle.recovery.specs.Texts.{GivesState}
-use Rattle.rtb_disk.specs.Stores.{Store}
-use Rattle.recovery.proofs.Walking.{end_is, gives, made_empty, more_is, opens_not, rises_as, stays}
+use Rattle.journal_file.specs.Readings.{faults_read, has_ended, reads_of}
+use Rattle.recovery.specs.Openings.{IsAtEnd, IsMadeBy, Opens}
+use Rattle.recovery.proofs.Walking.{always_ok, handed, handed_cause, handed_ended, handed_whole, made_empty}
 use Rattle.recovery.proofs.opening.replay.Goals as goal
 
-pub loop-init : goal.loop-init
-loop-init g c = record {
-  made = λ start. made_empty c.args.reading.now c.new-core.result start (ap (λ (k : CoreState). Some k.state) (sym c.new-core.ensures)) (ap (λ (k : CoreState). k.edits) c.new-core.ensures);
-  same = refl;
-  ttl = ap (λ (k : CoreState). k.ttl) c.new-core.ensures;
-  well = λ well. (well, refl);
-}
+pub returns-clause-opened : goal.returns-clause-opened
+returns-clause-opened g c = λ start.
+    let made = made_empty c.args.reading.now c.new-core.result start (ap (λ (k : CoreState). Some k.state) (sym c.new-core.ensures)) (ap (λ (k : CoreState). k.edits) c.new-core.ensures) in
+    handed c.apply_blocks-done.new.core (Opens (reads_of c.args.reading.now)) c.apply_blocks-done.result c.unless_faulty.result c.unless_faulty.ensures (c.apply_blocks-done.ensures.opened made)
 
-pub returns-in_err-more-clause-opened : goal.returns-in_err-more-clause-opened
-returns-in_err-more-clause-opened g c = λ start.
-    let p = err_from_is_err_and c.from_residual.result c.from_residual.ensures.1 in
-    let same : c.from_residual.result ≡ Err c.in_err-more.field-0.0 = cc (p.1, p.2) in
-    let reads = ap (λ (s : Store). s.reads) c.loop.invariant.same in
-    subst (Opens (reads_of c.args.reading.now)) (sym same) (opens_not c.loop.reading c.apply_next.new.reading c.apply_next.new.core (reads_of c.args.reading.now) c.in_err-more.field-0.0 reads (c.in_err-more.ensures.turns (c.loop.invariant.made start)))
+pub returns-clause-made : goal.returns-clause-made
+returns-clause-made g c = λ start.
+    let made = made_empty c.args.reading.now c.new-core.result start (ap (λ (k : CoreState). Some k.state) (sym c.new-core.ensures)) (ap (λ (k : CoreState). k.edits) c.new-core.ensures) in
+    handed_whole c.apply_blocks-done.new.core (IsMadeBy (IsAtEnd c.apply_blocks-done.new.reading)) c.apply_blocks-done.result c.unless_faulty.result c.unless_faulty.ensures (c.apply_blocks-done.ensures.made made)
 
-pub returns-in_err-more-clause-cause : goal.returns-in_err-more-clause-cause
-returns-in_err-more-clause-cause g c = λ well.
-    let p = err_from_is_err_and c.from_residual.result c.from_residual.ensures.1 in
-    let same : c.from_residual.result ≡ Err c.in_err-more.field-0.0 = cc (p.1, p.2) in
-    let before = c.loop.invariant.well well in
-    rises_as c.from_residual.result (Err c.in_err-more.field-0.0) c.in_err-more.field-0.0 (faults_read c.args.reading.now) (faults_read c.loop.reading) (faults_read c.apply_next.new.reading) same refl before.1 (c.in_err-more.ensures.cause before.0)
+pub returns-clause-ended : goal.returns-clause-ended
+returns-clause-ended g c = handed_ended c.apply_blocks-done.new.core _ c.apply_blocks-done.result c.unless_faulty.result c.unless_faulty.ensures c.apply_blocks-done.ensures.ended
 
-pub returns-then-not-more-clause-opened : goal.returns-then-not-more-clause-opened
-returns-then-not-more-clause-opened g c = λ start.
-    let m = end_is c.loop.reading c.apply_next.new.reading c.apply_next.new.core c.in_ok-more.more c.if-not-more.true (c.in_ok-more.ensures.turns (c.loop.invariant.made start)) in
-    subst (λ (s : Store). GivesState s.reads c.apply_next.new.core.state) (c.in_ok-more.ensures.same ∙ c.loop.invariant.same) (gives c.apply_next.new.reading c.apply_next.new.core m)
+pub returns-clause-ttl : goal.returns-clause-ttl
+returns-clause-ttl g c =
+    handed_whole c.apply_blocks-done.new.core (λ (k : CoreState). k.ttl ≡ c.args.ttl) c.apply_blocks-done.result c.unless_faulty.result c.unless_faulty.ensures
+    (always_ok _ c.apply_blocks-done.result (c.apply_blocks-done.ensures.ttl ∙ ap (λ (k : CoreState). k.ttl) c.new-core.ensures))
 
-pub returns-then-not-more-clause-made : goal.returns-then-not-more-clause-made
-returns-then-not-more-clause-made g c = λ start.
-    end_is c.loop.reading c.apply_next.new.reading c.apply_next.new.core c.in_ok-more.more c.if-not-more.true (c.in_ok-more.ensures.turns (c.loop.invariant.made start))
-
-pub returns-then-not-more-clause-cause : goal.returns-then-not-more-clause-cause
-returns-then-not-more-clause-cause g c = λ well.
-    let before = c.loop.invariant.well well in
-    stays _ (faults_read c.args.reading.now) (faults_read c.apply_next.new.reading) (λ e. absurd (cc e)) ((c.in_ok-more.ensures.cause before.0).2 (λ e. absurd (cc e)) ∙ before.1)
-
-pub loop-preserved : goal.loop-preserved
-loop-preserved g c = record {
-  made = λ start. more_is c.loop.reading c.apply_next.new.reading c.apply_next.new.core c.in_ok-more.more c.if-not-more.false (c.in_ok-more.ensures.turns (c.loop.invariant.made start));
-  same = c.in_ok-more.ensures.same ∙ c.loop.invariant.same;
-  ttl = c.in_ok-more.ensures.ttl ∙ c.loop.invariant.ttl;
-  well = λ well. let before = c.loop.invariant.well well in (c.in_ok-more.ensures.intact before.0, (c.in_ok-more.ensures.cause before.0).2 (λ e. absurd (cc e)) ∙ before.1);
-}
+pub returns-clause-cause : goal.returns-clause-cause
+returns-clause-cause g c = λ well. handed_cause c.apply_blocks-done.new.core c.apply_blocks-done.result c.unless_faulty.result _ _ c.unless_faulty.ensures (c.apply_blocks-done.ensures.cause well)

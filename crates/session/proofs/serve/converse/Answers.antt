@@ -10,13 +10,13 @@ messages-init g c = record {
   faults = refl;
 }
 
-pub refuse-requires : goal.refuse-requires
-refuse-requires g c = decided_writable c.in-Refused.ensures.received.all c.in-Refused.status c.in-Refused.word c.in-Refused.ensures.received.given.0
+pub refuse-end-requires : goal.refuse-end-requires
+refuse-end-requires g c = decided_writable c.in-Refused.ensures.received.all c.in-Refused.status c.in-Refused.word c.in-Refused.ensures.received.given.0
 
 pub returns-in-Refused-clause-served : goal.returns-in-Refused-clause-served
 returns-in-Refused-clause-served g c =
-    let (tail, is, sends) = c.refuse.ensures.sent in
-    refuses g.S.Service.answers _ _ _ _ _ _ _ _ _ _ _ _ _ _ _ _ c.in-Refused.status c.in-Refused.word tail _ c.messages.invariant.talking c.in-Refused.ensures.received c.receive.ensures.sent is sends c.refuse.ensures.left c.messages.invariant.ticks c.receive.ensures.ticks
+    let (tail, is, sends) = c.refuse-end.ensures.sent in
+    refuses g.S.Service.answers _ _ _ _ _ _ _ _ _ _ _ _ _ _ _ _ c.in-Refused.status c.in-Refused.word tail _ c.messages.invariant.talking c.in-Refused.ensures.received c.receive.ensures.sent is sends c.refuse-end.ensures.left c.messages.invariant.ticks c.receive.ensures.ticks
 
 pub returns-in-Ended-clause-served : goal.returns-in-Ended-clause-served
 returns-in-Ended-clause-served g c =
@@ -32,24 +32,12 @@ returns-in-Memory-clause-served g c =
 
 pub returns-in-Some-clause-served : goal.returns-in-Some-clause-served
 returns-in-Some-clause-served g c =
-    stops g.S.Service.answers _ _ _ _ _ _ _ _ _ _ _ _ _ _ _ _ _ c.in-Message.message c.in-Some.end c.messages.invariant.talking c.in-Message.ensures.received c.receive.ensures.sent c.in-Some.ensures.turn c.take_turn.ensures.left c.messages.invariant.ticks c.receive.ensures.ticks
+    stops g.S.Service.answers _ _ _ _ _ _ _ _ _ _ _ _ _ _ _ _ _ c.in-Message.message c.in-Some.end c.messages.invariant.talking c.in-Message.ensures.received c.receive.ensures.sent c.in-Some.ensures.turn c.take_turn-end.ensures.left c.messages.invariant.ticks c.receive.ensures.ticks
 
 pub messages-preserved : goal.messages-preserved
 messages-preserved g c =
-    let talking = goes_on g.S.Service.answers _ _ _ _ _ _ _ _ _ _ _ _ _ _ _ _ _ c.in-Message.message c.messages.invariant.talking c.in-Message.ensures.received c.receive.ensures.sent c.in-None.ensures.turn c.take_turn.ensures.left c.messages.invariant.ticks c.receive.ensures.ticks in
-    let quiet = c.take_turn.ensures.cause.2 (λ failed. let wrong : ⊥ = cc in wrong) in
-    let before = c.receive.ensures.cause.2 (λ failed. let wrong : ⊥ = cc in wrong) in
-    record {
-      talking = talking;
-      few = still_few c.messages.number c.in-Message.message c.messages.invariant.few c.in-None.ensures.turn.ends_so.0;
-      ticks = omega (arith, c.receive.ensures.ticks, c.messages.invariant.ticks);
-      faults = quiet ∙ before ∙ c.messages.invariant.faults;
-    }
-
-pub messages-preserved-in-None : goal.messages-preserved-in-None
-messages-preserved-in-None g c =
-    let talking = goes_on g.S.Service.answers _ _ _ _ _ _ _ _ _ _ _ _ _ _ _ _ _ c.in-Message.message c.messages.invariant.talking c.in-Message.ensures.received c.receive.ensures.sent c.in-None.ensures.turn c.take_turn.ensures.left c.messages.invariant.ticks c.receive.ensures.ticks in
-    let quiet = c.take_turn.ensures.cause.2 (λ failed. let wrong : ⊥ = cc in wrong) in
+    let talking = goes_on g.S.Service.answers _ _ _ _ _ _ _ _ _ _ _ _ _ _ _ _ _ c.in-Message.message c.messages.invariant.talking c.in-Message.ensures.received c.receive.ensures.sent c.in-None.ensures.turn c.take_turn-end.ensures.left c.messages.invariant.ticks c.receive.ensures.ticks in
+    let quiet = c.take_turn-end.ensures.cause.2 (λ failed. let wrong : ⊥ = cc in wrong) in
     let before = c.receive.ensures.cause.2 (λ failed. let wrong : ⊥ = cc in wrong) in
     record {
       talking = talking;

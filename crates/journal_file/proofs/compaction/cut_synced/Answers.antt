@@ -2,7 +2,7 @@ use Rattle.std.proofs.Common.{◌≡◌, ◌∙◌, inr, take}
 use Rattle.rtb_disk.specs.Stores.{Fails, cut}
 use Rattle.rtb_disk.specs.Images.{cut_part}
 use Rattle.journal_file.proofs.Stopping.{on_err}
-use Rattle.journal_file.proofs.steps.cut_synced.Goals as goal
+use Rattle.journal_file.proofs.compaction.cut_synced.Goals as goal
 
 pub returns-in_err-sync-clause-failed : goal.returns-in_err-sync-clause-failed
 returns-in_err-sync-clause-failed g c = λ told.
