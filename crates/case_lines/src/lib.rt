@@ -11,4 +11,4 @@ mod report;
 mod words;
 
 pub use report::{Areas, run_cases};
-pub use words::{done, number_in, numbers_in, put_comma, say};
+pub use words::{done, kept, kept_if, number_in, numbers_in, paired, put_comma, put_space, say};

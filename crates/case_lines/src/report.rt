@@ -4,8 +4,9 @@ ghost use Rattle.rtb_base.specs.Faults.{RisesOnlyWhere, Rose};
 ghost use Rattle.rtb_io.specs.declared.status.Status.TheVariants.{NotRead, NotWritten};
 
 use crate::notation::{expand, show};
+use crate::words::done;
 use rtb_io::{ReadFault, Status, read_all, write_all};
-use rtb_num::{List, Sink, Source, Txt};
+use rtb_num::{List, Sink, Source, Txt, write_decimal};
 use std::alloc::{AllocError, Global};
 
 /// The longest list of cases, in bytes.
@@ -50,105 +51,127 @@ fn tell_report<A: Areas, O: Sink>(alloc: Global, input: &[u8], sink: &mut O) -> 
 
 // Each line whose answer differs, with what came, and last `N cases, M differ`.
 fn report_on<A: Areas>(alloc: Global, input: &[u8]) -> Result<Txt, AllocError> {
-    let mut report = Report {
-        text: Txt::new(alloc),
-        cases: 0,
-        differ: 0,
-    };
+    let mut report = Txt::new(alloc);
+    match put_report::<A>(alloc, input, &mut report) {
+        Ok(()) => Ok(report),
+        Err(refused) => {
+            drop(report);
+            Err(refused)
+        }
+    }
+}
+
+fn put_report<A: Areas>(alloc: Global, input: &[u8], report: &mut Txt) -> Result<(), AllocError> {
     if input.len() > MOST_BYTES {
-        report.text.extend(b"there are more cases than are read\n")?;
+        report.extend(b"there are more cases than are read\n")?;
     }
     match str::from_utf8(input) {
-        Ok(text) => {
-            for line in text.lines() {
-                if !line.is_empty() && !line.starts_with('#') {
-                    report.take::<A>(alloc, line)?;
-                }
+        Ok(text) => put_lines::<A>(alloc, text, report),
+        Err(_) => report.extend(b"the cases are not UTF-8\n0 cases, 0 differ\n"),
+    }
+}
+
+fn put_lines<A: Areas>(alloc: Global, text: &str, report: &mut Txt) -> Result<(), AllocError> {
+    let mut cases: u64 = 0;
+    let mut differ: u64 = 0;
+    for line in text.lines() {
+        if !line.is_empty() && !line.starts_with('#') {
+            cases = cases.saturating_add(1);
+            if !agrees::<A>(alloc, line, report)? {
+                differ = differ.saturating_add(1);
             }
         }
-        Err(_) => report.text.extend(b"the cases are not UTF-8\n")?,
     }
-    report.finish(alloc)
+    write_decimal(cases, report)?;
+    report.extend(b" cases, ")?;
+    write_decimal(differ, report)?;
+    report.extend(b" differ\n")
 }
 
-// How many cases there were, and what is to be told of those that differ.
-#[derive(Drop)]
-struct Report {
-    text: Txt,
-    cases: u64,
-    differ: u64,
+// Whether a case is answered as it says. One that is not is told, with what came.
+fn agrees<A: Areas>(alloc: Global, line: &str, report: &mut Txt) -> Result<bool, AllocError> {
+    let mut came = Txt::new(alloc);
+    let told = try_case::<A>(alloc, line, &mut came, report);
+    drop(came);
+    told
 }
 
-impl Report {
-    // One case.
-    fn take<A: Areas>(&mut self, alloc: Global, line: &str) -> Result<(), AllocError> {
-        self.cases = self.cases.saturating_add(1);
-        let came = answer_to::<A>(alloc, line)?;
-        if !came.agrees {
-            self.differ = self.differ.saturating_add(1);
-            self.text.extend(line.as_bytes())?;
-            self.text.extend(b"\n  came: ")?;
-            show(came.text.as_bytes(), &mut self.text)?;
-            self.text.push(b'\n')?;
-        }
-        Ok(())
+fn try_case<A: Areas>(
+    alloc: Global,
+    line: &str,
+    came: &mut Txt,
+    report: &mut Txt,
+) -> Result<bool, AllocError> {
+    if answer_to::<A>(alloc, line, came)? {
+        return Ok(true);
     }
-
-    // The report with its last line.
-    fn finish(self, alloc: Global) -> Result<Txt, AllocError> {
-        let cases = self.cases;
-        let differ = self.differ;
-        let mut text = self.text;
-        let last = format!(in alloc; "{cases} cases, {differ} differ\n")?;
-        text.extend(last.as_bytes())?;
-        Ok(text)
-    }
+    report.extend(line.as_bytes())?;
+    report.extend(b"\n  came: ")?;
+    show(came.as_bytes(), report)?;
+    report.push(b'\n')?;
+    Ok(false)
 }
 
 // What a case was answered, and whether that is what it says.
-#[derive(Drop)]
-struct Came {
-    agrees: bool,
-    text: Txt,
+fn answer_to<A: Areas>(alloc: Global, line: &str, came: &mut Txt) -> Result<bool, AllocError> {
+    let Some((asked, wanted)) = line.rsplit_once(" => ") else {
+        return tell(b"no answer is given", came);
+    };
+    let mut fields = List::new(alloc);
+    let mut expected = Txt::new(alloc);
+    let told = compare::<A>(alloc, asked, wanted, &mut fields, &mut expected, came);
+    drop(fields);
+    drop(expected);
+    told
 }
 
-fn answer_to<A: Areas>(alloc: Global, line: &str) -> Result<Came, AllocError> {
-    let Some((asked, wanted)) = line.rsplit_once(" => ") else {
-        return tell(alloc, b"no answer is given");
-    };
-    let Some(wanted) = expand(alloc, wanted)? else {
-        return tell(alloc, b"the answer is not in the notation");
-    };
-    let Some(fields) = fields_of(alloc, asked)? else {
-        return tell(alloc, b"a field is not in the notation");
-    };
-    let mut text = Txt::new(alloc);
-    if !ask::<A>(alloc, fields.as_slice(), &mut text)? {
-        return tell(alloc, b"no such call");
+// Asks for the call of these fields, and compares what comes with what is wanted.
+fn compare<A: Areas>(
+    alloc: Global,
+    asked: &str,
+    wanted: &str,
+    fields: &mut List<Txt>,
+    expected: &mut Txt,
+    came: &mut Txt,
+) -> Result<bool, AllocError> {
+    if !expand(wanted, expected)? {
+        return tell(b"the answer is not in the notation", came);
     }
-    let agrees = text.as_bytes() == wanted.as_bytes();
-    Ok(Came { agrees, text })
+    if !put_fields(alloc, asked, fields)? {
+        return tell(b"a field is not in the notation", came);
+    }
+    if !ask::<A>(alloc, fields.as_slice(), came)? {
+        return tell(b"no such call", came);
+    }
+    Ok(came.as_bytes() == expected.as_bytes())
 }
 
 // A case that could not be asked.
-fn tell(alloc: Global, why: &[u8]) -> Result<Came, AllocError> {
-    let text = Txt::from_slice(alloc, why)?;
-    Ok(Came {
-        agrees: false,
-        text,
-    })
+fn tell(why: &[u8], came: &mut Txt) -> Result<bool, AllocError> {
+    came.truncate(0);
+    came.extend(why)?;
+    Ok(false)
 }
 
-// The call and its arguments.
-fn fields_of(alloc: Global, asked: &str) -> Result<Option<List<Txt>>, AllocError> {
-    let mut fields = List::new(alloc);
+// Appends the call and its arguments. Tells whether each is in the notation.
+fn put_fields(alloc: Global, asked: &str, fields: &mut List<Txt>) -> Result<bool, AllocError> {
     for field in asked.split(" | ") {
-        match expand(alloc, field)? {
-            Some(bytes) => fields.push(bytes)?,
-            None => return Ok(None),
+        if !put_field(alloc, field, fields)? {
+            return Ok(false);
         }
     }
-    Ok(Some(fields))
+    Ok(true)
+}
+
+fn put_field(alloc: Global, field: &str, fields: &mut List<Txt>) -> Result<bool, AllocError> {
+    let mut bytes = Txt::new(alloc);
+    match expand(field, &mut bytes) {
+        Ok(true) => done(fields.push(bytes)),
+        other => {
+            drop(bytes);
+            other
+        }
+    }
 }
 
 // The first field is the call.

@@ -1,8 +1,8 @@
 //! Crashes at each call of the journal, with each of eight picks of the changes.
 use crate::errands::{hand_out, write_out};
 use crate::journals::{Written, calls_to_open, write_whole};
-use crate::opened::{Opened, disk_behind, disk_of, open, put_content};
-use case_lines::{done, number_in};
+use crate::opened::{Opened, disk_behind, disk_of, open, open_only, put_content};
+use case_lines::{done, number_in, put_space};
 use journal_file::Journal;
 use rtb_disk::{Disk, MemDisk};
 use rtb_num::{List, Txt};
@@ -38,20 +38,25 @@ pub fn answer(alloc: Global, call: &[u8], args: &[Txt], out: &mut Txt) -> Result
     }
 }
 
-// A space before each word but the first.
-fn put_space(call: u64, out: &mut Txt) -> Result<(), AllocError> {
-    if call > 1 {
-        out.push(b' ')?;
-    }
-    Ok(())
+// Appends the payloads of the journal on this disk, one after the other. Tells whether it is opened.
+fn put_payloads<D: Disk + Drop>(
+    alloc: Global,
+    disk: D,
+    payloads: &mut Txt,
+) -> Result<bool, AllocError> {
+    let mut gates = List::new(alloc);
+    let opened = open(disk, payloads, &mut gates);
+    drop(gates);
+    let is_opened = is_journal(&opened);
+    drop(opened);
+    is_opened
 }
 
-// The payloads of the journal on this disk, one after the other, or none where it is not opened.
-fn payloads_on<D: Disk + Drop>(alloc: Global, disk: D) -> Result<Option<Txt>, AllocError> {
-    let mut payloads = Txt::new(alloc);
-    match open(disk, &mut payloads, &mut List::new(alloc))? {
-        Opened::Journal(_) => Ok(Some(payloads)),
-        Opened::Not(..) => Ok(None),
+fn is_journal<D: Disk + Drop>(opened: &Result<Opened<D>, AllocError>) -> Result<bool, AllocError> {
+    match opened {
+        Ok(Opened::Journal(_)) => Ok(true),
+        Ok(Opened::Not(..)) => Ok(false),
+        Err(_) => Err(AllocError),
     }
 }
 
@@ -63,7 +68,7 @@ fn append_crashes(
 ) -> Result<(), AllocError> {
     let before = calls_to_open(alloc, content)? as u64;
     for call in 1..=7u64 {
-        put_space(call, out)?;
+        put_space(call.saturating_sub(1) as usize, out)?;
         let disk = disk_that_stops(alloc, content, before.saturating_add(call))?;
         append_crash(alloc, content, disk, block, false, out)?;
     }
@@ -102,7 +107,7 @@ fn repair_crashes(
     let before = (calls_to_open(alloc, content)? as u64).saturating_add(fail);
     let left = if fail < 5 { 7u64 } else { 3u64 };
     for call in 1..=left {
-        put_space(call, out)?;
+        put_space(call.saturating_sub(1) as usize, out)?;
         let disk = disk_that_fails(alloc, content, before, before.saturating_add(call))?;
         append_crash(alloc, content, disk, block, true, out)?;
     }
@@ -130,7 +135,7 @@ fn disk_with_block<D: Disk + Drop>(
     block: &[u8],
     repairs: bool,
 ) -> Result<D, AllocError> {
-    match open(disk, &mut Txt::new(alloc), &mut List::new(alloc))? {
+    match open_only(alloc, disk)? {
         Opened::Journal(journal) => Ok(disk_behind_append(journal, block, repairs)),
         Opened::Not(disk, _) => Ok(disk),
     }
@@ -160,38 +165,77 @@ fn tell_appended(
     disk: &MemDisk,
     out: &mut Txt,
 ) -> Result<(), AllocError> {
-    let old = match payloads_on(alloc, disk_of(alloc, content)?)? {
-        Some(payloads) => payloads,
-        None => Txt::new(alloc),
-    };
-    let mut new = old.copy()?;
-    new.extend(block)?;
+    let mut old = Txt::new(alloc);
+    let mut new = Txt::new(alloc);
+    let told = tell_between(alloc, content, block, disk, &mut old, &mut new, out);
+    drop(old);
+    drop(new);
+    told
+}
+
+// Fills in the payloads without the block and with it, and tells which of them is there.
+fn tell_between(
+    alloc: Global,
+    content: &Txt,
+    block: &[u8],
+    disk: &MemDisk,
+    old: &mut Txt,
+    new: &mut Txt,
+    out: &mut Txt,
+) -> Result<(), AllocError> {
+    put_payloads(alloc, disk_of(alloc, content)?, old)?;
+    new.extend_all(&[old.as_bytes(), block])?;
     for pick in 0..8u64 {
-        let found = payloads_on(alloc, disk.after_crash(pick)?)?;
-        out.push(letter_of(found, old.as_bytes(), new.as_bytes()))?;
+        let letter = letter_at(alloc, disk, pick, old.as_bytes(), new.as_bytes())?;
+        out.push(letter)?;
     }
     Ok(())
 }
 
-fn letter_of(found: Option<Txt>, old: &[u8], new: &[u8]) -> u8 {
-    match found {
-        Some(payloads) if payloads.as_bytes() == old => b'b',
-        Some(payloads) if payloads.as_bytes() == new => b'a',
-        _ => b'x',
+fn letter_at(
+    alloc: Global,
+    disk: &MemDisk,
+    pick: u64,
+    old: &[u8],
+    new: &[u8],
+) -> Result<u8, AllocError> {
+    let after = disk.after_crash(pick)?;
+    let mut found = Txt::new(alloc);
+    let is_opened = put_payloads(alloc, after, &mut found);
+    let letter = letter_of(is_opened, found.as_bytes(), old, new);
+    drop(found);
+    letter
+}
+
+fn letter_of(
+    is_opened: Result<bool, AllocError>,
+    found: &[u8],
+    old: &[u8],
+    new: &[u8],
+) -> Result<u8, AllocError> {
+    if !is_opened? {
+        return Ok(b'x');
     }
+    if found == old {
+        return Ok(b'b');
+    }
+    if found == new {
+        return Ok(b'a');
+    }
+    Ok(b'x')
 }
 
 fn create_crashes(alloc: Global, content: &Txt, out: &mut Txt) -> Result<(), AllocError> {
     let calls = calls_to_open(alloc, content)? as u64;
     for call in 1..=calls.saturating_add(1) {
-        put_space(call, out)?;
+        put_space(call.saturating_sub(1) as usize, out)?;
         create_crash(alloc, disk_that_stops(alloc, content, call)?, out)?;
     }
     Ok(())
 }
 
 fn create_crash(alloc: Global, disk: MemDisk, out: &mut Txt) -> Result<(), AllocError> {
-    let disk = disk_behind(open(disk, &mut Txt::new(alloc), &mut List::new(alloc))?);
+    let disk = disk_behind(open_only(alloc, disk)?);
     let told = tell_created(alloc, &disk, out);
     drop(disk);
     told
@@ -207,15 +251,18 @@ fn tell_created(alloc: Global, disk: &MemDisk, out: &mut Txt) -> Result<(), Allo
 
 fn letter_of_creation<D: Disk + Drop>(alloc: Global, disk: D) -> Result<u8, AllocError> {
     let mut disk = disk;
-    let mut content = Txt::new(alloc);
-    put_content(&mut disk, &mut content)?;
-    if content.as_bytes() == b"\x01RTBXJ01\0".as_slice() {
+    let mut found = Txt::new(alloc);
+    let content = put_content(&mut disk, &mut found);
+    let is_new = found.as_bytes() == b"\x01RTBXJ01\0".as_slice();
+    found.truncate(0);
+    let is_opened = put_payloads(alloc, disk, &mut found);
+    let is_empty = found.is_empty();
+    drop(found);
+    content?;
+    if is_new {
         return Ok(b'j');
     }
-    match payloads_on(alloc, disk)? {
-        Some(payloads) if payloads.is_empty() => Ok(b'c'),
-        _ => Ok(b'x'),
-    }
+    Ok(if is_opened? && is_empty { b'c' } else { b'x' })
 }
 
 fn compact_crashes(
@@ -226,11 +273,25 @@ fn compact_crashes(
 ) -> Result<(), AllocError> {
     let calls = calls_to_write(alloc, content, blocks)?;
     let mut all = Txt::new(alloc);
+    let told = compact_at_each(alloc, content, blocks, calls, &mut all, out);
+    drop(all);
+    told
+}
+
+// Fills in all payloads, and tells what crashes leave at each call.
+fn compact_at_each(
+    alloc: Global,
+    content: &Txt,
+    blocks: &[Txt],
+    calls: u64,
+    all: &mut Txt,
+    out: &mut Txt,
+) -> Result<(), AllocError> {
     for block in blocks {
         all.extend(block.as_bytes())?;
     }
     for call in 1..=calls.saturating_add(1) {
-        put_space(call, out)?;
+        put_space(call.saturating_sub(1) as usize, out)?;
         let disk = disk_that_stops(alloc, content, call)?;
         compact_crash(alloc, disk, blocks, all.as_bytes(), out)?;
     }
@@ -297,8 +358,9 @@ fn takes_blocks<D: Disk + Drop>(disk: D) -> bool {
 }
 
 fn letter_of_finish<D: Disk + Drop>(alloc: Global, disk: D, all: &[u8]) -> Result<u8, AllocError> {
-    match payloads_on(alloc, disk)? {
-        Some(payloads) if payloads.as_bytes() == all => Ok(b'f'),
-        _ => Ok(b'x'),
-    }
+    let mut found = Txt::new(alloc);
+    let is_opened = put_payloads(alloc, disk, &mut found);
+    let is_whole = found.as_bytes() == all;
+    drop(found);
+    Ok(if is_opened? && is_whole { b'f' } else { b'x' })
 }

@@ -1,8 +1,9 @@
 //! Disks in memory.
-use case_lines::{done, number_in, numbers_in};
+use case_lines::{done, number_in, numbers_in, put_space};
 use rtb_disk::{Call, Disk, Made, MemDisk};
 use rtb_num::{Failed, Txt, write_decimal};
 use std::alloc::{AllocError, Global};
+use std::mem;
 
 /// Answers a call of this area, or tells that it is none.
 ///
@@ -31,9 +32,15 @@ fn tell_steps(
     steps: &[u8],
     out: &mut Txt,
 ) -> Result<(), AllocError> {
-    let mut told = Txt::new(alloc);
-    let disk = run(alloc, content, fails, steps, &mut told)?;
-    out.extend_all(&[told.as_bytes(), b"faults "])?;
+    let mut disk = failing_disk(alloc, content, fails)?;
+    let told = tell_each(&mut disk, steps, out);
+    drop(disk);
+    told
+}
+
+fn tell_each(disk: &mut MemDisk, steps: &[u8], out: &mut Txt) -> Result<(), AllocError> {
+    take_all(disk, steps, out)?;
+    out.extend(b"faults ")?;
     write_decimal(disk.calls().faults(), out)
 }
 
@@ -45,46 +52,53 @@ fn tell_calls(
     steps: &[u8],
     out: &mut Txt,
 ) -> Result<(), AllocError> {
-    let disk = run(alloc, content, fails, steps, &mut Txt::new(alloc))?;
+    let mut disk = failing_disk(alloc, content, fails)?;
+    let told = tell_record_of(&mut disk, steps, out);
+    drop(disk);
+    told
+}
+
+// The record alone: what the steps give is taken away again.
+fn tell_record_of(disk: &mut MemDisk, steps: &[u8], out: &mut Txt) -> Result<(), AllocError> {
+    let before = out.len();
+    take_all(disk, steps, out)?;
+    out.truncate(before);
     tell_record(disk.history(), out)
 }
 
-fn run(
-    alloc: Global,
-    content: &Txt,
-    fails: &[u8],
-    steps: &[u8],
-    told: &mut Txt,
-) -> Result<MemDisk, AllocError> {
-    let disk = MemDisk::new(alloc, content.copy()?, numbers_in(alloc, fails)?);
-    take_all(disk, steps, told)
+/// A disk with this content, whose calls with these numbers fail.
+pub fn failing_disk(alloc: Global, content: &Txt, fails: &[u8]) -> Result<MemDisk, AllocError> {
+    let fails = numbers_in(alloc, fails)?;
+    Ok(MemDisk::new(alloc, content.copy()?, fails))
 }
 
-fn take_all(disk: MemDisk, steps: &[u8], out: &mut Txt) -> Result<MemDisk, AllocError> {
-    let mut disk = disk;
+fn take_all(disk: &mut MemDisk, steps: &[u8], out: &mut Txt) -> Result<(), AllocError> {
     for step in steps.split(|c| *c == b' ') {
-        disk = take(disk, step, out)?;
+        take(disk, step, out)?;
         out.push(b' ')?;
     }
-    Ok(disk)
+    Ok(())
 }
 
 // One step.
-fn take(disk: MemDisk, step: &[u8], out: &mut Txt) -> Result<MemDisk, AllocError> {
+fn take(disk: &mut MemDisk, step: &[u8], out: &mut Txt) -> Result<(), AllocError> {
     let (word, rest) = cut_at_colon(step);
     if word == b"stop".as_slice() {
-        return stop(disk, rest, out);
+        disk.stop_at(number_in(rest).unwrap_or(0));
+        return out.extend(b"done");
     }
     if word == b"crash".as_slice() {
-        return crash(disk, rest, out);
+        crash(disk, number_in(rest).unwrap_or(0))?;
+        return out.extend(b"crashed");
     }
-    call(disk, word, rest, out)
+    ask(disk, word, rest, out)
 }
 
-fn call(disk: MemDisk, word: &[u8], rest: &[u8], out: &mut Txt) -> Result<MemDisk, AllocError> {
-    let mut disk = disk;
-    ask(&mut disk, word, rest, out)?;
-    Ok(disk)
+// Goes on with the disk after a crash.
+fn crash(disk: &mut MemDisk, pick: u64) -> Result<(), AllocError> {
+    let after = disk.after_crash(pick)?;
+    drop(mem::replace(disk, after));
+    Ok(())
 }
 
 // A call of the disk.
@@ -184,28 +198,11 @@ fn cut_inside<D: Disk>(disk: &mut D, count: u64, out: &mut Txt) -> Result<(), Al
     }
 }
 
-// `CALL`
-fn stop(disk: MemDisk, rest: &[u8], out: &mut Txt) -> Result<MemDisk, AllocError> {
-    let mut disk = disk;
-    disk.stop_at(number_in(rest).unwrap_or(0));
-    out.extend(b"done")?;
-    Ok(disk)
-}
-
-// `PICK`
-fn crash(disk: MemDisk, rest: &[u8], out: &mut Txt) -> Result<MemDisk, AllocError> {
-    out.extend(b"crashed")?;
-    disk.after_crash(number_in(rest).unwrap_or(0))
-}
-
 /// Tells the calls of a record, with one space between two.
 pub fn tell_record(made: &[Made], out: &mut Txt) -> Result<(), AllocError> {
-    if let Some((first, rest)) = made.split_first() {
-        tell_made(first, out)?;
-        for one in rest {
-            out.push(b' ')?;
-            tell_made(one, out)?;
-        }
+    for (i, one) in made.iter().enumerate() {
+        put_space(i, out)?;
+        tell_made(one, out)?;
     }
     Ok(())
 }

@@ -2,8 +2,10 @@
 ghost use Rattle.std.specs.Prelude.{◌≡◌, false};
 ghost use Rattle.journal_file.specs.Compaction.{has_failed};
 
-use crate::disks::tell_record;
-use crate::opened::{Opened, append_to, disk_behind, disk_of, open, put_content, repair_with};
+use crate::disks::{failing_disk, tell_record};
+use crate::opened::{
+    Opened, append_to, disk_behind, disk_of, open, open_only, put_content, repair_with,
+};
 use case_lines::{done, number_in, numbers_in};
 use journal_file::{Compact, CompactFault, Journal, JournalFault, block_at};
 use rtb_disk::{Disk, MemDisk};
@@ -22,26 +24,47 @@ use std::alloc::{AllocError, Global};
 ///   or in brackets what it still is where it is not taken.
 pub fn answer(alloc: Global, call: &[u8], args: &[Txt], out: &mut Txt) -> Result<bool, AllocError> {
     match args {
-        [content, fails] if call == b"open".as_slice() => done(tell_reading(
-            alloc,
-            content,
-            fails.as_bytes(),
-            out,
-        )),
-        [content, blocks @ ..] if call == b"append".as_slice() => done(append(
-            alloc, content, blocks, out,
-        )),
-        [content, fails, block] if call == b"calls".as_slice() => {
+        [content, rest @ ..] => answer_on(alloc, call, content, rest, out),
+        [] => Ok(false),
+    }
+}
+
+fn answer_on(
+    alloc: Global,
+    call: &[u8],
+    content: &Txt,
+    rest: &[Txt],
+    out: &mut Txt,
+) -> Result<bool, AllocError> {
+    if call == b"append".as_slice() {
+        return done(append(alloc, content, rest, out));
+    }
+    if call == b"compact".as_slice() {
+        return done(compact(alloc, content, rest, out));
+    }
+    match rest {
+        [one] => answer_of_one(alloc, call, content, one.as_bytes(), out),
+        [fails, block] if call == b"calls".as_slice() => {
             done(calls(alloc, content, fails.as_bytes(), block.as_bytes(), out))
         }
-        [content, gate] if call == b"block_at".as_slice() => {
-            done(find_block(alloc, content, gate.as_bytes(), out))
-        }
-        [content, blocks @ ..] if call == b"compact".as_slice() => done(compact(
-            alloc, content, blocks, out,
-        )),
         _ => Ok(false),
     }
+}
+
+fn answer_of_one(
+    alloc: Global,
+    call: &[u8],
+    content: &Txt,
+    one: &[u8],
+    out: &mut Txt,
+) -> Result<bool, AllocError> {
+    if call == b"open".as_slice() {
+        return done(tell_reading(alloc, content, one, out));
+    }
+    if call == b"block_at".as_slice() {
+        return done(find_block(alloc, content, one, out));
+    }
+    Ok(false)
 }
 
 fn tell_reading(
@@ -50,13 +73,27 @@ fn tell_reading(
     fails: &[u8],
     out: &mut Txt,
 ) -> Result<(), AllocError> {
-    let disk = MemDisk::new(alloc, content.copy()?, numbers_in(alloc, fails)?);
+    let disk = failing_disk(alloc, content, fails)?;
     let mut payloads = Txt::new(alloc);
     let mut gates = List::new(alloc);
-    let opened = open(disk, &mut payloads, &mut gates)?;
-    let told = tell_read(gates.as_slice(), &payloads, &opened, out);
+    let opened = open(disk, &mut payloads, &mut gates);
+    let told = tell_opened(gates.as_slice(), &payloads, &opened, out);
     drop(opened);
+    drop(payloads);
+    drop(gates);
     told
+}
+
+fn tell_opened<D: Disk + Drop>(
+    gates: &[u64],
+    payloads: &Txt,
+    opened: &Result<Opened<D>, AllocError>,
+    out: &mut Txt,
+) -> Result<(), AllocError> {
+    match opened {
+        Ok(opened) => tell_read(gates, payloads, opened, out),
+        Err(_) => Err(AllocError),
+    }
 }
 
 fn tell_read<D: Disk + Drop>(
@@ -98,7 +135,7 @@ fn tell_fault(fault: JournalFault, out: &mut Txt) -> Result<(), AllocError> {
 
 fn append(alloc: Global, content: &Txt, blocks: &[Txt], out: &mut Txt) -> Result<(), AllocError> {
     let disk = disk_of(alloc, content)?;
-    match open(disk, &mut Txt::new(alloc), &mut List::new(alloc))? {
+    match open_only(alloc, disk)? {
         Opened::Journal(journal) => append_all(journal, blocks, out),
         Opened::Not(disk, fault) => {
             drop(disk);
@@ -129,12 +166,9 @@ fn calls(
     out: &mut Txt,
 ) -> Result<(), AllocError> {
     let before = calls_to_open(alloc, content)?;
-    let disk = MemDisk::new(
-        alloc,
-        content.copy()?,
-        numbers_behind(alloc, before as u64, fails)?,
-    );
-    match open(disk, &mut Txt::new(alloc), &mut List::new(alloc))? {
+    let fails = numbers_behind(alloc, before as u64, fails)?;
+    let disk = MemDisk::new(alloc, content.copy()?, fails);
+    match open_only(alloc, disk)? {
         Opened::Journal(journal) => tell_calls(journal, before, block, out),
         Opened::Not(disk, fault) => {
             drop(disk);
@@ -191,7 +225,7 @@ fn tell_behind(disk: &MemDisk, before: usize, out: &mut Txt) -> Result<(), Alloc
 /// How many calls of the disk it takes to open a journal.
 pub fn calls_to_open(alloc: Global, content: &Txt) -> Result<usize, AllocError> {
     let disk = disk_of(alloc, content)?;
-    let disk = disk_behind(open(disk, &mut Txt::new(alloc), &mut List::new(alloc))?);
+    let disk = disk_behind(open_only(alloc, disk)?);
     let calls = disk.history().len();
     drop(disk);
     Ok(calls)

@@ -39,6 +39,16 @@ pub fn open<D: Disk + Drop>(
     Ok(Opened::Not(reading.into_disk(), JournalFault::Memory))
 }
 
+/// Opens the journal on this disk, and keeps nothing of what it reads.
+pub fn open_only<D: Disk + Drop>(alloc: Global, disk: D) -> Result<Opened<D>, AllocError> {
+    let mut payloads = Txt::new(alloc);
+    let mut gates = List::new(alloc);
+    let opened = open(disk, &mut payloads, &mut gates);
+    drop(payloads);
+    drop(gates);
+    opened
+}
+
 fn finish<D: Disk + Drop>(reading: Reading<D>) -> Opened<D>
     requires { has_ended reading ≡ true }
 {

@@ -8,7 +8,7 @@ ghost use Rattle.conj_index.specs.Campaigns.{conjunctions_in};
 
 use crate::matching::{answer_with, put_numbers};
 use case_exprs::{assignment_in, make_expr};
-use case_lines::done;
+use case_lines::{done, kept_if};
 use conj_index::{Builder, Index, IndexFault, Part, Scratch, scan};
 use rtb_base::Steps;
 use rtb_num::{List, Txt, write_decimal};
@@ -58,17 +58,69 @@ fn find<L: Ledger>(
     steps: &mut Steps<L>,
     out: &mut Txt,
 ) -> Result<(), AllocError> {
-    let Some(campaigns) = campaigns_in(alloc, texts)? else {
-        return out.extend(b"unreadable");
-    };
+    match campaigns_in(alloc, texts)? {
+        Some(campaigns) => {
+            let told = find_among(alloc, assigned, &campaigns, steps, out);
+            drop(campaigns);
+            told
+        }
+        None => out.extend(b"unreadable"),
+    }
+}
+
+fn find_among<L: Ledger>(
+    alloc: Global,
+    assigned: &[u8],
+    campaigns: &[(u32, Expr)],
+    steps: &mut Steps<L>,
+    out: &mut Txt,
+) -> Result<(), AllocError> {
     let assignment = assignment_in(alloc, assigned)?;
-    let index = index_of(alloc, &campaigns, steps)?;
-    let found = index.find(alloc, &assignment, steps)?;
-    let again = find_again(alloc, &index, &assignment, steps)?;
-    let asked = scan(alloc, &campaigns, &assignment, steps)?;
-    put_numbers(found.as_slice(), out)?;
-    tell_other(b", but ", found.as_slice(), asked.as_slice(), out)?;
-    tell_other(b", then ", found.as_slice(), again.as_slice(), out)
+    let told = find_for(alloc, campaigns, &assignment, steps, out);
+    drop(assignment);
+    told
+}
+
+fn find_for<L: Ledger>(
+    alloc: Global,
+    campaigns: &[(u32, Expr)],
+    assignment: &Assignment,
+    steps: &mut Steps<L>,
+    out: &mut Txt,
+) -> Result<(), AllocError> {
+    let index = index_of(alloc, campaigns, steps)?;
+    let told = find_in(alloc, campaigns, &index, assignment, steps, out);
+    drop(index);
+    told
+}
+
+fn find_in<L: Ledger>(
+    alloc: Global,
+    campaigns: &[(u32, Expr)],
+    index: &Index,
+    assignment: &Assignment,
+    steps: &mut Steps<L>,
+    out: &mut Txt,
+) -> Result<(), AllocError> {
+    let found = index.find(alloc, assignment, steps)?;
+    let asked = scan(alloc, campaigns, assignment, steps);
+    let again = find_again(alloc, index, assignment, steps);
+    let told = tell_found(found.as_slice(), &asked, &again, out);
+    drop(found);
+    drop(asked);
+    drop(again);
+    told
+}
+
+fn tell_found(
+    found: &[u32],
+    asked: &Result<List<u32>, AllocError>,
+    again: &Result<List<u32>, AllocError>,
+    out: &mut Txt,
+) -> Result<(), AllocError> {
+    put_numbers(found, out)?;
+    tell_other(b", but ", found, asked, out)?;
+    tell_other(b", then ", found, again, out)
 }
 
 // What the second of two finds in one room gives.
@@ -79,12 +131,31 @@ fn find_again<L: Ledger>(
     steps: &mut Steps<L>,
 ) -> Result<List<u32>, AllocError> {
     let mut scratch = Scratch::new(alloc);
-    let _ = index.find_with(alloc, &mut scratch, assignment, steps)?;
-    index.find_with(alloc, &mut scratch, assignment, steps)
+    drop(index.find_with(alloc, &mut scratch, assignment, steps));
+    let again = index.find_with(alloc, &mut scratch, assignment, steps);
+    drop(scratch);
+    again
 }
 
 // The words and the other numbers, where these are not the same.
-fn tell_other(words: &[u8], found: &[u32], other: &[u32], out: &mut Txt) -> Result<(), AllocError> {
+fn tell_other(
+    words: &[u8],
+    found: &[u32],
+    other: &Result<List<u32>, AllocError>,
+    out: &mut Txt,
+) -> Result<(), AllocError> {
+    match other {
+        Ok(other) => tell_different(words, found, other.as_slice(), out),
+        Err(_) => Err(AllocError),
+    }
+}
+
+fn tell_different(
+    words: &[u8],
+    found: &[u32],
+    other: &[u32],
+    out: &mut Txt,
+) -> Result<(), AllocError> {
     if found == other {
         return Ok(());
     }
@@ -95,13 +166,22 @@ fn tell_other(words: &[u8], found: &[u32], other: &[u32], out: &mut Txt) -> Resu
 // The campaigns of these expressions, or none where one is none.
 fn campaigns_in(alloc: Global, texts: &[Txt]) -> Result<Option<Vec<(u32, Expr)>>, AllocError> {
     let mut all = Vec::new(alloc);
+    let filled = put_campaigns(alloc, texts, &mut all);
+    kept_if(all, filled)
+}
+
+fn put_campaigns(
+    alloc: Global,
+    texts: &[Txt],
+    all: &mut Vec<(u32, Expr)>,
+) -> Result<bool, AllocError> {
     for text in texts {
         let (times, expression) = repetition(text.as_bytes());
-        if !push_campaigns(alloc, &mut all, times, expression)? {
-            return Ok(None);
+        if !push_campaigns(alloc, all, times, expression)? {
+            return Ok(false);
         }
     }
-    Ok(Some(all))
+    Ok(true)
 }
 
 // How many campaigns a text stands for, and their expression.
@@ -190,18 +270,33 @@ fn build<L: Ledger>(
     steps: &mut Steps<L>,
     out: &mut Txt,
 ) -> Result<(), AllocError> {
-    let Some(campaigns) = campaigns_in(alloc, texts)? else {
-        return out.extend(b"unreadable");
-    };
-    let Index { owners, parts } = index_of(alloc, &campaigns, steps)?;
+    match campaigns_in(alloc, texts)? {
+        Some(campaigns) => {
+            let index = index_of(alloc, &campaigns, steps);
+            drop(campaigns);
+            tell_index(index, out)
+        }
+        None => out.extend(b"unreadable"),
+    }
+}
+
+fn tell_index(index: Result<Index, AllocError>, out: &mut Txt) -> Result<(), AllocError> {
+    let index = index?;
+    let told = put_index(&index, out);
+    drop(index);
+    told
+}
+
+fn put_index(index: &Index, out: &mut Txt) -> Result<(), AllocError> {
+    let Index { owners, parts } = index;
     put_numbers(owners.as_slice(), out)?;
-    for part in parts.into_vec() {
+    for part in parts.as_slice() {
         put_part(part, out)?;
     }
     Ok(())
 }
 
-fn put_part(part: Part, out: &mut Txt) -> Result<(), AllocError> {
+fn put_part(part: &Part, out: &mut Txt) -> Result<(), AllocError> {
     let Part { keys, lists } = part;
     put_count(b", ", keys.len(), out)?;
     put_count(b" keys ", lists.len(), out)?;

@@ -3,7 +3,7 @@
 //! A posting list is written `1 4 6-`: the numbers of its entries, with `-` behind one that is negated.
 ghost use Rattle.std.specs.Prelude.{◌≡◌, ◌<◌, All, IsTrue, true};
 
-use case_lines::done;
+use case_lines::{done, kept, kept_if};
 use conj_match::{Cursor, match_lists};
 use postings::{BuildFault, Entry, Postings};
 use rtb_base::Steps;
@@ -53,7 +53,11 @@ fn build<L: Ledger>(
         return out.extend(b"unreadable");
     };
     match Postings::build(alloc, entries) {
-        Ok(list) => put_entries(&list, steps, out),
+        Ok(list) => {
+            let put = put_entries(&list, steps, out);
+            drop(list);
+            put
+        }
         Err(BuildFault::NotSorted { at }) => put_fault(b"not-sorted ", at, out),
         Err(BuildFault::Repeated { at }) => put_fault(b"repeated ", at, out),
         Err(BuildFault::Memory) => Err(AllocError),
@@ -104,11 +108,25 @@ fn walk<L: Ledger>(
 ) -> Result<(), AllocError> {
     match list_in(alloc, text)? {
         Some(list) => {
-            let moves = moves_in(alloc, moves)?;
-            walk_over(&list, &moves, steps, out)
+            let walked = walk_by(alloc, &list, moves, steps, out);
+            drop(list);
+            walked
         }
         None => out.extend(b"unreadable"),
     }
+}
+
+fn walk_by<L: Ledger>(
+    alloc: Global,
+    list: &Postings,
+    moves: &[u8],
+    steps: &mut Steps<L>,
+    out: &mut Txt,
+) -> Result<(), AllocError> {
+    let moves = moves_in(alloc, moves)?;
+    let walked = walk_over(list, &moves, steps, out);
+    drop(moves);
+    walked
 }
 
 fn walk_over<L: Ledger>(
@@ -144,10 +162,15 @@ fn step<L: Ledger>(cursor: &mut Cursor, to: Option<u32>, steps: &mut Steps<L>)
 // A step is `next`, or a number to skip to.
 fn moves_in(alloc: Global, text: &[u8]) -> Result<Vec<Option<u32>>, AllocError> {
     let mut moves = Vec::new(alloc);
+    let filled = put_moves(text, &mut moves);
+    kept(moves, filled)
+}
+
+fn put_moves(text: &[u8], moves: &mut Vec<Option<u32>>) -> Result<(), AllocError> {
     for word in text.split(|c| *c == b' ') {
         moves.push(number_in(word))?;
     }
-    Ok(moves)
+    Ok(())
 }
 
 fn find_matches<L: Ledger>(
@@ -158,21 +181,49 @@ fn find_matches<L: Ledger>(
     steps: &mut Steps<L>,
     out: &mut Txt,
 ) -> Result<(), AllocError> {
-    let Some(lists) = lists_in(alloc, texts)? else {
-        return out.extend(b"unreadable");
-    };
-    let Some(places) = places_in(alloc, places)? else {
-        return out.extend(b"unreadable");
-    };
-    let k = number_in(k).unwrap_or(0);
-    if k < 1 {
+    match lists_in(alloc, texts)? {
+        Some(lists) => {
+            let put = match_at(alloc, number_in(k), places, &lists, steps, out);
+            drop(lists);
+            put
+        }
+        None => out.extend(b"unreadable"),
+    }
+}
+
+fn match_at<L: Ledger>(
+    alloc: Global,
+    k: Option<u32>,
+    places: &[u8],
+    lists: &[Postings],
+    steps: &mut Steps<L>,
+    out: &mut Txt,
+) -> Result<(), AllocError> {
+    match places_in(alloc, places)? {
+        Some(places) => {
+            let put = put_matches(alloc, k.unwrap_or(0), &places, lists, steps, out);
+            drop(places);
+            put
+        }
+        None => out.extend(b"unreadable"),
+    }
+}
+
+fn put_matches<L: Ledger>(
+    alloc: Global,
+    k: u32,
+    places: &[usize],
+    lists: &[Postings],
+    steps: &mut Steps<L>,
+    out: &mut Txt,
+) -> Result<(), AllocError> {
+    if k < 1 || !are_within(places, lists.len()) {
         return out.extend(b"unreadable");
     }
-    if !are_within(&places, lists.len()) {
-        return out.extend(b"unreadable");
-    }
-    let ids = match_lists(alloc, &lists, &places, k, steps)?;
-    put_numbers(&ids, out)
+    let ids = match_lists(alloc, lists, places, k, steps)?;
+    let put = put_numbers(&ids, out);
+    drop(ids);
+    put
 }
 
 // Whether each place is one of so many.
@@ -209,13 +260,18 @@ fn put_behind(numbers: &[u32], out: &mut Txt) -> Result<(), AllocError> {
 
 fn lists_in(alloc: Global, texts: &[Txt]) -> Result<Option<Vec<Postings>>, AllocError> {
     let mut lists = Vec::new(alloc);
+    let filled = put_lists(alloc, texts, &mut lists);
+    kept_if(lists, filled)
+}
+
+fn put_lists(alloc: Global, texts: &[Txt], lists: &mut Vec<Postings>) -> Result<bool, AllocError> {
     for text in texts {
         match list_in(alloc, text.as_bytes())? {
             Some(list) => lists.push(list)?,
-            None => return Ok(None),
+            None => return Ok(false),
         }
     }
-    Ok(Some(lists))
+    Ok(true)
 }
 
 fn list_in(alloc: Global, text: &[u8]) -> Result<Option<Postings>, AllocError> {
@@ -231,16 +287,21 @@ fn list_in(alloc: Global, text: &[u8]) -> Result<Option<Postings>, AllocError> {
 
 fn entries_in(alloc: Global, text: &[u8]) -> Result<Option<Vec<Entry>>, AllocError> {
     let mut entries = Vec::new(alloc);
+    let filled = put_read_entries(text, &mut entries);
+    kept_if(entries, filled)
+}
+
+fn put_read_entries(text: &[u8], entries: &mut Vec<Entry>) -> Result<bool, AllocError> {
     if text.is_empty() {
-        return Ok(Some(entries));
+        return Ok(true);
     }
     for word in text.split(|c| *c == b' ') {
         match entry_in(word) {
             Some(entry) => entries.push(entry)?,
-            None => return Ok(None),
+            None => return Ok(false),
         }
     }
-    Ok(Some(entries))
+    Ok(true)
 }
 
 fn entry_in(word: &[u8]) -> Option<Entry> {
@@ -259,16 +320,21 @@ fn entry_in(word: &[u8]) -> Option<Entry> {
 
 fn places_in(alloc: Global, text: &[u8]) -> Result<Option<Vec<usize>>, AllocError> {
     let mut places = Vec::new(alloc);
+    let filled = put_places(text, &mut places);
+    kept_if(places, filled)
+}
+
+fn put_places(text: &[u8], places: &mut Vec<usize>) -> Result<bool, AllocError> {
     if text.is_empty() {
-        return Ok(Some(places));
+        return Ok(true);
     }
     for word in text.split(|c| *c == b' ') {
         match number_in(word) {
             Some(place) => places.push(place as usize)?,
-            None => return Ok(None),
+            None => return Ok(false),
         }
     }
-    Ok(Some(places))
+    Ok(true)
 }
 
 fn number_in(word: &[u8]) -> Option<u32> {

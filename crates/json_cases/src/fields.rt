@@ -38,7 +38,11 @@ fn put_field_of(
     out: &mut Txt,
 ) -> Result<(), AllocError> {
     match read(alloc, text) {
-        Ok(doc) => put_field(alloc, kind, doc.root(), name, out),
+        Ok(doc) => {
+            let put = put_field(alloc, kind, doc.root(), name, out);
+            drop(doc);
+            put
+        }
         Err(_) => out.extend(b"unreadable"),
     }
 }
@@ -115,7 +119,11 @@ fn put_price(found: Result<Micros, Flaw>, out: &mut Txt) -> Result<(), AllocErro
 
 fn put_integers(found: Result<List<i32>, ListFlaw>, out: &mut Txt) -> Result<(), AllocError> {
     match found {
-        Ok(numbers) => put_each_number(numbers.as_slice(), out),
+        Ok(numbers) => {
+            let put = put_each_number(numbers.as_slice(), out);
+            drop(numbers);
+            put
+        }
         Err(flaw) => put_list_flaw(flaw, out),
     }
 }
@@ -143,7 +151,11 @@ fn put_list_flaw(flaw: ListFlaw, out: &mut Txt) -> Result<(), AllocError> {
 
 fn put_texts(found: Result<List<Txt>, ListFlaw>, out: &mut Txt) -> Result<(), AllocError> {
     match found {
-        Ok(texts) => put_each_text(texts.as_slice(), out),
+        Ok(texts) => {
+            let put = put_each_text(texts.as_slice(), out);
+            drop(texts);
+            put
+        }
         Err(flaw) => put_list_flaw(flaw, out),
     }
 }

@@ -33,14 +33,22 @@ pub fn answer(alloc: Global, call: &[u8], args: &[Txt], out: &mut Txt) -> Result
 
 fn read_json(alloc: Global, text: &[u8], out: &mut Txt) -> Result<(), AllocError> {
     match read(alloc, text) {
-        Ok(doc) => put_tree(doc.root(), 64, out),
+        Ok(doc) => {
+            let told = put_tree(doc.root(), 64, out);
+            drop(doc);
+            told
+        }
         Err(fault) => put_fault(fault, out),
     }
 }
 
 fn get_member(alloc: Global, text: &[u8], name: &[u8], out: &mut Txt) -> Result<(), AllocError> {
     match read(alloc, text) {
-        Ok(doc) => put_found(get(doc.root(), name), out),
+        Ok(doc) => {
+            let told = put_found(get(doc.root(), name), out);
+            drop(doc);
+            told
+        }
         Err(fault) => put_fault(fault, out),
     }
 }
@@ -77,17 +85,44 @@ enum Written {
 
 fn write_json(alloc: Global, calls: &[Txt], out: &mut Txt) -> Result<(), AllocError> {
     let mut writer = Writer::new(alloc);
+    let written = write_all(&mut writer, calls);
+    tell_written(writer, written, out)
+}
+
+// What came of the first call that was not done, if there is one.
+fn write_all(writer: &mut Writer, calls: &[Txt]) -> Result<Written, AllocError> {
     for call in calls {
-        match write_call(&mut writer, call.as_bytes())? {
+        match write_call(writer, call.as_bytes())? {
             Written::Done => {}
-            Written::Misplaced => return out.extend(b"misplaced"),
-            Written::Unreadable => return out.extend(b"unreadable"),
+            other => return Ok(other),
         }
     }
-    if writer.is_whole() {
-        out.extend(writer.finish().as_bytes())
-    } else {
-        out.extend(b"not whole")
+    Ok(Written::Done)
+}
+
+fn tell_written(
+    writer: Writer,
+    written: Result<Written, AllocError>,
+    out: &mut Txt,
+) -> Result<(), AllocError> {
+    if !writer.is_whole() {
+        drop(writer);
+        return tell_unfinished(written, out);
+    }
+    let text = writer.finish();
+    let told = match written {
+        Ok(Written::Done) => out.extend(text.as_bytes()),
+        other => tell_unfinished(other, out),
+    };
+    drop(text);
+    told
+}
+
+fn tell_unfinished(written: Result<Written, AllocError>, out: &mut Txt) -> Result<(), AllocError> {
+    match written? {
+        Written::Done => out.extend(b"not whole"),
+        Written::Misplaced => out.extend(b"misplaced"),
+        Written::Unreadable => out.extend(b"unreadable"),
     }
 }
 

@@ -2,7 +2,7 @@
 use crate::targeting::put_expr_fault;
 use campaign::{CampField, Cap, FactBytes, FactFault, FactParts, Facts};
 use campaign_read::{CampFault, read_campaign};
-use case_lines::{done, number_in, put_comma};
+use case_lines::{done, kept, number_in, put_comma};
 use exact_json::Doc;
 use rtb_num::{List, Micros, Nanos, PriceFault, Txt, write_decimal, write_signed};
 use std::alloc::{AllocError, Global};
@@ -57,7 +57,9 @@ pub fn campaign_of(alloc: Global, text: &Txt) -> Result<Option<(Facts, Expr)>, A
     let Ok(doc) = exact_json::read(alloc, text.as_bytes()) else {
         return Ok(None);
     };
-    match read_campaign(alloc, &doc) {
+    let read = read_campaign(alloc, &doc);
+    drop(doc);
+    match read {
         Ok(found) => Ok(Some(found)),
         Err(CampFault::Memory) => Err(AllocError),
         Err(_) => Ok(None),
@@ -68,7 +70,11 @@ pub fn campaign_of(alloc: Global, text: &Txt) -> Result<Option<(Facts, Expr)>, A
 
 fn verdict(alloc: Global, text: &Txt, out: &mut Txt) -> Result<(), AllocError> {
     match exact_json::read(alloc, text.as_bytes()) {
-        Ok(doc) => put_campaign(alloc, &doc, out),
+        Ok(doc) => {
+            let told = put_campaign(alloc, &doc, out);
+            drop(doc);
+            told
+        }
         Err(_) => out.extend(b"no JSON"),
     }
 }
@@ -80,7 +86,7 @@ fn put_campaign(alloc: Global, doc: &Doc, out: &mut Txt) -> Result<(), AllocErro
             drop(read);
             written
         }
-        Err(fault) => put_fault(alloc, fault, out),
+        Err(fault) => put_fault(fault, out),
     }
 }
 
@@ -106,7 +112,11 @@ fn put_number(words: &[u8], n: u64, out: &mut Txt) -> Result<(), AllocError> {
 // Why the text is no campaign, in words.
 fn put_why(alloc: Global, text: &Txt, out: &mut Txt) -> Result<(), AllocError> {
     match exact_json::read(alloc, text.as_bytes()) {
-        Ok(doc) => put_why_of(alloc, &doc, out),
+        Ok(doc) => {
+            let told = put_why_of(alloc, &doc, out);
+            drop(doc);
+            told
+        }
         Err(fault) => out.extend(format!(in alloc; "{fault}")?.as_bytes()),
     }
 }
@@ -118,36 +128,26 @@ fn put_why_of(alloc: Global, doc: &Doc, out: &mut Txt) -> Result<(), AllocError>
     }
 }
 
-fn put_fault(alloc: Global, fault: CampFault, out: &mut Txt) -> Result<(), AllocError> {
+fn put_fault(fault: CampFault, out: &mut Txt) -> Result<(), AllocError> {
     match fault {
         CampFault::NotObject => out.extend(b"not-object"),
-        CampFault::Missing { field } => put(alloc, b"missing ", field, out),
-        CampFault::WrongType { field } => put(alloc, b"wrong-type ", field, out),
-        CampFault::Range { field } => put(alloc, b"range ", field, out),
+        CampFault::Missing { field } => put(b"missing ", field, out),
+        CampFault::WrongType { field } => put(b"wrong-type ", field, out),
+        CampFault::Range { field } => put(b"range ", field, out),
         CampFault::Price { field, fault } => {
-            put(alloc, b"price ", field, out)?;
+            put(b"price ", field, out)?;
             out.extend(price_words(fault))
         }
-        CampFault::Fact { fault } => put_fact(alloc, fault, out),
+        CampFault::Fact { fault } => put_fact(fault, out),
         CampFault::Target { fault } => put_expr_fault(fault, out),
         CampFault::Memory => Err(AllocError),
     }
 }
 
-// The words and the path of the field, and how the field is shown where that is something else.
-fn put(alloc: Global, words: &[u8], field: CampField, out: &mut Txt) -> Result<(), AllocError> {
-    let mut path = Txt::new(alloc);
-    field.write(&mut path)?;
-    out.extend_all(&[words, path.as_bytes()])?;
-    let shown = format!(in alloc; "{field}")?;
-    put_other(path.as_bytes(), shown.as_bytes(), out)
-}
-
-fn put_other(path: &[u8], shown: &[u8], out: &mut Txt) -> Result<(), AllocError> {
-    if shown != path {
-        return out.extend_all(&[b", but ", shown]);
-    }
-    Ok(())
+// The words and the path of the field.
+fn put(words: &[u8], field: CampField, out: &mut Txt) -> Result<(), AllocError> {
+    out.extend(words)?;
+    field.write(out)
 }
 
 fn price_words(fault: PriceFault) -> &'static [u8] {
@@ -158,10 +158,10 @@ fn price_words(fault: PriceFault) -> &'static [u8] {
     }
 }
 
-fn put_fact(alloc: Global, fault: FactFault, out: &mut Txt) -> Result<(), AllocError> {
+fn put_fact(fault: FactFault, out: &mut Txt) -> Result<(), AllocError> {
     match fault {
-        FactFault::TextLength { field } => put(alloc, b"text-length ", field, out),
-        FactFault::ListLength { field } => put(alloc, b"list-length ", field, out),
+        FactFault::TextLength { field } => put(b"text-length ", field, out),
+        FactFault::ListLength { field } => put(b"list-length ", field, out),
         FactFault::BidZero => out.extend(b"bid-zero"),
         FactFault::Size => out.extend(b"size"),
     }
@@ -277,7 +277,7 @@ fn make_facts(alloc: Global, said: &[Txt], out: &mut Txt) -> Result<(), AllocErr
     };
     let mut parts = bare(alloc, bid, budget);
     match set_all(alloc, said, &mut parts) {
-        Ok(true) => put_facts_of(alloc, parts, out),
+        Ok(true) => put_facts_of(parts, out),
         Ok(false) => {
             drop(parts);
             out.extend(b"unreadable")
@@ -302,14 +302,14 @@ fn set_all(alloc: Global, said: &[Txt], parts: &mut FactParts) -> Result<bool, A
     Ok(true)
 }
 
-fn put_facts_of(alloc: Global, parts: FactParts, out: &mut Txt) -> Result<(), AllocError> {
+fn put_facts_of(parts: FactParts, out: &mut Txt) -> Result<(), AllocError> {
     if parts.budget.get() % 1000 != 0 {
         drop(parts);
         return out.extend(b"unreadable");
     }
     match Facts::make(parts).err() {
         None => out.extend(b"made"),
-        Some(fault) => put_fact(alloc, fault, out),
+        Some(fault) => put_fact(fault, out),
     }
 }
 
@@ -402,23 +402,35 @@ fn set_list(
 
 fn items_of(alloc: Global, value: &[u8]) -> Result<List<Txt>, AllocError> {
     let mut items = List::new(alloc);
+    let filled = put_items(alloc, value, &mut items);
+    kept(items, filled)
+}
+
+fn put_items(alloc: Global, value: &[u8], items: &mut List<Txt>) -> Result<(), AllocError> {
     let mut rest = value;
     for _ in 0..value.len() {
         let Some(end) = rest.iter().position(|byte| *byte == b';') else {
-            return Ok(items);
+            return Ok(());
         };
         items.push(Txt::from_slice(alloc, &rest[..end])?)?;
         rest = &rest[end + 1..];
     }
-    Ok(items)
+    Ok(())
 }
 
 fn numbers_of(alloc: Global, value: &[u8]) -> Result<List<i32>, AllocError> {
+    let items = items_of(alloc, value)?;
     let mut numbers = List::new(alloc);
-    for item in items_of(alloc, value)?.as_slice() {
+    let filled = put_numbers(items.as_slice(), &mut numbers);
+    drop(items);
+    kept(numbers, filled)
+}
+
+fn put_numbers(items: &[Txt], numbers: &mut List<i32>) -> Result<(), AllocError> {
+    for item in items {
         numbers.push(signed_in(item.as_bytes()).unwrap_or(0))?;
     }
-    Ok(numbers)
+    Ok(())
 }
 
 fn signed_in(text: &[u8]) -> Option<i32> {
@@ -510,9 +522,9 @@ fn put_torn_fronts(alloc: Global, bytes: &[u8], out: &mut Txt) -> Result<(), All
 }
 
 fn is_torn(alloc: Global, bytes: &[u8]) -> Result<bool, AllocError> {
-    match Facts::decode(alloc, bytes, 0) {
-        Ok(_) => Ok(false),
-        Err(FactBytes::Torn { at }) => Ok(at == 0),
-        Err(FactBytes::Memory) => Err(AllocError),
+    match Facts::decode(alloc, bytes, 0).err() {
+        None => Ok(false),
+        Some(FactBytes::Torn { at }) => Ok(at == 0),
+        Some(FactBytes::Memory) => Err(AllocError),
     }
 }

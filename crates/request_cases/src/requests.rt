@@ -1,5 +1,5 @@
 //! Calls of `rtb_read`: bid requests and their faults.
-use case_lines::{done, put_comma};
+use case_lines::{done, kept, put_comma};
 use exact_json::{Doc, read};
 use rtb_num::{List, Micros, PriceFault, Txt, write_decimal, write_signed};
 use rtb_read::{ReqFault, read_request};
@@ -32,7 +32,11 @@ pub fn answer(alloc: Global, call: &[u8], args: &[Txt], out: &mut Txt) -> Result
 
 fn judge(alloc: Global, text: &[u8], out: &mut Txt) -> Result<(), AllocError> {
     match read(alloc, text) {
-        Ok(doc) => judge_doc(alloc, &doc, out),
+        Ok(doc) => {
+            let told = judge_doc(alloc, &doc, out);
+            drop(doc);
+            told
+        }
         Err(_) => out.extend(b"unreadable"),
     }
 }
@@ -40,18 +44,18 @@ fn judge(alloc: Global, text: &[u8], out: &mut Txt) -> Result<(), AllocError> {
 fn judge_doc(alloc: Global, doc: &Doc, out: &mut Txt) -> Result<(), AllocError> {
     match read_request(alloc, doc).err() {
         None => out.extend(b"ok"),
-        Some(fault) => put_fault(alloc, fault, out),
+        Some(fault) => put_fault(fault, out),
     }
 }
 
-fn put_fault(alloc: Global, fault: ReqFault, out: &mut Txt) -> Result<(), AllocError> {
+fn put_fault(fault: ReqFault, out: &mut Txt) -> Result<(), AllocError> {
     match fault {
         ReqFault::NotObject => out.extend(b"not-object"),
-        ReqFault::Missing { field } => put_field(alloc, b"missing ", field, out),
-        ReqFault::WrongType { field } => put_field(alloc, b"type ", field, out),
-        ReqFault::Range { field } => put_field(alloc, b"range ", field, out),
-        ReqFault::Price { field, fault } => put_field(alloc, price_word(fault), field, out),
-        ReqFault::AuctionType { field } => put_field(alloc, b"auction-type ", field, out),
+        ReqFault::Missing { field } => put_field(b"missing ", field, out),
+        ReqFault::WrongType { field } => put_field(b"type ", field, out),
+        ReqFault::Range { field } => put_field(b"range ", field, out),
+        ReqFault::Price { field, fault } => put_field(price_word(fault), field, out),
+        ReqFault::AuctionType { field } => put_field(b"auction-type ", field, out),
         ReqFault::NoImps => out.extend(b"no-imps"),
         ReqFault::TooManyImps { count } => put_count(b"too-many ", count, out),
         ReqFault::DuplicateImp { first, second } => put_two(first, second, out),
@@ -59,20 +63,10 @@ fn put_fault(alloc: Global, fault: ReqFault, out: &mut Txt) -> Result<(), AllocE
     }
 }
 
-// A word and the path of the field, and how the field is shown where that is something else.
-fn put_field(alloc: Global, word: &[u8], field: Field, out: &mut Txt) -> Result<(), AllocError> {
-    let mut path = Txt::new(alloc);
-    field.write(&mut path)?;
-    out.extend_all(&[word, path.as_bytes()])?;
-    let shown = format!(in alloc; "{field}")?;
-    put_other(path.as_bytes(), shown.as_bytes(), out)
-}
-
-fn put_other(path: &[u8], shown: &[u8], out: &mut Txt) -> Result<(), AllocError> {
-    if shown != path {
-        return out.extend_all(&[b", but ", shown]);
-    }
-    Ok(())
+// A word and the path of the field.
+fn put_field(word: &[u8], field: Field, out: &mut Txt) -> Result<(), AllocError> {
+    out.extend(word)?;
+    field.write(out)
 }
 
 fn price_word(fault: PriceFault) -> &'static [u8] {
@@ -95,7 +89,11 @@ fn put_count(word: &[u8], count: usize, out: &mut Txt) -> Result<(), AllocError>
 // Why the text is no request, in words.
 fn put_why(alloc: Global, text: &[u8], out: &mut Txt) -> Result<(), AllocError> {
     match read(alloc, text) {
-        Ok(doc) => put_why_of(alloc, &doc, out),
+        Ok(doc) => {
+            let told = put_why_of(alloc, &doc, out);
+            drop(doc);
+            told
+        }
         Err(fault) => out.extend(format!(in alloc; "{fault}")?.as_bytes()),
     }
 }
@@ -111,10 +109,23 @@ fn judge_in(alloc: Global, place: &[u8], members: &[u8], out: &mut Txt) -> Resul
     let Some((before, behind)) = frame(place) else {
         return out.extend(b"unreadable");
     };
-    let mut text = Txt::from_slice(alloc, before)?;
-    text.extend(members)?;
-    text.extend(behind)?;
-    judge(alloc, text.as_bytes(), out)
+    let mut text = Txt::new(alloc);
+    let filled = put_framed(before, members, behind, &mut text);
+    let text = kept(text, filled)?;
+    let told = judge(alloc, text.as_bytes(), out);
+    drop(text);
+    told
+}
+
+fn put_framed(
+    before: &[u8],
+    members: &[u8],
+    behind: &[u8],
+    out: &mut Txt,
+) -> Result<(), AllocError> {
+    out.extend(before)?;
+    out.extend(members)?;
+    out.extend(behind)
 }
 
 // What stands before the members, and behind them.
@@ -144,7 +155,11 @@ fn frame(place: &[u8]) -> Option<(&'static [u8], &'static [u8])> {
 
 fn show(alloc: Global, text: &[u8], out: &mut Txt) -> Result<(), AllocError> {
     match read(alloc, text) {
-        Ok(doc) => show_doc(alloc, &doc, out),
+        Ok(doc) => {
+            let told = show_doc(alloc, &doc, out);
+            drop(doc);
+            told
+        }
         Err(_) => out.extend(b"unreadable"),
     }
 }
@@ -156,7 +171,7 @@ fn show_doc(alloc: Global, doc: &Doc, out: &mut Txt) -> Result<(), AllocError> {
             drop(request);
             written
         }
-        Err(fault) => put_fault(alloc, fault, out),
+        Err(fault) => put_fault(fault, out),
     }
 }
 

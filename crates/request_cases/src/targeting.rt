@@ -85,9 +85,20 @@ fn attr_numbered(n: &Txt) -> Option<Attr> {
 
 fn put_holds(alloc: Global, written: &Txt, given: &Txt, out: &mut Txt) -> Result<(), AllocError> {
     match make_expr(alloc, written.as_bytes())? {
-        Ok(expr) => put_truth(&expr, &assignment_in(alloc, given.as_bytes())?, out),
+        Ok(expr) => {
+            let told = put_holds_of(alloc, &expr, given, out);
+            drop(expr);
+            told
+        }
         Err(fault) => put_expr_fault(fault, out),
     }
+}
+
+fn put_holds_of(alloc: Global, expr: &Expr, given: &Txt, out: &mut Txt) -> Result<(), AllocError> {
+    let assignment = assignment_in(alloc, given.as_bytes())?;
+    let told = put_truth(expr, &assignment, out);
+    drop(assignment);
+    told
 }
 
 fn put_truth(expr: &Expr, assignment: &Assignment, out: &mut Txt) -> Result<(), AllocError> {
@@ -125,14 +136,20 @@ fn decode(alloc: Global, bytes: &Txt, place: &Txt, out: &mut Txt) -> Result<(), 
 
 fn decode_at(alloc: Global, bytes: &[u8], place: usize, out: &mut Txt) -> Result<(), AllocError> {
     match Expr::decode(alloc, bytes, place) {
-        Ok((expr, next)) => {
-            put_count(b"", next as u64, out)?;
-            out.push(b' ')?;
-            put_expr(&expr, out)
+        Ok(read) => {
+            let told = put_expr_behind(read.1, &read.0, out);
+            drop(read);
+            told
         }
         Err(ExprBytes::Torn { at }) => put_count(b"torn ", at as u64, out),
         Err(ExprBytes::Memory) => Err(AllocError),
     }
+}
+
+fn put_expr_behind(next: usize, expr: &Expr, out: &mut Txt) -> Result<(), AllocError> {
+    put_count(b"", next as u64, out)?;
+    out.push(b' ')?;
+    put_expr(expr, out)
 }
 
 fn put_count(words: &[u8], n: u64, out: &mut Txt) -> Result<(), AllocError> {
@@ -143,12 +160,18 @@ fn put_count(words: &[u8], n: u64, out: &mut Txt) -> Result<(), AllocError> {
 // The pairs, in the notation of expressions.
 fn put_expr(expr: &Expr, out: &mut Txt) -> Result<(), AllocError> {
     let pairs = pairs(expr)?;
+    let told = put_all_pairs(pairs.as_slice(), expr.conjunctions(), out);
+    drop(pairs);
+    told
+}
+
+fn put_all_pairs(pairs: &[Pair], conjunctions: usize, out: &mut Txt) -> Result<(), AllocError> {
     let mut before: Option<&Pair> = None;
-    for pair in pairs.as_slice() {
+    for pair in pairs {
         put_pair(before, pair, out)?;
         before = Some(pair);
     }
-    put_bars(behind(before), expr.conjunctions().saturating_sub(1), out)
+    put_bars(behind(before), conjunctions.saturating_sub(1), out)
 }
 
 // A bar for each conjunction from one to another.
@@ -192,11 +215,20 @@ fn put_whole(pair: &Pair, out: &mut Txt) -> Result<(), AllocError> {
 }
 
 fn put_assignment(alloc: Global, text: &Txt, imp: &Txt, out: &mut Txt) -> Result<(), AllocError> {
-    let Some(assignment) = assignment_of(alloc, text, imp)? else {
-        return out.extend(b"unreadable");
-    };
+    match assignment_of(alloc, text, imp)? {
+        Some(assignment) => {
+            let told = put_given(&assignment, out);
+            drop(assignment);
+            told
+        }
+        None => out.extend(b"unreadable"),
+    }
+}
+
+fn put_given(assignment: &Assignment, out: &mut Txt) -> Result<(), AllocError> {
     for pair in assignment.pairs() {
-        out.extend_all(&[pair.0.name(), b"=", pair.1.as_bytes(), b";"])?;
+        out.extend(pair.0.name())?;
+        out.extend_all(&[b"=", pair.1.as_bytes(), b";"])?;
     }
     Ok(())
 }
@@ -227,7 +259,11 @@ fn assignment_at(
 // The request of a JSON text.
 fn request_of(alloc: Global, text: &Txt) -> Option<BidRequest> {
     match exact_json::read(alloc, text.as_bytes()) {
-        Ok(doc) => read_request(alloc, &doc).ok(),
+        Ok(doc) => {
+            let request = read_request(alloc, &doc).ok();
+            drop(doc);
+            request
+        }
         Err(_) => None,
     }
 }
@@ -257,7 +293,11 @@ fn put_holds_for(
     out: &mut Txt,
 ) -> Result<(), AllocError> {
     match assignment_of(alloc, request, imp)? {
-        Some(assignment) => put_truth(target, &assignment, out),
+        Some(assignment) => {
+            let told = put_truth(target, &assignment, out);
+            drop(assignment);
+            told
+        }
         None => out.extend(b"unreadable"),
     }
 }
@@ -281,7 +321,11 @@ fn put_of_written(
     out: &mut Txt,
 ) -> Result<(), AllocError> {
     match make_expr(alloc, written)? {
-        Ok(expr) => put_of_expr(call, &expr, out),
+        Ok(expr) => {
+            let told = put_of_expr(call, &expr, out);
+            drop(expr);
+            told
+        }
         Err(fault) => put_expr_fault(fault, out),
     }
 }
@@ -296,7 +340,14 @@ fn put_of_expr(call: &[u8], expr: &Expr, out: &mut Txt) -> Result<(), AllocError
     if call == b"expr_pairs".as_slice() {
         return put_pairs(expr, out);
     }
-    expr.copy()?.encode(out)
+    encode_copy(expr, out)
+}
+
+fn encode_copy(expr: &Expr, out: &mut Txt) -> Result<(), AllocError> {
+    let copy = expr.copy()?;
+    let encoded = copy.encode(out);
+    drop(copy);
+    encoded
 }
 
 fn put_size(expr: &Expr, out: &mut Txt) -> Result<(), AllocError> {
@@ -308,14 +359,28 @@ fn put_size(expr: &Expr, out: &mut Txt) -> Result<(), AllocError> {
 }
 
 fn put_sizes(expr: &Expr, out: &mut Txt) -> Result<(), AllocError> {
-    for size in expr.sizes()?.as_slice() {
+    let sizes = expr.sizes()?;
+    let told = put_each_size(sizes.as_slice(), out);
+    drop(sizes);
+    told
+}
+
+fn put_each_size(sizes: &[u32], out: &mut Txt) -> Result<(), AllocError> {
+    for size in sizes {
         put_count(b" ", u64::from(*size), out)?;
     }
     Ok(())
 }
 
 fn put_pairs(expr: &Expr, out: &mut Txt) -> Result<(), AllocError> {
-    for pair in pairs(expr)?.as_slice() {
+    let pairs = pairs(expr)?;
+    let told = put_each_pair(pairs.as_slice(), out);
+    drop(pairs);
+    told
+}
+
+fn put_each_pair(pairs: &[Pair], out: &mut Txt) -> Result<(), AllocError> {
+    for pair in pairs {
         put_count(b"", u64::from(pair.conjunction), out)?;
         put_count(b"/", u64::from(pair.size), out)?;
         out.push(b' ')?;

@@ -24,37 +24,63 @@ use std::alloc::{AllocError, Global};
 pub fn answer(alloc: Global, call: &[u8], args: &[Txt], out: &mut Txt) -> Result<bool, AllocError> {
     match args {
         [method, target, body] if call == b"command".as_slice() => {
-            let message = message_of(method, target, body)?;
-            let written = put_reading(alloc, &message, out);
-            drop(message);
-            done(written)
+            done(put_asked(alloc, method, target, body, out))
         }
         [name, number] if call == b"reply".as_slice() => {
-            put_reply(alloc, name.as_bytes(), number.as_bytes(), out)?;
-            Ok(true)
+            done(put_reply(alloc, name.as_bytes(), number.as_bytes(), out))
         }
         [state, amount] if call == b"report".as_slice() => {
-            put_report(alloc, state.as_bytes(), number_of(amount.as_bytes()), out)?;
-            Ok(true)
+            done(put_report(alloc, state.as_bytes(), number_of(amount.as_bytes()), out))
         }
-        [limit] if call == b"full".as_slice() => {
-            put_full(alloc, limit.as_bytes(), out)?;
-            Ok(true)
-        }
+        [limit] if call == b"full".as_slice() => done(put_full(alloc, limit.as_bytes(), out)),
         _ => Ok(false),
     }
 }
 
-fn message_of(method: &Txt, target: &Txt, body: &Txt) -> Result<Message, AllocError> {
-    let method = method.copy()?;
-    let target = target.copy()?;
-    let body = body.copy()?;
-    Ok(Message {
-        method,
-        target,
-        body,
+fn put_asked(
+    alloc: Global,
+    method: &Txt,
+    target: &Txt,
+    body: &Txt,
+    out: &mut Txt,
+) -> Result<(), AllocError> {
+    let message = message_of(alloc, method.as_bytes(), target.as_bytes(), body.as_bytes())?;
+    let written = put_reading(alloc, &message, out);
+    drop(message);
+    written
+}
+
+// The message of these parts.
+pub(crate) fn message_of(
+    alloc: Global,
+    method: &[u8],
+    target: &[u8],
+    body: &[u8],
+) -> Result<Message, AllocError> {
+    let mut message = Message {
+        method: Txt::new(alloc),
+        target: Txt::new(alloc),
+        body: Txt::new(alloc),
         closes: false,
-    })
+    };
+    match fill(&mut message, method, target, body) {
+        Ok(()) => Ok(message),
+        Err(refused) => {
+            drop(message);
+            Err(refused)
+        }
+    }
+}
+
+fn fill(
+    message: &mut Message,
+    method: &[u8],
+    target: &[u8],
+    body: &[u8],
+) -> Result<(), AllocError> {
+    message.method.extend(method)?;
+    message.target.extend(target)?;
+    message.body.extend(body)
 }
 
 fn put_reading(alloc: Global, message: &Message, out: &mut Txt) -> Result<(), AllocError> {
@@ -214,20 +240,28 @@ fn put_report(alloc: Global, state: &[u8], micros: u64, out: &mut Txt) -> Result
 }
 
 fn report_of(live: bool, micros: u64) -> Option<Reply> {
+    let bid = Micros::new(micros)?;
+    let budget = times(micros, 1000)?;
+    let totals = Totals {
+        reserved: times(micros, 100)?,
+        spent: times(micros, 500)?,
+        held: 3,
+        billed: 2,
+        lost: 1,
+        expired: 4,
+    };
     Some(Reply::Reported {
         n: 1,
         live,
-        bid: Micros::new(micros)?,
-        budget: Nanos::new(micros.checked_mul(1000)?)?,
-        totals: Totals {
-            reserved: Nanos::new(micros.checked_mul(100)?)?,
-            spent: Nanos::new(micros.checked_mul(500)?)?,
-            held: 3,
-            billed: 2,
-            lost: 1,
-            expired: 4,
-        },
+        bid,
+        budget,
+        totals,
     })
+}
+
+// So many times so many nano-dollars.
+fn times(nanos: u64, count: u64) -> Option<Nanos> {
+    Nanos::new(nanos.checked_mul(count)?)
 }
 
 fn put_full(alloc: Global, limit: &[u8], out: &mut Txt) -> Result<(), AllocError> {

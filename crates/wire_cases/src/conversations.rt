@@ -3,7 +3,7 @@ ghost use Rattle.std.specs.Prelude.{◌≡◌, ◌<◌};
 
 use crate::pieces::Pieces;
 use crate::small_service::Small;
-use case_lines::{done, numbers_in};
+use case_lines::{done, kept, numbers_in};
 use link_door::MemLink;
 use rtb_base::Steps;
 use rtb_num::{List, Txt, write_decimal};
@@ -23,32 +23,77 @@ use std::sync::ledger::{Blank, Ledger};
 /// - `serve_failing | BYTES | CALLS`: the bytes at once over a link where these calls fail, counted from 1.
 pub fn answer(alloc: Global, call: &[u8], args: &[Txt], out: &mut Txt) -> Result<bool, AllocError> {
     match args {
-        [text] if call == b"serve".as_slice() => {
-            done(tell_whole(cut_everywhere(alloc, text.as_bytes(), 1)?, out))
-        }
-        [text] if call == b"serve_whole".as_slice() => {
-            done(tell_whole(cut_everywhere(alloc, text.as_bytes(), usize::MAX)?, out))
-        }
+        [text] => serve_cut(alloc, call, text.as_bytes(), out),
         [times, text, step] if call == b"serve_times".as_slice() => {
-            let all = repeat(alloc, times.as_bytes(), text.as_bytes())?;
-            let step = number_in(step.as_bytes());
-            done(tell_length(cut_everywhere(alloc, all.as_bytes(), step)?, out))
+            done(serve_times(
+                alloc,
+                times.as_bytes(),
+                text.as_bytes(),
+                step.as_bytes(),
+                out,
+            ))
         }
         [text, calls] if call == b"serve_failing".as_slice() => {
-            let fails = numbers_in(alloc, calls.as_bytes())?;
-            done(tell_whole(serve(alloc, text.as_bytes(), 0, false, fails)?, out))
+            done(serve_failing(alloc, text.as_bytes(), calls.as_bytes(), out))
         }
         _ => Ok(false),
     }
 }
 
+fn serve_cut(alloc: Global, call: &[u8], text: &[u8], out: &mut Txt) -> Result<bool, AllocError> {
+    if call == b"serve".as_slice() {
+        return done(tell_whole(cut_everywhere(alloc, text, 1), out));
+    }
+    if call == b"serve_whole".as_slice() {
+        return done(tell_whole(cut_everywhere(alloc, text, usize::MAX), out));
+    }
+    Ok(false)
+}
+
+fn serve_times(
+    alloc: Global,
+    times: &[u8],
+    text: &[u8],
+    step: &[u8],
+    out: &mut Txt,
+) -> Result<(), AllocError> {
+    let all = repeat(alloc, times, text)?;
+    let came = cut_everywhere(alloc, all.as_bytes(), number_in(step));
+    drop(all);
+    tell_length(came, out)
+}
+
+fn serve_failing(
+    alloc: Global,
+    text: &[u8],
+    calls: &[u8],
+    out: &mut Txt,
+) -> Result<(), AllocError> {
+    let fails = numbers_in(alloc, calls)?;
+    tell_whole(serve(alloc, text, 0, false, fails), out)
+}
+
 // Why the link ended, and what was sent.
-fn tell_whole(came: Came, out: &mut Txt) -> Result<(), AllocError> {
+fn tell_whole(came: Result<Came, AllocError>, out: &mut Txt) -> Result<(), AllocError> {
+    let came = came?;
+    let told = put_whole(&came, out);
+    drop(came);
+    told
+}
+
+fn put_whole(came: &Came, out: &mut Txt) -> Result<(), AllocError> {
     out.extend_all(&[came.end.as_bytes(), b": ", came.sent.as_bytes()])
 }
 
 // Why the link ended, and how many bytes were sent.
-fn tell_length(came: Came, out: &mut Txt) -> Result<(), AllocError> {
+fn tell_length(came: Result<Came, AllocError>, out: &mut Txt) -> Result<(), AllocError> {
+    let came = came?;
+    let told = put_length(&came, out);
+    drop(came);
+    told
+}
+
+fn put_length(came: &Came, out: &mut Txt) -> Result<(), AllocError> {
     out.extend_all(&[came.end.as_bytes(), b": "])?;
     write_decimal(came.sent.len() as u64, out)
 }
@@ -62,10 +107,15 @@ fn number_in(word: &[u8]) -> usize {
 
 fn repeat(alloc: Global, times: &[u8], text: &[u8]) -> Result<Txt, AllocError> {
     let mut all = Txt::new(alloc);
-    for _ in 0..number_in(times) {
-        all.extend(text)?;
+    let filled = put_times(number_in(times), text, &mut all);
+    kept(all, filled)
+}
+
+fn put_times(times: usize, text: &[u8], out: &mut Txt) -> Result<(), AllocError> {
+    for _ in 0..times {
+        out.extend(text)?;
     }
-    Ok(all)
+    Ok(())
 }
 
 // What came of a conversation.
@@ -117,7 +167,9 @@ fn comes_again(
     whole: &Came,
 ) -> Result<bool, AllocError> {
     let cut = serve(alloc, text, first, single, List::new(alloc))?;
-    Ok(is_same(whole, &cut))
+    let same = is_same(whole, &cut);
+    drop(cut);
+    Ok(same)
 }
 
 fn is_same(a: &Came, b: &Came) -> bool {
@@ -125,12 +177,21 @@ fn is_same(a: &Came, b: &Came) -> bool {
 }
 
 fn different(alloc: Global, at: usize) -> Result<Came, AllocError> {
-    let mut end = Txt::from_slice(alloc, b"differs at ")?;
-    write_decimal(at as u64, &mut end)?;
-    Ok(Came {
-        end,
+    let mut came = nothing(alloc);
+    let filled = put_difference(at, &mut came.end);
+    kept(came, filled)
+}
+
+fn nothing(alloc: Global) -> Came {
+    Came {
+        end: Txt::new(alloc),
         sent: Txt::new(alloc),
-    })
+    }
+}
+
+fn put_difference(at: usize, out: &mut Txt) -> Result<(), AllocError> {
+    out.extend(b"differs at ")?;
+    write_decimal(at as u64, out)
 }
 
 fn serve(
@@ -168,31 +229,29 @@ fn hold_conversation<L: Ledger>(
 }
 
 fn came_of(alloc: Global, end: &LinkEnd, sent: &Txt) -> Result<Came, AllocError> {
-    let sent = sent.copy()?;
-    let end = text_of(alloc, end)?;
-    Ok(Came { end, sent })
+    let mut came = nothing(alloc);
+    let filled = fill(&mut came, end, sent);
+    kept(came, filled)
 }
 
-fn text_of(alloc: Global, end: &LinkEnd) -> Result<Txt, AllocError> {
+fn fill(came: &mut Came, end: &LinkEnd, sent: &Txt) -> Result<(), AllocError> {
+    came.sent.extend(sent.as_bytes())?;
+    put_end(end, &mut came.end)
+}
+
+fn put_end(end: &LinkEnd, out: &mut Txt) -> Result<(), AllocError> {
     match end {
-        LinkEnd::Done => Txt::from_slice(alloc, b"done"),
-        LinkEnd::Cut { left } => cut_text(alloc, left),
-        LinkEnd::Refused { status } => refused_text(alloc, *status),
-        LinkEnd::Asked => Txt::from_slice(alloc, b"asked"),
-        LinkEnd::Spent => Txt::from_slice(alloc, b"spent"),
-        LinkEnd::LinkFailed => Txt::from_slice(alloc, b"failed"),
+        LinkEnd::Done => out.extend(b"done"),
+        LinkEnd::Cut { left } => out.extend_all(&[b"cut [", left.as_bytes(), b"]"]),
+        LinkEnd::Refused { status } => put_refused(*status, out),
+        LinkEnd::Asked => out.extend(b"asked"),
+        LinkEnd::Spent => out.extend(b"spent"),
+        LinkEnd::LinkFailed => out.extend(b"failed"),
         LinkEnd::NoMemory => Err(AllocError),
     }
 }
 
-fn cut_text(alloc: Global, left: &Txt) -> Result<Txt, AllocError> {
-    let mut text = Txt::from_slice(alloc, b"cut [")?;
-    text.extend_all(&[left.as_bytes(), b"]"])?;
-    Ok(text)
-}
-
-fn refused_text(alloc: Global, status: u16) -> Result<Txt, AllocError> {
-    let mut text = Txt::from_slice(alloc, b"refused ")?;
-    write_decimal(u64::from(status), &mut text)?;
-    Ok(text)
+fn put_refused(status: u16, out: &mut Txt) -> Result<(), AllocError> {
+    out.extend(b"refused ")?;
+    write_decimal(u64::from(status), out)
 }

@@ -2,9 +2,10 @@
 ghost use Rattle.std.specs.Prelude.{◌≡◌, ◌≢◌, ◌==◌, ◌<◌, IfSome, IsTrue};
 ghost use Rattle.std.specs.List.{list_any};
 ghost use Rattle.http_wire.specs.Answers.{IsWritable, statuses};
+ghost use Rattle.http_wire.specs.Wire.{Reads};
 
 use crate::small_service::{no_content, not_allowed, with_body};
-use case_lines::{done, say};
+use case_lines::{done, number_in, say};
 use http_wire::{
     Allow, Answer, Message, Step, at_least, is_blank, memory_text, next_message, store_failed_text,
     write_answer,
@@ -100,17 +101,26 @@ fn put_message<L: Ledger>(
     steps: &mut Steps<L>,
     out: &mut Txt,
 ) -> Result<(), AllocError> {
-    match next_message(alloc, bytes, steps)? {
+    let step = next_message(alloc, bytes, steps)?;
+    let told = tell_step(&step, bytes, out);
+    drop(step);
+    told
+}
+
+fn tell_step(step: &Step, bytes: &[u8], out: &mut Txt) -> Result<(), AllocError>
+    requires { Reads bytes.now step.now }
+{
+    match step {
         Step::Need => {
             out.extend(b"need ")?;
             write_decimal(at_least(bytes) as u64, out)
         }
         Step::Got { message, used } => {
-            tell_message(&message, bytes.len().saturating_sub(used), out)
+            tell_message(message, bytes.len().saturating_sub(*used), out)
         }
         Step::Refused { status, word } => {
             out.extend(b"refused ")?;
-            write_decimal(u64::from(status), out)?;
+            write_decimal(u64::from(*status), out)?;
             out.extend_all(&[b" ", word.as_bytes()])
         }
     }
@@ -164,43 +174,21 @@ fn status_of(digits: &[u8]) -> Option<u16>
     ensures no_content { IfSome result (λ status. status ≢ 204) }
     ensures not_allowed { IfSome result (λ status. status ≢ 405) }
 {
-    if digits == b"200".as_slice() {
-        return Some(200);
+    match number_in(digits) {
+        Some(200) => Some(200),
+        Some(201) => Some(201),
+        Some(400) => Some(400),
+        Some(404) => Some(404),
+        Some(409) => Some(409),
+        Some(410) => Some(410),
+        Some(413) => Some(413),
+        Some(415) => Some(415),
+        Some(431) => Some(431),
+        Some(500) => Some(500),
+        Some(501) => Some(501),
+        Some(503) => Some(503),
+        _ => None,
     }
-    if digits == b"201".as_slice() {
-        return Some(201);
-    }
-    if digits == b"400".as_slice() {
-        return Some(400);
-    }
-    if digits == b"404".as_slice() {
-        return Some(404);
-    }
-    if digits == b"409".as_slice() {
-        return Some(409);
-    }
-    if digits == b"410".as_slice() {
-        return Some(410);
-    }
-    if digits == b"413".as_slice() {
-        return Some(413);
-    }
-    if digits == b"415".as_slice() {
-        return Some(415);
-    }
-    if digits == b"431".as_slice() {
-        return Some(431);
-    }
-    if digits == b"500".as_slice() {
-        return Some(500);
-    }
-    if digits == b"501".as_slice() {
-        return Some(501);
-    }
-    if digits == b"503".as_slice() {
-        return Some(503);
-    }
-    None
 }
 
 fn put_whole(answer: Answer, closes: bool, out: &mut Txt) -> Result<(), AllocError>

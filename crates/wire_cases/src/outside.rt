@@ -1,5 +1,5 @@
 //! Calls of `link_door`: links and doors in memory.
-use case_lines::{done, numbers_in};
+use case_lines::{done, kept, numbers_in, paired};
 use link_door::{Door, Link, MemDoor, MemLink};
 use rtb_num::{Failed, List, Txt, write_decimal};
 use std::alloc::{AllocError, Global};
@@ -16,12 +16,16 @@ use std::alloc::{AllocError, Global};
 pub fn answer(alloc: Global, call: &[u8], args: &[Txt], out: &mut Txt) -> Result<bool, AllocError> {
     match args {
         [bytes, pieces, calls] if call == b"link".as_slice() => {
-            let fails = numbers_in(alloc, calls.as_bytes())?;
-            done(use_link(alloc, bytes.copy()?, pieces.as_bytes(), fails, out))
+            done(use_link(alloc, bytes, pieces.as_bytes(), calls.as_bytes(), out))
         }
         [links, moments, calls] if call == b"door".as_slice() => {
-            let fails = numbers_in(alloc, calls.as_bytes())?;
-            done(use_door(alloc, links.as_bytes(), moments.as_bytes(), fails, out))
+            done(use_door(
+                alloc,
+                links.as_bytes(),
+                moments.as_bytes(),
+                calls.as_bytes(),
+                out,
+            ))
         }
         _ => Ok(false),
     }
@@ -29,11 +33,12 @@ pub fn answer(alloc: Global, call: &[u8], args: &[Txt], out: &mut Txt) -> Result
 
 fn use_link(
     alloc: Global,
-    left: Txt,
+    bytes: &Txt,
     pieces: &[u8],
-    fails: List<u64>,
+    calls: &[u8],
     out: &mut Txt,
 ) -> Result<(), AllocError> {
+    let (left, fails) = paired(bytes.copy(), numbers_in(alloc, calls))?;
     let mut link = MemLink::new(alloc, left, fails);
     let written = pass_pieces(&mut link, pieces, out);
     drop(link);
@@ -82,12 +87,15 @@ fn use_door(
     alloc: Global,
     links: &[u8],
     moments: &[u8],
-    fails: List<u64>,
+    calls: &[u8],
     out: &mut Txt,
 ) -> Result<(), AllocError> {
-    let links = links_in(alloc, links)?;
-    let moments = numbers_in(alloc, moments)?;
+    let given = paired(links_in(alloc, links), numbers_in(alloc, calls));
+    let ((links, fails), moments) = paired(given, numbers_in(alloc, moments))?;
     if moments.is_empty() {
+        drop(links);
+        drop(fails);
+        drop(moments);
         return out.extend(b"no moments");
     }
     let mut door = MemDoor::new(alloc, links, moments, fails)?;
@@ -120,19 +128,29 @@ fn pass_one(door: &mut MemDoor, out: &mut Txt) -> Result<bool, AllocError> {
 
 fn serve(door: &mut MemDoor, link: MemLink, out: &mut Txt) -> Result<(), AllocError> {
     let mut link = link;
-    read_three(&mut link, out)?;
-    write_decimal(door.moment(), out)?;
+    let told = tell_link(door.moment(), &mut link, out);
     door.done(link);
+    told
+}
+
+fn tell_link(moment: u64, link: &mut MemLink, out: &mut Txt) -> Result<(), AllocError> {
+    read_three(link, out)?;
+    write_decimal(moment, out)?;
     out.push(b' ')
 }
 
 fn links_in(alloc: Global, line: &[u8]) -> Result<List<MemLink>, AllocError> {
     let mut links = List::new(alloc);
+    let filled = put_links(alloc, line, &mut links);
+    kept(links, filled)
+}
+
+fn put_links(alloc: Global, line: &[u8], links: &mut List<MemLink>) -> Result<(), AllocError> {
     for word in line.split(|c| *c == b' ') {
         let left = Txt::from_slice(alloc, word)?;
         links.push(MemLink::new(alloc, left, List::new(alloc)))?;
     }
-    Ok(links)
+    Ok(())
 }
 
 fn tell_faults(faults: u64, out: &mut Txt) -> Result<(), AllocError> {

@@ -1,7 +1,8 @@
 //! Calls of `rtb_response` for impressions that were sold.
-use crate::commands::put_answer;
+use crate::commands::{message_of, put_answer};
 use campaign_read::read_campaign;
 use campaign_store::{SharedRecord, make_record};
+use case_lines::{done, kept};
 use command_read::read_command;
 use exact_json::{Doc, read};
 use http_wire::Message;
@@ -19,8 +20,7 @@ use std::alloc::{AllocError, Global};
 pub fn answer(alloc: Global, call: &[u8], args: &[Txt], out: &mut Txt) -> Result<bool, AllocError> {
     match args {
         [public, request, sales @ ..] if call == b"sold".as_slice() => {
-            put_sold(alloc, public, request, sales, out)?;
-            Ok(true)
+            done(put_sold(alloc, public, request, sales, out))
         }
         _ => Ok(false),
     }
@@ -46,10 +46,15 @@ fn put_sold(
 
 fn sales_of(alloc: Global, sales: &[Txt]) -> Result<List<Sold>, AllocError> {
     let mut sold = List::new(alloc);
+    let filled = push_sales(alloc, sales, &mut sold);
+    kept(sold, filled)
+}
+
+fn push_sales(alloc: Global, sales: &[Txt], sold: &mut List<Sold>) -> Result<(), AllocError> {
     for sale in sales {
-        push_sale(alloc, sale.as_bytes(), &mut sold)?;
+        push_sale(alloc, sale.as_bytes(), sold)?;
     }
-    Ok(sold)
+    Ok(())
 }
 
 fn put_reply(
@@ -59,7 +64,7 @@ fn put_reply(
     public: Option<&Txt>,
     out: &mut Txt,
 ) -> Result<(), AllocError> {
-    let message = post(alloc, request)?;
+    let message = message_of(alloc, b"POST", b"/openrtb2/auction", request.as_bytes())?;
     let written = put_response(alloc, &message, reply, public, out);
     drop(message);
     written
@@ -99,16 +104,6 @@ fn put_response_to(
         }
         _ => out.extend(b"no request"),
     }
-}
-
-// The message that asks for an auction with this body.
-fn post(alloc: Global, body: &Txt) -> Result<Message, AllocError> {
-    Ok(Message {
-        method: Txt::from_slice(alloc, b"POST")?,
-        target: Txt::from_slice(alloc, b"/openrtb2/auction")?,
-        body: body.copy()?,
-        closes: false,
-    })
 }
 
 // Appends the sale; none where the text is no sale.
@@ -162,7 +157,10 @@ fn push_sold(
 ) -> Result<(), AllocError> {
     match record_in(alloc, body) {
         Ok(record) => push_record(record, price, campaign, deal, sold),
-        Err(AllocError) => Err(AllocError),
+        Err(AllocError) => {
+            drop(deal);
+            Err(AllocError)
+        }
     }
 }
 

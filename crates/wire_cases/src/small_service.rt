@@ -4,6 +4,7 @@ ghost use Rattle.std.specs.List.{list_any};
 ghost use Rattle.http_wire.specs.Answers.{IsWritable, statuses};
 ghost use Rattle.session.specs.Talk.{IsGivable};
 
+use case_lines::kept;
 use exact_json::{JsonFault, read};
 use http_wire::{Allow, Answer, Message};
 use rtb_num::{Txt, write_decimal};
@@ -91,9 +92,14 @@ fn answer_post(alloc: Global, message: &Message) -> Result<Answer, AllocError>
 fn error(alloc: Global, word: &[u8]) -> Result<Answer, AllocError>
     ensures { IfOk result IsWritable }
 {
-    let mut body = Txt::new(alloc);
-    body.extend_all(&[b"{\"error\":\"", word, b"\"}"])?;
+    let body = word_text(alloc, word)?;
     Ok(with_body(404, body))
+}
+
+fn word_text(alloc: Global, word: &[u8]) -> Result<Txt, AllocError> {
+    let mut body = Txt::new(alloc);
+    let filled = body.extend_all(&[b"{\"error\":\"", word, b"\"}"]);
+    kept(body, filled)
 }
 
 fn sell(alloc: Global, body: &[u8]) -> Result<Answer, AllocError>
@@ -118,10 +124,14 @@ fn refuse(alloc: Global, word: &[u8], at: usize) -> Result<Answer, AllocError>
 
 fn place_text(alloc: Global, word: &[u8], at: usize) -> Result<Txt, AllocError> {
     let mut body = Txt::new(alloc);
-    body.extend_all(&[b"{\"error\":\"", word, b"\",\"at\":"])?;
-    write_decimal(at as u64, &mut body)?;
-    body.push(b'}')?;
-    Ok(body)
+    let filled = put_place(word, at, &mut body);
+    kept(body, filled)
+}
+
+fn put_place(word: &[u8], at: usize, out: &mut Txt) -> Result<(), AllocError> {
+    out.extend_all(&[b"{\"error\":\"", word, b"\",\"at\":"])?;
+    write_decimal(at as u64, out)?;
+    out.push(b'}')
 }
 
 /// An answer with a body.

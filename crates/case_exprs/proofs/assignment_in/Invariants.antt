@@ -1,6 +1,0 @@
-use Rattle.std.proofs.Common.{IsTrue}
-use Rattle.target_expr.specs.Truth.{are_single}
-use Rattle.case_exprs.proofs.assignment_in.Given as goal
-
-abbrev pub invariant-loop-pair : goal.invariant-loop-pair
-invariant-loop-pair l = IsTrue (are_single l.pairs)

@@ -1,0 +1,184 @@
+//! A book of sales. Its steps, each of which answers how many sales it reached:
+//!
+//! - `make`: each sale's user is made, of 16 bytes, and dropped;
+//! - `sell`: the sales are made, one user each, the campaigns in turn, one a millisecond and each due after a
+//!   second;
+//! - `count`: each user is counted for the user's campaign;
+//! - `bill`: every second sale is billed;
+//! - `sweep`: the book is swept at each millisecond.
+ghost use Rattle.std.specs.Prelude.{◌≡◌, ◌≤◌, ◌<◌, ◌+◌, ◌-◌, IsTrue, get_or, length};
+ghost use Rattle.budget_book.specs.Book.{Funds};
+ghost use Rattle.budget_book.specs.Sales.{committed_of};
+
+use budget_book::{Book, MOST_SALES, UserKey};
+use rtb_num::Nanos;
+use std::alloc::{AllocError, Global};
+use std::marker::Model;
+
+// A million dollars, in nano-dollars.
+const BUDGET: u64 = 1_000_000_000_000_000;
+
+// A millionth of a dollar.
+const PRICE: u64 = 1_000;
+
+// Milliseconds for which a sale is held.
+const HELD: u64 = 1_000;
+
+// A book, how many campaigns it has, and how many sales are to be made.
+#[derive(Drop)]
+pub struct Shop {
+    book: Book,
+    campaigns: u32,
+    sales: u32,
+}
+
+impl Model for Shop {
+    ghost use Rattle.budget_book.specs.Book.{BookState};
+    ghost use Rattle.std.specs.Prelude.{◌≡◌, length};
+
+    ghost Value = { BookState };
+
+    ghost view = { λ s. s.book };
+
+    ghost invariant = { λ s. s.campaigns ≡ length s.book.campaigns };
+}
+
+// The user of the sale at that place, from 0 on: another one for each, in no order.
+fn user_of(i: u32) -> [u8; 16] {
+    let mut user = *b"0000000000000000";
+    let mut left = u64::from(i)
+        .wrapping_add(1)
+        .wrapping_mul(0x9e37_79b9_7f4a_7c15);
+    for k in 0..16 {
+        user[k] = b'a' + (left % 16) as u8;
+        left /= 16;
+    }
+    user
+}
+
+impl Shop {
+    // A book with so many campaigns, and room for so many sales.
+    pub fn open(alloc: Global, campaigns: u32, sales: u32) -> Result<Shop, AllocError> {
+        let mut shop = Shop {
+            book: Book::new(alloc),
+            campaigns: 0,
+            sales,
+        };
+        match shop.add_all(campaigns) {
+            Ok(()) => Ok(shop),
+            Err(refused) => {
+                drop(shop);
+                Err(refused)
+            }
+        }
+    }
+
+    fn add_all(&mut self, campaigns: u32) -> Result<(), AllocError> {
+        self.book.reserve_room(self.sales, 0)?;
+        for _ in 0..campaigns {
+            self.add()?;
+        }
+        Ok(())
+    }
+
+    fn add(&mut self) -> Result<(), AllocError> {
+        let Some(budget) = Nanos::new(BUDGET) else {
+            return Ok(());
+        };
+        let Some(count) = self.campaigns.checked_add(1) else {
+            return Ok(());
+        };
+        self.book.reserve_room(0, 1)?;
+        self.book.add_campaign(budget);
+        self.campaigns = count;
+        Ok(())
+    }
+
+    // Takes the step of that name. How many sales it reached.
+    pub fn take_step(&mut self, alloc: Global, name: &str) -> Result<u64, AllocError> {
+        match name {
+            "make" => self.make_users(alloc),
+            "sell" => self.sell_all(alloc),
+            "count" => Ok(self.count_shown()),
+            "bill" => Ok(self.bill_half()),
+            "sweep" => Ok(self.sweep_all()),
+            _ => Ok(0),
+        }
+    }
+
+    fn make_users(&self, alloc: Global) -> Result<u64, AllocError> {
+        for i in 0..self.sales {
+            UserKey::make(alloc, &user_of(i))?;
+        }
+        Ok(u64::from(self.sales))
+    }
+
+    // The campaign of the sale at that place, where there is a campaign.
+    fn campaign_of(&self, i: u32) -> Option<u32> {
+        i.checked_rem(self.campaigns)?.checked_add(1)
+    }
+
+    // ---- sales
+
+    fn sell_all(&mut self, alloc: Global) -> Result<u64, AllocError> {
+        for i in 0..self.sales {
+            self.sell(alloc, i)?;
+        }
+        Ok(self.book.sales())
+    }
+
+    // Sells to the user of that place, where the campaign can pay and there is room.
+    fn sell(&mut self, alloc: Global, i: u32) -> Result<(), AllocError> {
+        let (Some(c), Some(price)) = (self.campaign_of(i), Nanos::new(PRICE)) else {
+            return Ok(());
+        };
+        self.book.reserve_room(1, 0)?;
+        if self.can_pay(c, price) {
+            let user = UserKey::make(alloc, &user_of(i))?;
+            let moment = u64::from(i);
+            self.book.sell(c, price, moment, moment + HELD, Some(user));
+        }
+        Ok(())
+    }
+
+    // Whether the campaign is there, has that much left, and there is room in the list. The price is not 0.
+    fn can_pay(&self, c: u32, price: Nanos) -> bool
+        ensures there { IsTrue result → (1 ≤ c) × (c ≤ length self.now.campaigns) }
+        ensures few { IsTrue result → length self.now.sales < 4194304 }
+        ensures free { IsTrue result → (d : Funds) → committed_of c (get_or self.now.campaigns (c - 1) d).gone self.now.sales + price ≤ (get_or self.now.campaigns (c - 1) d).budget }
+    {
+        if c < 1 || self.campaigns < c || self.book.sales() >= MOST_SALES {
+            return false;
+        }
+        let left = self.book.free(c);
+        0 < price.get() && price.get() <= left.get()
+    }
+
+    // How many sales count for the users, each for the campaign of the user's sale.
+    fn count_shown(&self) -> u64 {
+        let mut shown: u64 = 0;
+        for i in 0..self.sales {
+            let c = self.campaign_of(i).unwrap_or(0);
+            shown = shown.saturating_add(self.book.shown(c, &user_of(i), 3_600, 0));
+        }
+        shown
+    }
+
+    fn bill_half(&mut self) -> u64 {
+        let mut billed: u64 = 0;
+        for i in 0..self.sales / 2 {
+            if self.book.bill(2 * u64::from(i) + 1).is_ok() {
+                billed = billed.saturating_add(1);
+            }
+        }
+        billed
+    }
+
+    fn sweep_all(&mut self) -> u64 {
+        let mut expired: u64 = 0;
+        for moment in 0..u64::from(self.sales) + HELD {
+            expired = expired.saturating_add(self.book.sweep(moment));
+        }
+        expired
+    }
+}
