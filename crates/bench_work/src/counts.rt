@@ -6,7 +6,7 @@ use exact_json::{Items, Members, Value};
 use rtb_num::Txt;
 
 /// What was counted so far, each number up to multiples of 2^64.
-#[derive(Clone, Copy, Debug, PartialEq, Eq)]
+#[derive(Clone, Copy)]
 pub(crate) struct Counts {
     /// Nulls, booleans, numbers, strings, arrays and objects.
     pub values: u64,

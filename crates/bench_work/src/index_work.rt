@@ -11,7 +11,7 @@ use std::sync::ledger::Ledger;
 use target_expr::{Assignment, Expr};
 
 /// How many campaigns were found, up to multiples of 2^64, and the checksum of their numbers.
-#[derive(Clone, Copy, Debug, PartialEq, Eq)]
+#[derive(Clone, Copy)]
 pub(crate) struct Sums {
     pub found: u64,
     pub check: u64,

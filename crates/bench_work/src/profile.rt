@@ -1,7 +1,7 @@
 use target_expr::Attr;
 
 /// What the generated campaigns ask for, and what the impressions have.
-#[derive(Clone, Copy, Debug, PartialEq, Eq)]
+#[derive(Clone, Copy)]
 pub(crate) enum Profile {
     /// Attributes with thousands of values: each campaign wants few impressions.
     Selective,
@@ -12,7 +12,7 @@ pub(crate) enum Profile {
 /// An attribute, and how its values are drawn. A number of bits is drawn from `least` on, of `widths`
 /// many, and then a value of so many bits: value v comes about as 1 / (v + 2^`least`), by the law of
 /// Zipf and Mandelbrot.
-#[derive(Clone, Copy, Debug)]
+#[derive(Clone, Copy)]
 pub(crate) struct Field {
     pub attr: Attr,
     pub least: u8,

@@ -3,7 +3,7 @@ ghost use Rattle.std.specs.Prelude.{◌≡◌};
 use crate::profile::Profile;
 
 /// How campaigns are found for an impression.
-#[derive(Clone, Copy, Debug, PartialEq, Eq)]
+#[derive(Clone, Copy)]
 pub(crate) enum Way {
     /// Through the index.
     Find,
@@ -14,7 +14,7 @@ pub(crate) enum Way {
 }
 
 /// Work on an index: how many campaigns it has, and how many impressions they are found for.
-#[derive(Clone, Copy, Debug, PartialEq, Eq)]
+#[derive(Clone, Copy)]
 pub(crate) struct Work {
     pub way: Way,
     pub profile: Profile,
