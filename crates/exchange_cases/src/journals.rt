@@ -1,14 +1,26 @@
-//! The call `recover | CONTENT | CALLS`: what is told of the journal on a disk with this content, where the
-//! calls of the disk with these numbers fail.
-use case_lines::numbers_in;
+//! Calls of `recovery`: what is told of journals.
+use case_lines::{done, numbers_in};
 use journal_file::JournalFault;
 use recovery::recover;
 use rtb_disk::{Disk, MemDisk};
 use rtb_num::{Txt, write_decimal};
 use std::alloc::{AllocError, Global};
 
-/// Appends the line, or why there is none.
-pub fn put_recovery(
+/// Answers a call of this area, or tells that it is none.
+///
+/// - `recover | CONTENT | CALLS`: what is told of the journal on a disk with this content, where the calls of the
+///   disk with these numbers fail.
+pub fn answer(alloc: Global, call: &[u8], args: &[Txt], out: &mut Txt) -> Result<bool, AllocError> {
+    match args {
+        [content, fails] if call == b"recover".as_slice() => {
+            done(put_recovery(alloc, content, fails.as_bytes(), out))
+        }
+        _ => Ok(false),
+    }
+}
+
+// Appends the line, or why there is none.
+fn put_recovery(
     alloc: Global,
     content: &Txt,
     fails: &[u8],

@@ -1,4 +1,6 @@
 //! Calls of `link_door`: links and doors in memory.
+ghost use Rattle.std.specs.Prelude.{◌≢◌, [], IfOk};
+
 use case_lines::{done, kept, numbers_in, paired};
 use link_door::{Door, Link, MemDoor, MemLink};
 use rtb_num::{Failed, List, Txt, write_decimal};
@@ -151,6 +153,15 @@ fn put_links(alloc: Global, line: &[u8], links: &mut List<MemLink>) -> Result<()
         links.push(MemLink::new(alloc, left, List::new(alloc)))?;
     }
     Ok(())
+}
+
+// The moment 1000, which repeats.
+pub(crate) fn one_moment(alloc: Global) -> Result<List<u64>, AllocError>
+    ensures { IfOk result (λ moments. moments ≢ []) }
+{
+    let mut moments = List::new(alloc);
+    moments.push(1000)?;
+    Ok(moments)
 }
 
 fn tell_faults(faults: u64, out: &mut Txt) -> Result<(), AllocError> {

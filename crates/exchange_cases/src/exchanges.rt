@@ -15,26 +15,32 @@ ghost use Rattle.std.specs.Prelude.{◌≡◌, ◌+◌, ◌≤◌, ◌<◌, ◌^
 ghost use Rattle.auction_core.specs.Draft.{IsReady, found_of, is_valid_command};
 ghost use Rattle.plain_exchange.specs.Effects.{edits_in};
 
-use crate::message::{Sent, put_answer, read_sent};
+use crate::answers::{put_answer, put_reply};
+use crate::sent::{Sent, read_sent};
 use auction_core::{ApplyFault, Change, Command, Core, Draft, Effect, Reply};
+use case_lines::done;
 use command_read::{CommandFault, read_command};
 use rtb_num::{List, Txt};
-use rtb_response::write_reply;
 use rtb_types::BidRequest;
 use std::alloc::{AllocError, Global};
 use std::mem;
 
-// How long a sale is held where nothing is said.
-const TTL: u64 = 300_000;
+/// How long a sale is held where nothing is said, in milliseconds.
+pub const TTL: u64 = 300_000;
 
 // So many edits no case comes to.
 const MOST_EDITS: u64 = 9_223_372_036_854_775_808;
 
-// What stands in front of the addresses of notices.
-const PUBLIC: &[u8] = b"http://x.example";
+/// Answers the call, or tells that it is none of this area.
+pub fn answer(alloc: Global, call: &[u8], args: &[Txt], out: &mut Txt) -> Result<bool, AllocError> {
+    if call == b"exchange".as_slice() {
+        return done(put_answers(alloc, args, out));
+    }
+    Ok(false)
+}
 
-/// Appends the answers to the fields' messages.
-pub fn put_answers(alloc: Global, fields: &[Txt], out: &mut Txt) -> Result<(), AllocError> {
+// Appends the answers to the fields' messages.
+fn put_answers(alloc: Global, fields: &[Txt], out: &mut Txt) -> Result<(), AllocError> {
     let mut exchange = Exchange::new(alloc, ttl_of(fields))?;
     let answered = exchange.take_all(alloc, fields, out);
     drop(exchange);
@@ -68,7 +74,7 @@ struct Exchange {
 
 impl Exchange {
     fn new(alloc: Global, ttl: u64) -> Result<Exchange, AllocError> {
-        let public = Txt::from_slice(alloc, PUBLIC)?;
+        let public = public_text(alloc)?;
         Ok(Exchange {
             core: Core::new(alloc, ttl),
             follower: Core::new(alloc, ttl),
@@ -194,10 +200,15 @@ impl Exchange {
             moment,
             out,
         )?;
-        let answered = put_reply(alloc, command, &reply, &self.public, out);
+        let answered = put_reply(alloc, request_in(command), &reply, Some(&self.public), out);
         drop(reply);
         answered
     }
+}
+
+/// What stands in front of the addresses of notices.
+pub fn public_text(alloc: Global) -> Result<Txt, AllocError> {
+    Txt::from_slice(alloc, b"http://x.example")
 }
 
 // Appends the answer, behind those before it.
@@ -206,17 +217,6 @@ fn put_next(answer: &[u8], out: &mut Txt) -> Result<(), AllocError> {
         return out.extend(answer);
     }
     out.extend_all(&[b"; ", answer])
-}
-
-fn put_reply(
-    alloc: Global,
-    command: &Command,
-    reply: &Reply,
-    public: &Txt,
-    out: &mut Txt,
-) -> Result<(), AllocError> {
-    let answer = write_reply(alloc, request_in(command), reply, Some(public))?;
-    put_answer(&answer, out)
 }
 
 fn reply_to(

@@ -1,13 +1,14 @@
 //! Calls of `command_read` and `rtb_response`: what a message asks for, and the answer to a reply.
+use crate::answers::{put_answer, put_reply};
+use crate::sent::message_of;
 use budget_book::Totals;
 use campaign::Facts;
 use campaign_store::Limit;
-use case_lines::done;
+use case_lines::{done, number_in};
 use command_read::{CommandFault, read_command};
-use http_wire::{Allow, Answer, Message};
+use http_wire::Message;
 use plain_exchange::{Command, Reply};
 use rtb_num::{Micros, Nanos, Txt, write_decimal};
-use rtb_response::write_reply;
 use std::alloc::{AllocError, Global};
 
 /// Answers a call of this area, or tells that it is none.
@@ -27,10 +28,11 @@ pub fn answer(alloc: Global, call: &[u8], args: &[Txt], out: &mut Txt) -> Result
             done(put_asked(alloc, method, target, body, out))
         }
         [name, number] if call == b"reply".as_slice() => {
-            done(put_reply(alloc, name.as_bytes(), number.as_bytes(), out))
+            done(put_reply_of(alloc, name.as_bytes(), number.as_bytes(), out))
         }
         [state, amount] if call == b"report".as_slice() => {
-            done(put_report(alloc, state.as_bytes(), number_of(amount.as_bytes()), out))
+            let micros = number_in(amount.as_bytes()).unwrap_or(0);
+            done(put_report(alloc, state.as_bytes(), micros, out))
         }
         [limit] if call == b"full".as_slice() => done(put_full(alloc, limit.as_bytes(), out)),
         _ => Ok(false),
@@ -48,39 +50,6 @@ fn put_asked(
     let written = put_reading(alloc, &message, out);
     drop(message);
     written
-}
-
-// The message of these parts.
-pub(crate) fn message_of(
-    alloc: Global,
-    method: &[u8],
-    target: &[u8],
-    body: &[u8],
-) -> Result<Message, AllocError> {
-    let mut message = Message {
-        method: Txt::new(alloc),
-        target: Txt::new(alloc),
-        body: Txt::new(alloc),
-        closes: false,
-    };
-    match fill(&mut message, method, target, body) {
-        Ok(()) => Ok(message),
-        Err(refused) => {
-            drop(message);
-            Err(refused)
-        }
-    }
-}
-
-fn fill(
-    message: &mut Message,
-    method: &[u8],
-    target: &[u8],
-    body: &[u8],
-) -> Result<(), AllocError> {
-    message.method.extend(method)?;
-    message.target.extend(target)?;
-    message.body.extend(body)
 }
 
 fn put_reading(alloc: Global, message: &Message, out: &mut Txt) -> Result<(), AllocError> {
@@ -124,42 +93,22 @@ fn put_number(word: &[u8], n: u64, out: &mut Txt) -> Result<(), AllocError> {
     write_decimal(n, out)
 }
 
-// The status, the methods if there are any, and the body.
-pub(crate) fn put_answer(answer: &Answer, out: &mut Txt) -> Result<(), AllocError> {
-    write_decimal(u64::from(answer.status), out)?;
-    match answer.allow {
-        Allow::None => {}
-        Allow::Post => out.extend(b" POST")?,
-        Allow::GetPost => out.extend(b" GET, POST")?,
-    }
-    if answer.body.is_empty() {
-        return Ok(());
-    }
-    out.extend_all(&[b" ", answer.body.as_bytes()])
-}
-
-fn put_reply(alloc: Global, name: &[u8], number: &[u8], out: &mut Txt) -> Result<(), AllocError> {
-    match reply_of(name, number_of(number)) {
+fn put_reply_of(
+    alloc: Global,
+    name: &[u8],
+    number: &[u8],
+    out: &mut Txt,
+) -> Result<(), AllocError> {
+    match reply_of(name, number_in(number).unwrap_or(0)) {
         Some(reply) => put_answer_to(alloc, reply, out),
         None => out.extend(b"no such reply"),
     }
 }
 
 fn put_answer_to(alloc: Global, reply: Reply, out: &mut Txt) -> Result<(), AllocError> {
-    let answer = write_reply(alloc, None, &reply, None);
+    let written = put_reply(alloc, None, &reply, None, out);
     drop(reply);
-    let answer = answer?;
-    let written = put_answer(&answer, out);
-    drop(answer);
     written
-}
-
-// The number that the digits spell, and 0 where there is none.
-fn number_of(digits: &[u8]) -> u64 {
-    match str::from_utf8(digits) {
-        Ok(text) => text.parse::<u64>().unwrap_or(0),
-        Err(_) => 0,
-    }
 }
 
 fn reply_of(name: &[u8], number: u64) -> Option<Reply> {

@@ -1,5 +1,6 @@
 //! Calls of `rtb_response` for impressions that were sold.
-use crate::commands::{message_of, put_answer};
+use crate::answers::put_reply;
+use crate::sent::message_of;
 use campaign_read::read_campaign;
 use campaign_store::{SharedRecord, make_record};
 use case_lines::{done, kept};
@@ -8,7 +9,6 @@ use exact_json::{Doc, read};
 use http_wire::Message;
 use plain_exchange::{Command, Reply, Sold};
 use rtb_num::{List, Micros, Txt};
-use rtb_response::write_reply;
 use std::alloc::{AllocError, Global};
 
 /// Answers a call of this area, or tells that it is none.
@@ -39,7 +39,7 @@ fn put_sold(
     } else {
         Some(public)
     };
-    let written = put_reply(alloc, request, &reply, public, out);
+    let written = put_answer_to(alloc, request, &reply, public, out);
     drop(reply);
     written
 }
@@ -57,7 +57,7 @@ fn push_sales(alloc: Global, sales: &[Txt], sold: &mut List<Sold>) -> Result<(),
     Ok(())
 }
 
-fn put_reply(
+fn put_answer_to(
     alloc: Global,
     request: &Txt,
     reply: &Reply,
@@ -96,12 +96,7 @@ fn put_response_to(
     out: &mut Txt,
 ) -> Result<(), AllocError> {
     match command {
-        Command::Auction(request) => {
-            let answer = write_reply(alloc, Some(request), reply, public)?;
-            let written = put_answer(&answer, out);
-            drop(answer);
-            written
-        }
+        Command::Auction(request) => put_reply(alloc, Some(request), reply, public, out),
         _ => out.extend(b"no request"),
     }
 }

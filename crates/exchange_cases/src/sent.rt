@@ -1,7 +1,8 @@
-//! Messages of cases, and what is told of answers.
+//! Messages that the words of cases stand for.
 use crate::bodies::body_of;
-use http_wire::{Allow, Answer, Message};
-use rtb_num::{Txt, write_decimal};
+use case_lines::kept;
+use http_wire::Message;
+use rtb_num::Txt;
 use std::alloc::{AllocError, Global};
 
 /// A message, and its moment in milliseconds.
@@ -40,42 +41,47 @@ fn make_sent(
 
 fn message_to(alloc: Global, method: &str, text: &str) -> Result<Message, AllocError> {
     match text.split_once(" ") {
-        Some((target, body)) => message_of(alloc, method, target, body),
-        None => message_of(alloc, method, text, ""),
+        Some((target, body)) => message_with(alloc, method, target, body),
+        None => message_with(alloc, method, text, ""),
     }
 }
 
-fn message_of(
+fn message_with(
     alloc: Global,
     method: &str,
     target: &str,
     body: &str,
 ) -> Result<Message, AllocError> {
-    let method = Txt::from_slice(alloc, method.as_bytes())?;
-    let target = Txt::from_slice(alloc, target.as_bytes())?;
     let body = body_of(alloc, body)?;
-    Ok(Message {
-        method,
-        target,
-        body,
+    let message = message_of(alloc, method.as_bytes(), target.as_bytes(), body.as_bytes());
+    drop(body);
+    message
+}
+
+/// The message of these parts.
+pub fn message_of(
+    alloc: Global,
+    method: &[u8],
+    target: &[u8],
+    body: &[u8],
+) -> Result<Message, AllocError> {
+    let mut message = Message {
+        method: Txt::new(alloc),
+        target: Txt::new(alloc),
+        body: Txt::new(alloc),
         closes: false,
-    })
+    };
+    let filled = fill(&mut message, method, target, body);
+    kept(message, filled)
 }
 
-/// Appends the status, the methods if there are any, and the body.
-pub fn put_answer(answer: &Answer, out: &mut Txt) -> Result<(), AllocError> {
-    write_decimal(u64::from(answer.status), out)?;
-    out.extend(methods(answer.allow))?;
-    if answer.body.is_empty() {
-        return Ok(());
-    }
-    out.extend_all(&[b" ", answer.body.as_bytes()])
-}
-
-fn methods(allow: Allow) -> &'static [u8] {
-    match allow {
-        Allow::None => b"",
-        Allow::Post => b" POST",
-        Allow::GetPost => b" GET, POST",
-    }
+fn fill(
+    message: &mut Message,
+    method: &[u8],
+    target: &[u8],
+    body: &[u8],
+) -> Result<(), AllocError> {
+    message.method.extend(method)?;
+    message.target.extend(target)?;
+    message.body.extend(body)
 }

@@ -3,7 +3,7 @@ ghost use Rattle.std.specs.Prelude.{◌≡◌, ◌<◌};
 
 use crate::pieces::Pieces;
 use crate::small_service::Small;
-use case_lines::{done, kept, numbers_in};
+use case_lines::{done, kept, number_in, numbers_in};
 use link_door::MemLink;
 use rtb_base::Steps;
 use rtb_num::{List, Txt, write_decimal};
@@ -58,7 +58,8 @@ fn serve_times(
     out: &mut Txt,
 ) -> Result<(), AllocError> {
     let all = repeat(alloc, times, text)?;
-    let came = cut_everywhere(alloc, all.as_bytes(), number_in(step));
+    let step = usize::try_from(number_in(step).unwrap_or(0)).unwrap_or(usize::MAX);
+    let came = cut_everywhere(alloc, all.as_bytes(), step);
     drop(all);
     tell_length(came, out)
 }
@@ -98,20 +99,13 @@ fn put_length(came: &Came, out: &mut Txt) -> Result<(), AllocError> {
     write_decimal(came.sent.len() as u64, out)
 }
 
-fn number_in(word: &[u8]) -> usize {
-    match str::from_utf8(word) {
-        Ok(text) => text.parse::<usize>().unwrap_or(0),
-        Err(_) => 0,
-    }
-}
-
 fn repeat(alloc: Global, times: &[u8], text: &[u8]) -> Result<Txt, AllocError> {
     let mut all = Txt::new(alloc);
-    let filled = put_times(number_in(times), text, &mut all);
+    let filled = put_times(number_in(times).unwrap_or(0), text, &mut all);
     kept(all, filled)
 }
 
-fn put_times(times: usize, text: &[u8], out: &mut Txt) -> Result<(), AllocError> {
+fn put_times(times: u64, text: &[u8], out: &mut Txt) -> Result<(), AllocError> {
     for _ in 0..times {
         out.extend(text)?;
     }

@@ -1,7 +1,6 @@
 //! Runs of all commands over a world in memory, which has one disk and one door.
-ghost use Rattle.std.specs.Prelude.{◌≢◌, [], IfOk};
-
-use crate::commands::{tell, words_in};
+use crate::outside::one_moment;
+use crate::try_runs::{tell, words_in};
 use case_lines::{done, numbers_in};
 use exchange_run::run;
 use link_door::{MemDoor, MemWorld, NoPause};
@@ -41,14 +40,6 @@ fn doors_of(alloc: Global, fails: &[u8]) -> Result<List<MemDoor>, AllocError> {
     let mut doors = List::new(alloc);
     doors.push(door)?;
     Ok(doors)
-}
-
-fn one_moment(alloc: Global) -> Result<List<u64>, AllocError>
-    ensures { IfOk result (λ moments. moments ≢ []) }
-{
-    let mut moments = List::new(alloc);
-    moments.push(1000)?;
-    Ok(moments)
 }
 
 fn world_of(

@@ -1,27 +1,42 @@
-//! The calls `serve` and `serve_crash`: links of messages to an exchange over a journal on an empty disk.
+//! Calls of `one_worker`: links of messages to an exchange over a journal on an empty disk.
 //!
 //! A link's field has its messages, `METHOD TARGET BODY`, with ` ; ` between two; `bodies.rt` says what BODY
 //! stands for. Each comes at the moment 1000.
-ghost use Rattle.std.specs.Prelude.{◌≢◌, [], IfOk};
-
 use crate::bodies::body_of;
+use crate::exchanges::{TTL, public_text};
 use crate::journals::tell;
-use case_lines::numbers_in;
+use crate::outside::one_moment;
+use case_lines::{done, numbers_in, put_space};
 use link_door::{MemDoor, MemLink, NoPause};
 use one_worker::{DoorEnd, Exchange, Served, serve_door};
 use rtb_disk::MemDisk;
 use rtb_num::{List, Txt, write_decimal};
 use std::alloc::{AllocError, Global};
 
-// How long a sale is held, in milliseconds.
-const TTL: u64 = 300_000;
-
 // How many calls an append makes, and one more.
-const STOPS: u64 = 7;
+const STOPS: usize = 7;
 
-/// What was sent on each link that came back, with ` / ` behind each, how the door ended, and what is told of
-/// the journal then. The disk's calls and the calls for a link that have these numbers fail.
-pub fn put_served(
+/// Answers a call of this area, or tells that it is none.
+///
+/// - `serve_door | CALLS | CALLS | LINK | ..`: what was sent on each link that came back, with ` / ` behind each,
+///   how the door ended, and what is told of the journal then. The disk's calls and the calls for a link that have
+///   these numbers fail.
+/// - `serve_crash | LINK | LINK`: eight letters for each stop of the disk, at each call of the last link's messages
+///   in turn, and last not at all: what a crash leaves by the picks 0 to 7 says what the journal says before these
+///   messages, `b`, or after them, `a`.
+pub fn answer(alloc: Global, call: &[u8], args: &[Txt], out: &mut Txt) -> Result<bool, AllocError> {
+    match args {
+        [disk, door, links @ ..] if call == b"serve_door".as_slice() => {
+            done(put_served(alloc, disk.as_bytes(), door.as_bytes(), links, out))
+        }
+        [before, ..] if call == b"serve_crash".as_slice() => {
+            done(put_crashes(alloc, before, args, out))
+        }
+        _ => Ok(false),
+    }
+}
+
+fn put_served(
     alloc: Global,
     disk_fails: &[u8],
     door_fails: &[u8],
@@ -43,11 +58,6 @@ pub fn put_served(
             out.extend(b"not opened")
         }
     }
-}
-
-// What stands in front of the addresses of notices.
-fn public_text(alloc: Global) -> Result<Txt, AllocError> {
-    Txt::from_slice(alloc, b"http://x.example")
 }
 
 fn put_all(
@@ -90,9 +100,7 @@ fn put_journal(alloc: Global, disk: &MemDisk, pick: u64, out: &mut Txt) -> Resul
     tell(alloc, disk.after_crash(pick)?, out)
 }
 
-/// Eight letters for each stop of the disk, at each call of the last link's messages in turn, and last not at all:
-/// what a crash leaves by the picks 0 to 7 says what the journal says before these messages, `b`, or after them, `a`.
-pub fn put_crashes(
+fn put_crashes(
     alloc: Global,
     before: &Txt,
     links: &[Txt],
@@ -102,9 +110,10 @@ pub fn put_crashes(
     let calls = calls_for(alloc, &first)?;
     let told_before = told_of(alloc, &first)?;
     let told_after = told_of(alloc, links)?;
-    for stop in 1..=STOPS {
-        put_space(stop, out)?;
-        let disk = disk_behind(alloc, links, Some(calls.saturating_add(stop)))?;
+    for place in 0..STOPS {
+        put_space(place, out)?;
+        let stop = calls.saturating_add(1).saturating_add(place as u64);
+        let disk = disk_behind(alloc, links, Some(stop))?;
         let told = put_letters(alloc, &disk, &told_before, &told_after, out);
         drop(disk);
         told?;
@@ -149,14 +158,6 @@ fn told_behind(alloc: Global, disk: &MemDisk, pick: u64) -> Result<Txt, AllocErr
     Ok(told)
 }
 
-// A space before each word but the first.
-fn put_space(stop: u64, out: &mut Txt) -> Result<(), AllocError> {
-    if stop > 1 {
-        out.push(b' ')?;
-    }
-    Ok(())
-}
-
 fn letter(is_before: bool, is_after: bool) -> u8 {
     if is_before {
         return b'b';
@@ -193,16 +194,7 @@ fn door_of(alloc: Global, links: &[Txt], fails: List<u64>) -> Result<MemDoor, Al
     for link in links {
         given.push(link_of(alloc, link.as_bytes())?)?;
     }
-    MemDoor::new(alloc, given, moments(alloc)?, fails)
-}
-
-// The moment 1000, which repeats.
-fn moments(alloc: Global) -> Result<List<u64>, AllocError>
-    ensures { IfOk result (λ moments. moments ≢ []) }
-{
-    let mut moments = List::new(alloc);
-    moments.push(1000)?;
-    Ok(moments)
+    MemDoor::new(alloc, given, one_moment(alloc)?, fails)
 }
 
 fn link_of(alloc: Global, field: &[u8]) -> Result<MemLink, AllocError> {

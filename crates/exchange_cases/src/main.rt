@@ -1,0 +1,123 @@
+//! The program `exchange_cases`: reads cases of the exchange from its parts to its commands, a line each, and prints
+//! those that are answered otherwise than they say. Before them it prints what links and doors do over sockets.
+//!
+//! `case_lines` says what a case is; each area has a module with its calls. `small_service.rt` and `pieces.rt` have
+//! the service and the link of conversations, `bodies.rt` which bodies go by short names, `sent.rt` which messages
+//! the words of a case stand for, and `answers.rt` what is told of answers.
+#![tactic(auto)]
+
+mod answers;
+mod bodies;
+mod commands;
+mod conversations;
+mod exchanges;
+mod journals;
+mod markup;
+mod messages;
+mod offers;
+mod outside;
+mod pieces;
+mod runs;
+mod sales;
+mod sent;
+mod serving;
+mod small_service;
+mod sockets;
+mod try_runs;
+
+use case_lines::{Areas, run_cases};
+use rtb_num::{Sink, StdSink, StdSource, Txt};
+use std::alloc::{AllocError, Global};
+use std::io;
+use std::process::ExitCode;
+
+// The report on sockets and on all cases of standard input, or the status of what stood in the way.
+fn main(rt: HostRuntime) -> ExitCode {
+    let mut source = StdSource::new(rt.reader());
+    let mut sink = StdSink::new(io::writer(&rt));
+    if !tell_sockets(&rt, &mut sink) {
+        return ExitCode::from(1);
+    }
+    ExitCode::from(run_cases::<ExchangeCalls, _, _>(rt.alloc(), &mut source, &mut sink).code())
+}
+
+// Whether what was tried over sockets was written.
+fn tell_sockets<O: Sink>(rt: &HostRuntime, sink: &mut O) -> bool {
+    let mut tried = Txt::new(rt.alloc());
+    if sockets::put_tried(rt, &mut tried).is_err() {
+        return false;
+    }
+    sink.write(tried.as_bytes()).is_ok()
+}
+
+// The areas, lower ones first.
+struct ExchangeCalls;
+
+impl Areas for ExchangeCalls {
+    fn answer(alloc: Global, call: &[u8], args: &[Txt], out: &mut Txt) -> Result<bool, AllocError> {
+        if answer_of_parts(alloc, call, args, out)? {
+            return Ok(true);
+        }
+        if answer_of_messages(alloc, call, args, out)? {
+            return Ok(true);
+        }
+        answer_of_exchanges(alloc, call, args, out)
+    }
+}
+
+// Clearing, markup and the wire.
+fn answer_of_parts(
+    alloc: Global,
+    call: &[u8],
+    args: &[Txt],
+    out: &mut Txt,
+) -> Result<bool, AllocError> {
+    if offers::answer(alloc, call, args, out)? {
+        return Ok(true);
+    }
+    if markup::answer(alloc, call, args, out)? {
+        return Ok(true);
+    }
+    if messages::answer(alloc, call, args, out)? {
+        return Ok(true);
+    }
+    if outside::answer(alloc, call, args, out)? {
+        return Ok(true);
+    }
+    conversations::answer(alloc, call, args, out)
+}
+
+// What messages ask for, and what is answered.
+fn answer_of_messages(
+    alloc: Global,
+    call: &[u8],
+    args: &[Txt],
+    out: &mut Txt,
+) -> Result<bool, AllocError> {
+    if commands::answer(alloc, call, args, out)? {
+        return Ok(true);
+    }
+    sales::answer(alloc, call, args, out)
+}
+
+// An exchange, its journal, and the commands that run one.
+fn answer_of_exchanges(
+    alloc: Global,
+    call: &[u8],
+    args: &[Txt],
+    out: &mut Txt,
+) -> Result<bool, AllocError> {
+    if exchanges::answer(alloc, call, args, out)? {
+        return Ok(true);
+    }
+    if journals::answer(alloc, call, args, out)? {
+        return Ok(true);
+    }
+    if serving::answer(alloc, call, args, out)? {
+        return Ok(true);
+    }
+    if runs::answer(alloc, call, args, out)? {
+        return Ok(true);
+    }
+    try_runs::answer(alloc, call, args, out)
+}
