@@ -1,0 +1,4 @@
+pub mod Times
+pub mod Hiring
+mod Selling
+mod Valid
