@@ -1,8 +1,10 @@
 //! The jobs. Each answers how it ended.
 use crate::appends::{Outcome, append_blocks};
+use crate::cases::NamedWork;
 use crate::messages::Piece;
+use crate::named_work::bench_run;
 use crate::{auctions, book, messages, turns};
-use bench_work::bench_run;
+use case_lines::run_cases;
 use rtb_disk::FileDisk;
 use rtb_io::{ReadFault, Status, read_all};
 use rtb_num::{Sink, StdSink, StdSource, Txt};
@@ -52,6 +54,9 @@ fn run<T: Threads + Wait + Sync>(rt: &HostRuntime, threads: &T, job: &[Txt]) -> 
     }
     if let Some(piece) = Piece::from_word(name) {
         return run_messages(rt, piece, words);
+    }
+    if name == b"cases".as_slice() {
+        return Ok(try_cases(rt, words));
     }
     Ok(run_work(rt, job))
 }
@@ -239,10 +244,31 @@ fn tell_messages(rt: &HostRuntime, piece: Piece, times: u32, bytes: &[u8]) -> St
     }
 }
 
-// ---- JSON and the index
+// ---- named work
 
+// Behind `json N` a word may say how many bytes of standard input it takes.
 fn run_work(rt: &HostRuntime, job: &[Txt]) -> Status {
+    match job.split_last() {
+        Some((size, words)) if words.len() == 2 => match number_in(size) {
+            Some(size) => do_work(rt, words, u64::from(size)),
+            None => Status::Usage,
+        },
+        _ => do_work(rt, job, u64::MAX),
+    }
+}
+
+fn do_work(rt: &HostRuntime, words: &[Txt], most: u64) -> Status {
+    let mut source = StdSource::new(rt.reader().take(most));
+    let mut sink = StdSink::new(io::writer(rt));
+    bench_run(rt.alloc(), words, &mut source, &mut sink)
+}
+
+// Tries the cases that are left on standard input.
+fn try_cases(rt: &HostRuntime, words: &[Txt]) -> Status {
+    if !words.is_empty() {
+        return Status::Usage;
+    }
     let mut source = StdSource::new(rt.reader());
     let mut sink = StdSink::new(io::writer(rt));
-    bench_run(rt.alloc(), job, &mut source, &mut sink)
+    run_cases::<NamedWork, _, _>(rt.alloc(), &mut source, &mut sink)
 }

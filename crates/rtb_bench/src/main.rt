@@ -1,9 +1,11 @@
 //! The program `rtb_bench`: parts of the exchange, each measured by itself. Its words are a job, or several
 //! with the word `then` between two:
 //!
-//! - `json N`: what is left of standard input is read as JSON so many times;
+//! - `json N`: what is left of standard input is read as JSON so many times; `json N SIZE` takes so many bytes of
+//!   it;
 //! - `find PROFILE CAMPAIGNS N`, and `scan` and `entries` with the same words: work on an index of generated
 //!   campaigns, for so many impressions;
+//! - `cases`: the cases of these that are left on standard input (`cases.rt`);
 //! - `turns WORK COUNT ..`: each of so many threads takes so many turns under the lock, with that many steps of
 //!   work in each;
 //! - `appends FILE COUNT`: a journal is made of that file anew, so many blocks of 30 bytes are appended, and they
@@ -21,8 +23,10 @@
 mod appends;
 mod auctions;
 mod book;
+mod cases;
 mod jobs;
 mod messages;
+mod named_work;
 mod turns;
 
 use rtb_io::Status;

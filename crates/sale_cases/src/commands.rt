@@ -1,5 +1,4 @@
-//! Runs of the commands of `exchange_run`, and of the work of `bench_work`.
-use bench_work::bench_run;
+//! Runs of the commands of `exchange_run`.
 use case_lines::{done, numbers_in};
 use exchange_run::{explain, try_run};
 use rtb_num::{Failed, List, MemSink, MemSource, Sink, Source, Txt, write_decimal};
@@ -8,8 +7,8 @@ use std::alloc::{AllocError, Global};
 /// Answers a call of this area, or tells that it is none. WORDS are words with one space between two,
 /// and READS and WRITES the numbers of the reads and the writes that fail, from 1 on.
 ///
-/// - `try | WORDS | REQUEST`, `bench | WORDS | INPUT`: the status, and what is written.
-/// - `try_failing | WORDS | REQUEST | READS | WRITES`, `bench_failing | ..`: the same.
+/// - `try | WORDS | REQUEST`: the status, and what is written.
+/// - `try_failing | WORDS | REQUEST | READS | WRITES`: the same.
 /// - `try_slow | WORDS | REQUEST | WRITES`: the same, where a write takes one byte.
 /// - `try_took | WORDS | REQUEST`: how many bytes are taken from the source.
 /// - `explain | WORDS`: what is said of words that are of no command.
@@ -20,9 +19,9 @@ pub fn answer(alloc: Global, call: &[u8], args: &[Txt], out: &mut Txt) -> Result
             done(run_slowly(alloc, line.as_bytes(), input, writes.as_bytes(), out))
         }
         [line, input] => of_two(alloc, call, line.as_bytes(), input, out),
-        [line, input, reads, writes] => {
+        [line, input, reads, writes] if call == b"try_failing".as_slice() => {
             let run = run_failing(alloc, reads.as_bytes(), writes.as_bytes())?;
-            run.answer(alloc, call, line.as_bytes(), input, out)
+            done(run.of_try(alloc, line.as_bytes(), input, out))
         }
         _ => Ok(false),
     }
@@ -46,9 +45,6 @@ fn of_two(
     };
     if call == b"try".as_slice() {
         return done(run.of_try(alloc, line, input, out));
-    }
-    if call == b"bench".as_slice() {
-        return done(run.of_bench(alloc, line, input, out));
     }
     if call == b"try_took".as_slice() {
         return done(count_taken(alloc, line, input, out));
@@ -78,23 +74,6 @@ impl Run {
         ))
     }
 
-    fn answer(
-        self,
-        alloc: Global,
-        call: &[u8],
-        line: &[u8],
-        input: &Txt,
-        out: &mut Txt,
-    ) -> Result<bool, AllocError> {
-        if call == b"try_failing".as_slice() {
-            return done(self.of_try(alloc, line, input, out));
-        }
-        if call == b"bench_failing".as_slice() {
-            return done(self.of_bench(alloc, line, input, out));
-        }
-        Ok(false)
-    }
-
     fn of_try(
         self,
         alloc: Global,
@@ -106,19 +85,6 @@ impl Run {
         let (mut source, mut sink) = self.ends(alloc, input)?;
         let status = try_run(alloc, words.as_slice(), &mut source, &mut sink);
         tell(status, sink.written(), out)
-    }
-
-    fn of_bench(
-        self,
-        alloc: Global,
-        line: &[u8],
-        input: &Txt,
-        out: &mut Txt,
-    ) -> Result<(), AllocError> {
-        let words = words_in(alloc, line)?;
-        let (mut source, mut sink) = self.ends(alloc, input)?;
-        let status = bench_run(alloc, words.as_slice(), &mut source, &mut sink);
-        tell(status.code(), sink.written(), out)
     }
 }
 
