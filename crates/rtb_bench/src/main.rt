@@ -1,23 +1,48 @@
-//! The program `rtb_bench`: a named piece of work, done a given number of times, on standard input or on
-//! generated campaigns.
+//! The program `rtb_bench`: parts of the exchange, each measured by itself. Its words are a job, or several
+//! with the word `then` between two:
+//!
+//! - `json N`: what is left of standard input is read as JSON so many times; `json N SIZE` takes so many bytes of
+//!   it;
+//! - `find PROFILE CAMPAIGNS N`, and `scan` and `entries` with the same words: work on an index of generated
+//!   campaigns, for so many impressions;
+//! - `cases`: the cases of these that are left on standard input (`cases.rt`);
+//! - `turns WORK COUNT ..`: each of so many threads takes so many turns under the lock, with that many steps of
+//!   work in each;
+//! - `appends FILE COUNT`: a journal is made of that file anew, so many blocks of 30 bytes are appended, and they
+//!   are read again;
+//! - `book CAMPAIGNS SALES`: a book with so many campaigns and so many sales, where each line of standard input is
+//!   a step (`book.rt`), up to an empty line;
+//! - `auctions CAMPAIGNS COUNT`: an exchange with so many campaigns, where each line of standard input is a bid
+//!   request that is asked so many times (`auctions.rt`), up to an empty line;
+//! - `message N SIZE`, and `head` and `link` with the same words: work on a message, so many bytes of standard
+//!   input, done so many times (`messages.rt`).
+//!
+//! What it prints is the same on every run, and never a time: the caller measures.
 #![tactic(auto)]
 
-use bench_work::bench_run;
+mod appends;
+mod auctions;
+mod book;
+mod cases;
+mod jobs;
+mod messages;
+mod named_work;
+mod turns;
+
 use rtb_io::Status;
-use rtb_num::{StdSink, StdSource, Txt};
+use rtb_num::Txt;
 use std::process::ExitCode;
 use std::rt::Env;
 use std::{env, io};
 
-fn main(rt: HostRuntime) -> ExitCode {
+fn main(rt: HostRuntime) -> io::Result<ExitCode> {
     match words_of(&rt) {
         Ok(words) => {
-            let mut source = StdSource::new(rt.reader());
-            let mut sink = StdSink::new(io::writer(&rt));
-            let status = bench_run(rt.alloc(), words.as_slice(), &mut source, &mut sink);
-            ExitCode::from(status.code())
+            let ended = jobs::run_all(&rt, &rt, words.as_slice());
+            drop(words);
+            Ok(ExitCode::from(ended?.code()))
         }
-        Err(fault) => ExitCode::from(status_of(&fault).code()),
+        Err(fault) => Ok(ExitCode::from(status_of(&fault).code())),
     }
 }
 
@@ -30,7 +55,7 @@ fn words_of<R: Env + AllocGlobal>(rt: &R) -> io::Result<Vec<Txt>> {
     Ok(words)
 }
 
-// Words that are not UTF-8 name no work.
+// Words that are not UTF-8 name no job.
 fn status_of(fault: &io::Error) -> Status {
     match fault.kind() {
         io::ErrorKind::OutOfMemory => Status::Memory,

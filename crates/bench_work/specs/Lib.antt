@@ -1,4 +1,0 @@
-pub mod Counts
-pub mod Answer
-pub mod Found
-pub mod Work

@@ -1,2 +1,0 @@
-mod Selling
-mod Valid

@@ -1,5 +1,0 @@
-use Rattle.part_bench.proofs.Hiring.{looks}
-use Rattle.part_bench.proofs.turns.jobs.look.Goals as goal
-
-pub returns : goal.returns
-returns g c = looks _ _ _ _ _ _ c.requires c.enter-seat.ensures.seat c.leave-seat.ensures

@@ -1,0 +1,7 @@
+pub mod Times
+pub mod Hiring
+pub mod Sums
+pub mod Totals
+pub mod Whole
+mod Selling
+mod Valid

@@ -1,0 +1,5 @@
+pub mod Turns
+pub mod Counts
+pub mod Answer
+pub mod Found
+pub mod Work
