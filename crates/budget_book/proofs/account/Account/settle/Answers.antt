@@ -1,0 +1,5 @@
+use Rattle.std.proofs.Common.{rules}
+use Rattle.budget_book.proofs.account.Account.settle.Goals as goal
+
+pub returns : goal.returns
+returns c = search rules

@@ -1,0 +1,11 @@
+use Rattle.std.proofs.Common.{rules}
+use Rattle.recovery.proofs.blocks.apply_block.Goals as goal
+
+pub returns-in-Err-Torn-clause-follows : goal.returns-in-Err-Torn-clause-follows
+returns-in-Err-Torn-clause-follows c = search rules
+
+pub returns-in-Err-Unfit-clause-follows : goal.returns-in-Err-Unfit-clause-follows
+returns-in-Err-Unfit-clause-follows c = search rules
+
+pub returns-in-Ok-done-clause-follows : goal.returns-in-Ok-done-clause-follows
+returns-in-Ok-done-clause-follows c = search rules
