@@ -1,4 +1,4 @@
-use Rattle.std.proofs.Common.{◌≡◌, ℕ, ◌+◌, ◌≤◌, Bool, true, false, refl, sym, subst, List, Result, Ok, Err, arith}
+use Rattle.std.proofs.Common.{◌≡◌, ℕ, true, false, refl, sym, subst, Result, Ok, Err, arith}
 use Rattle.std.specs.Prelude.{OnOk, OnErr}
 use Rattle.std.specs.Result.{is_err}
 use Rattle.std.proofs.lemmas.Bool.{false≢true, ne_eqb, or_from}
