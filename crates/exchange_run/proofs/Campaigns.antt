@@ -1,9 +1,9 @@
 -- Words that are campaigns.
-use Rattle.std.proofs.Common.{◌≡◌, ℕ, ◌+◌, ◌<◌, ◌≤◌, nat_le, List, [], ◌∷◌, ◌++◌, length, take, drop, get_or, Bool, true, false, cond, Option, None, Some, is_some, option_map, option_and_then, refl, sym, ap, ◌∙◌, arith, append_assoc, take-append-drop, length-take}
+use Rattle.std.proofs.Common.{◌≡◌, ℕ, ◌+◌, ◌<◌, ◌≤◌, nat_le, List, [], ◌∷◌, ◌++◌, length, take, drop, get_or, Bool, true, false, cond, Option, None, Some, is_some, option_map, option_and_then, refl, sym, ap, ◌∙◌, arith, append_assoc, take-append-drop}
 use Rattle.std.specs.Prelude.{IsSome, unwrap_or}
-use Rattle.std.specs.List.{after_first, before_first, enumerate_from, list_all, list_any}
+use Rattle.std.specs.List.{after_first, before_first, list_all, list_any}
 use Rattle.std.proofs.lemmas.Bool.{and_parts, leb-true}
-use Rattle.std.proofs.lemmas.List.{map_push, take_more}
+use Rattle.std.proofs.lemmas.List.{take_more}
 use Rattle.exchange_run.specs.Words.{Campaign, amount_of, bid_of, campaign_of, campaigns_of, domain_of, is_at, is_within}
 use Rattle.exchange_run.specs.Making.{campaigns_named, is_short}
 use Rattle.exchange_run.proofs.Each as each

@@ -1,5 +1,5 @@
 -- Which status has the number of a sink that failed, and how lines are put together.
-use Rattle.std.proofs.Common.{◌≡◌, ◌≢◌, ◌⊎◌, true, inl, inr, sym, ℕ, ◌<◌, List, [], ◌∷◌, ◌++◌, length, ap, ◌∙◌, append_assoc, refl, arith}
+use Rattle.std.proofs.Common.{◌≡◌, ◌≢◌, ◌⊎◌, inl, inr, sym, ℕ, ◌<◌, List, [], ◌∷◌, ◌++◌, length, ap, ◌∙◌, append_assoc, refl, arith}
 use Rattle.rtb_io.specs.Statuses.{code_of}
 use Rattle.rtb_io.specs.declared.status.Status.{Status}
 use Rattle.rtb_io.specs.declared.status.Status.TheVariants.{Done, Refused, Usage, NoDoor, NoDisk, JournalFailed, Damaged, NotWritten, DoorFailed, Memory, NotRead}

@@ -68,7 +68,6 @@ pub fn store_failed_text(closes: bool) -> &'static [u8]
 }
 
 // Appends the answer, or a front of it where memory is refused.
-#[tactic(auto, unfolding(crate::specs::Answers::answer_text))]
 fn push_answer(answer: &Answer, closes: bool, out: &mut Txt) -> Result<(), AllocError>
     ensures ok { OnOk result (out.new ≡ out.old ++ answer_text answer.now closes) }
     ensures front { (more : List ℕ) × (out.new ≡ out.old ++ more) }

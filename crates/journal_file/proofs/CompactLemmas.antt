@@ -1,11 +1,11 @@
 -- What the calls of a compaction leave.
-use Rattle.std.proofs.Common.{◌≡◌, ◌≢◌, ◌⊎◌, inl, inr, ℕ, ◌+◌, ◌-◌, ◌<◌, ◌≤◌, min, max, List, [], ◌∷◌, ◌++◌, length, take, drop, get_or, refl, sym, ◌∙◌, ap, subst, arith, append_assoc, length-append, length-drop, take-append-drop, Result, Ok, Err, MatchResult}
-use Rattle.std.proofs.lemmas.List.{take_at, drop_all, append-nil, take-take, length-take, drop_more}
+use Rattle.std.proofs.Common.{◌≡◌, ◌≢◌, inl, inr, ℕ, ◌+◌, ◌<◌, ◌≤◌, min, List, [], ◌∷◌, ◌++◌, length, take, drop, refl, sym, ◌∙◌, ap, subst, arith, append_assoc, length-append, length-drop, take-append-drop, Result, Ok, Err, MatchResult}
+use Rattle.std.proofs.lemmas.List.{drop_all, append-nil, take-take, length-take}
 use Rattle.std.proofs.lemmas.Bool.{cases_eq}
 use Rattle.byte_fields.specs.Encodings.{eight_bytes}
 use Rattle.byte_fields.proofs.Numbers.{length-eight}
-use Rattle.rtb_disk.specs.Stores.{Store, Change, write, cut, EachImage, Always, Fails, Torn, TornCut, changed, settled, overwritten}
-use Rattle.rtb_disk.proofs.Moments.{Keeps, always_changed, always_failed, always_settled, always_same, always_then, always_map}
+use Rattle.rtb_disk.specs.Stores.{Store, Change, write, cut, EachImage, Always, Fails, TornCut, changed, settled, overwritten}
+use Rattle.rtb_disk.proofs.Moments.{Keeps, always_changed, always_failed, always_same, always_then}
 use Rattle.rtb_disk.proofs.Writes.{written_behind, front_kept, byte_kept}
 use Rattle.journal_file.specs.Blocks.{HasBlocks, IsName, block_bytes, compacted_name, end_of, front_of, open_blocks}
 use Rattle.journal_file.specs.Unfinished.{BeginsZero, IsUnfinished, IsUnfinishedOr}

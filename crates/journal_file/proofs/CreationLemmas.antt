@@ -1,9 +1,8 @@
 -- What the writes of a creation leave.
-use Rattle.std.proofs.Common.{◌≡◌, ◌≢◌, ◌⊎◌, inl, inr, ℕ, ◌+◌, ◌-◌, ◌<◌, ◌≤◌, min, max, List, [], ◌∷◌, ◌++◌, length, take, drop, get_or, true, refl, sym, ◌∙◌, ap, subst, arith, append_assoc, length-append, length-drop, take-append-drop}
-use Rattle.std.specs.Prelude.{slice_index}
-use Rattle.std.proofs.lemmas.List.{drop_all, append-nil, drop_more, length-take}
+use Rattle.std.proofs.Common.{◌≡◌, ◌≢◌, inl, inr, ℕ, ◌<◌, ◌≤◌, List, [], ◌∷◌, ◌++◌, length, drop, get_or, refl, sym, ◌∙◌, ap, subst, arith, length-drop}
+use Rattle.std.proofs.lemmas.List.{drop_all, drop_more}
 use Rattle.std.proofs.lemmas.Bool.{cases_eq}
-use Rattle.rtb_disk.specs.Stores.{Store, Change, write, EachImage, Always, Fails, Torn, changed, settled, overwritten}
+use Rattle.rtb_disk.specs.Stores.{Store, Change, write, EachImage, Always, Fails, changed, settled, overwritten}
 use Rattle.rtb_disk.proofs.Moments.{Keeps, always_changed, always_failed, always_settled, always_then, always_map}
 use Rattle.rtb_disk.proofs.Writes.{written_behind, front_kept, byte_kept}
 use Rattle.journal_file.specs.Blocks.{HasBlocks, IsName, IsTornCreation, StandsFor, created_name, front_of, open_blocks}

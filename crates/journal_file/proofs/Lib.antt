@@ -1,4 +1,5 @@
 pub mod Writing
+mod Reaching
 pub mod Stopping
 pub mod PayloadLemmas
 pub mod GateLemmas

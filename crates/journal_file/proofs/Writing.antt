@@ -1,14 +1,14 @@
 -- What the calls of an append leave.
-use Rattle.std.proofs.Common.{◌≡◌, ◌≢◌, inl, inr, ℕ, ◌+◌, ◌<◌, ◌≤◌, List, [], ◌∷◌, ◌++◌, length, take, drop, true, refl, sym, ◌∙◌, ap, subst, arith, append_assoc, length-append, length-drop}
+use Rattle.std.proofs.Common.{◌≡◌, inl, inr, ℕ, ◌+◌, ◌<◌, ◌≤◌, List, [], ◌∷◌, ◌++◌, length, take, drop, refl, sym, ◌∙◌, ap, subst, arith, append_assoc, length-append, length-drop}
 use Rattle.std.proofs.lemmas.List.{length-take, append-nil}
 use Rattle.std.proofs.lemmas.Bool.{cases_eq}
-use Rattle.rtb_disk.specs.Stores.{Store, Change, write, EachImage, IsImage, Always, Fails, Torn, changed, settled, overwritten}
+use Rattle.rtb_disk.specs.Stores.{Store, Change, write, EachImage, IsImage, Always, Fails, changed, settled, overwritten}
 use Rattle.rtb_disk.specs.Images.{torn_part}
 use Rattle.rtb_disk.proofs.Moments.{Keeps, always_changed, always_failed, always_settled, always_then}
 use Rattle.rtb_disk.proofs.Writes.{written_behind, front_kept, byte_kept}
 use Rattle.byte_fields.specs.Encodings.{eight_bytes}
 use Rattle.byte_fields.proofs.Numbers.{length-eight}
-use Rattle.journal_file.specs.Blocks.{HasBlocks, HasBehind, IsName, block_bytes, end_of, front_of, open_blocks}
+use Rattle.journal_file.specs.Blocks.{HasBlocks, HasBehind, block_bytes, end_of, front_of, open_blocks}
 use Rattle.journal_file.specs.Standing.{IsBeforeOrAfter}
 
 zero≢one : ◌≡◌ {A = ℕ} 0 1 → ⊥

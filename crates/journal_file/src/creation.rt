@@ -45,9 +45,7 @@ pub(crate) fn create<D: Disk>(disk: &mut D, size: u64) -> Result<(), Failed>
     ensures cause { CountsErrors (D.faults disk.old) (D.faults disk.new) result }
 {
     if size < 9 {
-        create_anew(disk)?;
-        return Ok(());
+        return create_anew(disk);
     }
-    name_and_open(disk)?;
-    Ok(())
+    name_and_open(disk)
 }

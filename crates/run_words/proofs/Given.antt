@@ -1,5 +1,5 @@
 -- What a parse gives, as the definitions say it.
-use Rattle.std.proofs.Common.{◌≡◌, ◌∙◌, List, [], ◌∷◌, Option, None, Some, Bool, true, false, ap, refl, sym, inl, inr}
+use Rattle.std.proofs.Common.{◌≡◌, ◌∙◌, List, [], ◌∷◌, None, Some, Bool, true, false, ap, refl, sym, inl, inr}
 use Rattle.std.specs.Prelude.{◌&&◌}
 use Rattle.clap.specs.Kinds.{HasKind, Kinds}
 use Rattle.clap.specs.Faults.{is_free_app}

@@ -31,7 +31,9 @@ pub(crate) fn take_turn<S: Service, L: Link>(
     ensures once { RoseAtMost 1 (L.faults link.old) (L.faults link.new) }
 {
     let given = service.answer(message);
-    if reply(&given, is_last(message, number), out, link).is_err() {
+    let sent = reply(&given, is_last(message, number), out, link);
+    drop(given);
+    if sent.is_err() {
         return Some(LinkEnd::LinkFailed);
     }
     if message.closes {

@@ -1,4 +1,4 @@
-use Rattle.std.proofs.Common.{◌+◌, ◌<◌, ◌≤◌, ◌^◌, ◌∙◌, ℕ, ap, option_map, arith}
+use Rattle.std.proofs.Common.{◌+◌, ◌∙◌, ℕ, ap, option_map, arith}
 use Rattle.exchange_run.specs.Words.{Campaign}
 use Rattle.exchange_run.proofs.Additions.{added, fits, on_ok, one_edit}
 use Rattle.exchange_run.proofs.opening.add.Goals as goal

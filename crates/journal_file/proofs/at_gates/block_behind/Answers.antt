@@ -1,4 +1,4 @@
-use Rattle.std.proofs.Common.{◌≡◌, ◌∙◌, ap, sym, subst, refl, List, ℕ, ◌∷◌, ◌++◌, drop}
+use Rattle.std.proofs.Common.{◌∙◌, ap, sym, subst, refl, List, ℕ, ◌∷◌, drop}
 use Rattle.std.specs.Prelude.{Option, Some, None}
 use Rattle.rtb_disk.specs.Stores.{Store}
 use Rattle.journal_file.specs.Damage.{IsBlockAt}

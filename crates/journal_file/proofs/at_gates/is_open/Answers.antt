@@ -1,5 +1,4 @@
-use Rattle.std.proofs.Common.{◌≡◌, ◌∙◌, ap, drop, sym}
-use Rattle.std.specs.Prelude.{Ok}
+use Rattle.std.proofs.Common.{◌∙◌, ap, drop, sym}
 use Rattle.journal_file.specs.Gates.{begins_open}
 use Rattle.journal_file.proofs.GateLemmas.{first_bytes, open_whole, shut_whole}
 use Rattle.journal_file.proofs.at_gates.is_open.Goals as goal

@@ -1,4 +1,4 @@
-use Rattle.std.proofs.Common.{◌≡◌, List, ℕ, drop, subst}
+use Rattle.std.proofs.Common.{List, ℕ, drop, subst}
 use Rattle.journal_file.specs.Sizes.{IsSizeAt}
 use Rattle.journal_file.proofs.GateLemmas.{first_bytes, size_whole}
 use Rattle.journal_file.proofs.at_gates.size_at.Goals as goal

@@ -1,5 +1,5 @@
-use Rattle.std.proofs.Common.{◌≡◌, ◌⊎◌, ◌+◌, ◌<◌, ◌≤◌, ◌∙◌, ap, sym, subst, refl, inl, inr, List, ℕ, [], ◌∷◌, ◌++◌, length, drop, true, arith}
-use Rattle.std.specs.Prelude.{Option, Some, None}
+use Rattle.std.proofs.Common.{◌+◌, ◌∙◌, ap, subst, List, ℕ, length, drop, arith}
+use Rattle.std.specs.Prelude.{Option, Some}
 use Rattle.std.proofs.Common.{length-drop}
 use Rattle.rtb_disk.specs.Stores.{Store}
 use Rattle.journal_file.specs.Sizes.{IsSizeAt}

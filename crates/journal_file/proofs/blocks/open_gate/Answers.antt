@@ -1,4 +1,4 @@
-use Rattle.std.proofs.Common.{◌≡◌, List, ℕ, [], ◌∷◌, ◌++◌, arith}
+use Rattle.std.proofs.Common.{[], ◌∷◌, ◌++◌, arith}
 use Rattle.rtb_disk.specs.Stores.{overwritten, write}
 use Rattle.rtb_disk.specs.Images.{torn_part}
 use Rattle.rtb_disk.proofs.Moments.{always_failed}

@@ -1,4 +1,4 @@
-use Rattle.std.proofs.Common.{◌≡◌, ◌+◌, ◌<◌, ◌≤◌, ◌∙◌, ap, sym, subst, inl, inr, List, ℕ, [], ◌∷◌, ◌++◌, length, true, arith}
+use Rattle.std.proofs.Common.{◌<◌, ◌∙◌, length}
 use Rattle.rtb_disk.specs.Stores.{cut}
 use Rattle.rtb_disk.proofs.Moments.{always_then}
 use Rattle.journal_file.specs.Unfinished.{IsUnfinished}

@@ -1,4 +1,4 @@
-use Rattle.std.proofs.Common.{◌≡◌, ◌∙◌, inr, take}
+use Rattle.std.proofs.Common.{◌∙◌, inr, take}
 use Rattle.rtb_disk.specs.Stores.{Fails, cut}
 use Rattle.rtb_disk.specs.Images.{cut_part}
 use Rattle.journal_file.proofs.Stopping.{on_err}

@@ -1,9 +1,9 @@
-use Rattle.std.proofs.Common.{◌≡◌, ◌+◌, ◌<◌, ◌≤◌, ◌∙◌, ap, sym, subst, inl, inr, List, ℕ, [], ◌∷◌, ◌++◌, length, true, arith}
+use Rattle.std.proofs.Common.{◌<◌, ◌∙◌, length, arith}
 use Rattle.rtb_disk.specs.Stores.{write}
 use Rattle.rtb_disk.proofs.Moments.{always_changed, always_failed, always_map, always_then}
 use Rattle.journal_file.specs.Unfinished.{BeginsZero, IsUnfinished}
 use Rattle.journal_file.proofs.CreationLemmas.{always_not_synced, always_synced, each_synced}
-use Rattle.journal_file.proofs.CompactLemmas.{begins_unfinished, name_reads, short_keeps, short_unfinished, zero_keeps, zero_reads}
+use Rattle.journal_file.proofs.CompactLemmas.{begins_unfinished, short_keeps, short_unfinished, zero_keeps, zero_reads}
 use Rattle.journal_file.proofs.compaction.name_short.Goals as goal
 
 pub returns-in_err-write_synced-clause-any_moment : goal.returns-in_err-write_synced-clause-any_moment

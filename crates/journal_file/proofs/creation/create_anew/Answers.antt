@@ -1,5 +1,5 @@
-use Rattle.std.proofs.Common.{◌≡◌, ◌<◌, ◌∙◌, List, ℕ, [], ◌∷◌, length, true}
-use Rattle.rtb_disk.specs.Stores.{Store, write}
+use Rattle.std.proofs.Common.{◌<◌, ◌∙◌, [], ◌∷◌, length}
+use Rattle.rtb_disk.specs.Stores.{write}
 use Rattle.rtb_disk.proofs.Moments.{always_then}
 use Rattle.journal_file.specs.Blocks.{StandsFor, created_name}
 use Rattle.journal_file.specs.Creations.{IsUnopened}

@@ -1,5 +1,5 @@
-use Rattle.std.proofs.Common.{◌≡◌, ◌∙◌, inl, ap, subst, sym, List, ℕ, [], ◌∷◌, ◌++◌, true}
-use Rattle.rtb_disk.specs.Stores.{Store, write, overwritten}
+use Rattle.std.proofs.Common.{◌∙◌, inl, [], ◌∷◌}
+use Rattle.rtb_disk.specs.Stores.{write}
 use Rattle.rtb_disk.proofs.Moments.{always_then}
 use Rattle.journal_file.specs.Blocks.{HasBlocks, StandsFor, created_name}
 use Rattle.journal_file.specs.Creations.{IsNamed, IsUnopened}

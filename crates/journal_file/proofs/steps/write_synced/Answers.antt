@@ -1,4 +1,4 @@
-use Rattle.std.proofs.Common.{◌≡◌, ◌≤◌, ◌∙◌, inr, length, arith}
+use Rattle.std.proofs.Common.{◌∙◌, inr, length, arith}
 use Rattle.rtb_disk.specs.Stores.{Fails, overwritten, write}
 use Rattle.rtb_disk.specs.Images.{torn_part}
 use Rattle.journal_file.proofs.Stopping.{on_err}

@@ -1,8 +1,11 @@
-use Rattle.std.proofs.Common.{◌∙◌, inl, inr, ap}
+use Rattle.std.proofs.Common.{◌∙◌, inl, inr, ap, subst, sym}
+use Rattle.std.specs.Prelude.{Err}
 use Rattle.journal_file.specs.Blocks.{journal_names}
 use Rattle.journal_file.specs.Standing.{store_of}
-use Rattle.journal_file.specs.Readings.{reads_of}
+use Rattle.journal_file.specs.Readings.{faults_read, reads_of}
 use Rattle.rtb_disk.specs.Stores.{Store}
+use Rattle.rtb_base.specs.Faults.{Rose}
+use Rattle.recovery.specs.Openings.{Opens}
 use Rattle.recovery.proofs.Completing.{completed, made_journal, still}
 use Rattle.recovery.proofs.journals.open_from.Goals as goal
 
@@ -25,3 +28,57 @@ returns-in-Err-finish-clause-any_moment g c = λ start effects has. elim (c.in-O
 pub returns-in-Err-clause-any_moment : goal.returns-in-Err-clause-any_moment
 returns-in-Err-clause-any_moment g c = λ start effects has.
     still c.args.reading effects _ start has (ap g.D.Disk.store c.into_disk.ensures ∙ c.in-Err.ensures.same)
+
+pub returns-in-Ok-finish-clause-state : goal.returns-in-Ok-finish-clause-state
+returns-in-Ok-finish-clause-state g c = c.in-Ok.ensures.opened
+
+pub returns-in-Ok-finish-clause-ttl : goal.returns-in-Ok-finish-clause-ttl
+returns-in-Ok-finish-clause-ttl g c = c.in-Ok.ensures.ttl
+
+pub returns-in-Ok-finish-clause-whole : goal.returns-in-Ok-finish-clause-whole
+returns-in-Ok-finish-clause-whole g c = c.in-Ok-finish.ensures.whole
+
+pub returns-in-Ok-finish-clause-cause : goal.returns-in-Ok-finish-clause-cause
+returns-in-Ok-finish-clause-cause g c = λ kept. tt
+
+pub returns-in-Ok-finish-clause-quiet : goal.returns-in-Ok-finish-clause-quiet
+returns-in-Ok-finish-clause-quiet g c = λ kept. c.in-Ok-finish.ensures.cause ∙ (c.in-Ok.ensures.cause kept).2 (λ e. cc)
+
+pub returns-in-Err-finish-clause-opened : goal.returns-in-Err-finish-clause-opened
+returns-in-Err-finish-clause-opened g c = λ start.
+    subst (λ e. Opens (reads_of c.args.reading) (Err e)) (sym c.in-Err-finish.ensures.cause.0) tt
+
+pub returns-in-Err-finish-clause-state : goal.returns-in-Err-finish-clause-state
+returns-in-Err-finish-clause-state g c = λ start. tt
+
+pub returns-in-Err-finish-clause-ttl : goal.returns-in-Err-finish-clause-ttl
+returns-in-Err-finish-clause-ttl g c = tt
+
+pub returns-in-Err-finish-clause-whole : goal.returns-in-Err-finish-clause-whole
+returns-in-Err-finish-clause-whole g c = tt
+
+pub returns-in-Err-finish-clause-cause : goal.returns-in-Err-finish-clause-cause
+returns-in-Err-finish-clause-cause g c = λ kept e.
+    subst (λ n. Rose n (g.D.Disk.faults c.in-Err-finish.failed.0)) ((c.in-Ok.ensures.cause kept).2 (λ e. cc)) c.in-Err-finish.ensures.cause.1
+
+pub returns-in-Err-finish-clause-quiet : goal.returns-in-Err-finish-clause-quiet
+returns-in-Err-finish-clause-quiet g c = λ kept other. absurd (other c.in-Err-finish.ensures.cause.0)
+
+pub returns-in-Err-clause-opened : goal.returns-in-Err-clause-opened
+returns-in-Err-clause-opened g c = c.in-Err.ensures.opened
+
+pub returns-in-Err-clause-state : goal.returns-in-Err-clause-state
+returns-in-Err-clause-state g c = λ start. tt
+
+pub returns-in-Err-clause-ttl : goal.returns-in-Err-clause-ttl
+returns-in-Err-clause-ttl g c = tt
+
+pub returns-in-Err-clause-whole : goal.returns-in-Err-clause-whole
+returns-in-Err-clause-whole g c = tt
+
+pub returns-in-Err-clause-cause : goal.returns-in-Err-clause-cause
+returns-in-Err-clause-cause g c = λ kept e.
+    subst (λ n. Rose (faults_read c.args.reading) n) (sym (ap g.D.Disk.faults c.into_disk.ensures)) ((c.in-Err.ensures.cause kept).1 (ap Err e))
+
+pub returns-in-Err-clause-quiet : goal.returns-in-Err-clause-quiet
+returns-in-Err-clause-quiet g c = λ kept other. ap g.D.Disk.faults c.into_disk.ensures ∙ (c.in-Err.ensures.cause kept).2 (λ e. other (cc))

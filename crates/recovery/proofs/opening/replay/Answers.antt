@@ -1,6 +1,6 @@
-use Rattle.std.proofs.Common.{◌≡◌, ◌∙◌, ap, sym, Ok, Err, Some}
+use Rattle.std.proofs.Common.{◌≡◌, ◌∙◌, ap, sym, Some}
 use Rattle.auction_core.specs.Core.{CoreState}
-use Rattle.journal_file.specs.Readings.{faults_read, has_ended, reads_of}
+use Rattle.journal_file.specs.Readings.{reads_of}
 use Rattle.recovery.specs.Openings.{IsAtEnd, IsMadeBy, Opens}
 use Rattle.recovery.proofs.Walking.{always_ok, handed, handed_cause, handed_ended, handed_whole, made_empty}
 use Rattle.recovery.proofs.opening.replay.Goals as goal

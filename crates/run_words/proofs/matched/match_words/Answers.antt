@@ -1,4 +1,4 @@
-use Rattle.std.proofs.Common.{rules, ◌≡◌, ℕ, Bor, List, map}
+use Rattle.std.proofs.Common.{ℕ, Bor, List, map}
 use Rattle.clap.specs.Words.{app_of}
 use Rattle.run_words.proofs.Given.{gives, gives_none, is_simple_app}
 use Rattle.run_words.proofs.matched.match_words.Goals as goal

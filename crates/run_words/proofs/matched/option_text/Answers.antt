@@ -1,5 +1,4 @@
-use Rattle.std.proofs.Common.{rules, ap, ◌∙◌, sym, [], ◌≡◌}
-use Rattle.std.specs.Prelude.{unwrap_or}
+use Rattle.std.proofs.Common.{rules}
 use Rattle.clap.proofs.WalkLemmas.{first_value-rows}
 use Rattle.run_words.proofs.matched.option_text.Goals.{in-Some+in_ok-extend, in_default}
 use Rattle.run_words.proofs.matched.option_text.Goals as goal

@@ -1,5 +1,5 @@
-use Rattle.std.proofs.Common.{rules, ◌≡◌, ◌∙◌, ap, refl, true}
-use Rattle.clap.specs.Words.{App, app_of, is_simple_and_free}
+use Rattle.std.proofs.Common.{◌≡◌, ◌∙◌, ap, refl, true}
+use Rattle.clap.specs.Words.{app_of, is_simple_and_free}
 use Rattle.run_words.specs.Commands.{recover_app}
 use Rattle.run_words.proofs.recover.options_in.Goals as goal
 

@@ -1,5 +1,4 @@
-use Rattle.std.proofs.Common.{rules, refl, subst, ◌≡◌, ℕ, List}
-use Rattle.std.specs.Str.{IsUtf8}
+use Rattle.std.proofs.Common.{rules, refl}
 use Rattle.run_words.proofs.Utf8.{is_no_text, is_text}
 use Rattle.run_words.proofs.texts.text.Goals as goal
 

@@ -1,4 +1,4 @@
-use Rattle.std.proofs.Common.{◌≡◌, ◌+◌, ◌<◌, ◌≤◌, ◌∙◌, ap, sym, subst, inl, inr, List, ℕ, [], ◌∷◌, ◌++◌, length, true, arith}
+use Rattle.std.proofs.Common.{◌+◌, ◌∙◌, ap, ℕ, length}
 use Rattle.rtb_disk.proofs.Moments.{always_map}
 use Rattle.journal_file.specs.Unfinished.{BeginsZero, IsUnfinished}
 use Rattle.journal_file.proofs.CompactLemmas.{added_end, added_reads, begins_unfinished}

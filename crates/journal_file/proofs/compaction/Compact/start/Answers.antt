@@ -1,4 +1,4 @@
-use Rattle.std.proofs.Common.{◌≡◌, ◌⊎◌, ◌+◌, ◌<◌, ◌≤◌, ◌∙◌, ap, sym, subst, refl, inl, inr, List, ℕ, [], ◌∷◌, ◌++◌, length, drop, true, arith}
+use Rattle.std.proofs.Common.{◌∙◌}
 use Rattle.journal_file.proofs.CompactLemmas.{nothing_added}
 use Rattle.journal_file.proofs.GateLemmas.{first_end}
 use Rattle.journal_file.proofs.compaction.Compact.start.Goals as goal

@@ -1,5 +1,4 @@
-use Rattle.std.proofs.Common.{◌≡◌, ◌∙◌, List, ℕ}
-use Rattle.rtb_disk.specs.Stores.{Always}
+use Rattle.std.proofs.Common.{◌∙◌}
 use Rattle.rtb_disk.proofs.Moments.{always_map}
 use Rattle.journal_file.specs.Blocks.{HasBehind}
 use Rattle.journal_file.specs.Standing.{Broken, IsBeforeOrAfter}

@@ -1,5 +1,4 @@
-use Rattle.std.proofs.Common.{◌≡◌, ◌+◌, ◌∙◌, ap, inl, length, List, ℕ}
-use Rattle.rtb_disk.specs.Stores.{Always}
+use Rattle.std.proofs.Common.{◌+◌, ◌∙◌, ap, inl, length, ℕ}
 use Rattle.rtb_disk.proofs.Moments.{always_map}
 use Rattle.journal_file.specs.Blocks.{HasBlocks}
 use Rattle.journal_file.specs.Standing.{IsBeforeOrAfter}

@@ -1,8 +1,8 @@
-use Rattle.std.proofs.Common.{◌≡◌, ◌⊎◌, ◌+◌, ◌<◌, ◌≤◌, ◌∙◌, ap, sym, subst, refl, inl, inr, List, ℕ, [], ◌∷◌, ◌++◌, length, drop, true, arith}
+use Rattle.std.proofs.Common.{◌≡◌, ◌∙◌, ap, sym, subst, refl, ℕ, ◌∷◌, drop}
 use Rattle.std.specs.Prelude.{Option, Some, None, Ok, Err}
 use Rattle.rtb_disk.specs.Stores.{EachImage, Store}
 use Rattle.journal_file.specs.Blocks.{HasBlocks}
-use Rattle.journal_file.specs.Damage.{IsBlockAt, IsDamaged}
+use Rattle.journal_file.specs.Damage.{IsBlockAt}
 use Rattle.journal_file.specs.Gates.{has_gate}
 use Rattle.journal_file.specs.declared.faults.JournalFault.{JournalFault}
 use Rattle.journal_file.specs.declared.faults.JournalFault.TheVariants as fault

@@ -3,7 +3,6 @@ use Rattle.rtb_disk.specs.Stores.{Store, EachImage}
 use Rattle.journal_file.specs.Openings.{HasHeader, IsOpening}
 use Rattle.journal_file.specs.Blocks.{journal_names}
 use Rattle.journal_file.specs.declared.opening.Opening.{Opening}
-use Rattle.journal_file.specs.declared.opening.Opening.TheVariants as opening
 use Rattle.journal_file.proofs.GateLemmas.{first_end, first_front}
 use Rattle.journal_file.proofs.reading.Reading.start.Goals as goal
 
