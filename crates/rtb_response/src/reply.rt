@@ -132,14 +132,40 @@ fn report_reply(
 ) -> Result<Answer, AllocError>
     ensures { IfOk result (λ a. a ≡ object_answer 200 (report_members n live bid budget totals.now)) }
 {
-    let mut writer = object(alloc)?;
+    let mut writer = Writer::new(alloc);
+    let done = put_report(&mut writer, n, live, bid, budget, totals);
+    closed(200, writer, done)
+}
+
+// Begins the object of a report, before which nothing is written.
+fn put_report(
+    writer: &mut Writer,
+    n: u32,
+    live: bool,
+    bid: Micros,
+    budget: Nanos,
+    totals: &Totals,
+) -> Result<(), AllocError>
+    requires { writer.old ≡ blank }
+    ensures { OnOk result (writer.new ≡ in_object blank (report_members n live bid budget totals.now)) }
+{
+    writer.obj()?;
     writer.put_number(b"campaign", u64::from(n))?;
     writer.put_text(b"state", state_word(live))?;
     writer.put_micros(b"bid", bid)?;
     writer.put_nanos(b"budget", budget)?;
-    put_totals(&mut writer, totals)?;
-    let answer = close(200, writer)?;
-    Ok(answer)
+    put_totals(writer, totals)?;
+    Ok(())
+}
+
+// The answer whose body is the object, where all of it could be written.
+fn closed(status: u16, writer: Writer, done: Result<(), AllocError>) -> Result<Answer, AllocError>
+    requires ends { OnOk done (IsTrue (can_end writer)) }
+    requires whole { OnOk done (IsTrue (is_whole (end writer))) }
+    ensures { (t : _) → OnOk done ((end writer).text ≡ t) → IfOk result (λ a. a ≡ answer_with status t) }
+{
+    done?;
+    close(status, writer)
 }
 
 fn error_reply(alloc: Global, status: u16, word: &[u8]) -> Result<Answer, AllocError>
