@@ -1,7 +1,6 @@
-use Rattle.std.proofs.Common.{Result, Ok, Err, OnOk}
-use Rattle.json_out.specs.Texts.{object_text}
+use Rattle.std.proofs.Common.{Result, Ok, Err, OnOk, ap}
 use Rattle.json_out.proofs.Objects.{closes}
-use Rattle.rtb_response.specs.Replies.{report_members}
+use Rattle.rtb_response.specs.Replies.{answer, object_answer, report_members}
 use Rattle.rtb_response.proofs.reply.report_reply.Goals as goal
 
 where_done : {A B E : Type 0} (r : Result (Unit {0}) E) → (A → B) → OnOk r A → OnOk r B
@@ -25,4 +24,4 @@ returns c =
     let a = c.args in
     let put = c.put_report-done in
     let all = report_members a.n a.live a.bid a.budget a.totals.now in
-    c.closed.ensures (object_text all) (where_done put.result (λ e. (closes put.new.writer all e).2) put.ensures)
+    c.closed.ensures (object_answer 200 all) (where_done put.result (λ e. ap (answer 200) (closes put.new.writer all e).2) put.ensures)
