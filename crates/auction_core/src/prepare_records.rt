@@ -56,15 +56,7 @@ impl Core {
         ensures campaign_room { self.old.campaign_room ≤ self.new.campaign_room }
     {
         self.reserve_campaign()?;
-        let entry = copy_entry(alloc, facts, expr)?;
-        let change = addition(facts, expr)?;
-        Ok(Outcome {
-            plan: Plan::Add(entry),
-            answer: Answer::Told(Reply::Added {
-                n: self.table.count() + 1,
-            }),
-            change: Some(change),
-        })
+        added(alloc, self.table.count() + 1, facts, expr)
     }
 
     // Gives campaign `n` another record.
@@ -144,6 +136,18 @@ fn limit_of(room: Result<(), Full>) -> Option<Limit>
         Ok(()) => None,
         Err(full) => Some(full.limit),
     }
+}
+
+fn added(alloc: Global, n: u32, facts: &Facts, expr: &Expr) -> Result<Outcome, AllocError>
+    ensures { IfOk result (λ o. o ≡ does (plan.Add (record { facts = facts.now; expr = expr.now })) (reply.Added n) (change.Added facts.now expr.now)) }
+{
+    let entry = copy_entry(alloc, facts, expr)?;
+    let change = addition(facts, expr)?;
+    Ok(Outcome {
+        plan: Plan::Add(entry),
+        answer: Answer::Told(Reply::Added { n }),
+        change: Some(change),
+    })
 }
 
 fn change_within(alloc: Global, n: u32, facts: &Facts, expr: &Expr) -> Result<Outcome, AllocError>

@@ -1,8 +1,9 @@
-ghost use Rattle.std.specs.Prelude.{◌≡◌, ℕ, List, ◌+◌, ◌-◌, ◌<◌, ◌≤◌, ◌∷◌, [], ◌++◌, length, OnOk, option_map};
+ghost use Rattle.std.specs.Prelude.{◌≡◌, ℕ, List, ◌+◌, ◌-◌, ◌<◌, ◌≤◌, ◌∷◌, [], ◌++◌, length, min, OnOk, option_map};
 ghost use Rattle.std.proofs.Common.{get_or};
 ghost use Rattle.budget_book.specs.declared.account.Account.{Account};
 ghost use Rattle.budget_book.specs.Accounts.{charge};
-ghost use Rattle.budget_book.specs.Book.{IsBook, funds_of_all};
+ghost use Rattle.budget_book.specs.Book.{IsBook, funds_of_all, user_room};
+ghost use Rattle.budget_book.specs.LastSales.{Pair, number_of};
 ghost use Rattle.budget_book.specs.Users.{IsLinked, pair_with};
 
 use crate::account::Account;
@@ -13,8 +14,36 @@ use crate::user_key::Spare;
 use std::alloc::AllocError;
 use std::collections::VecDeque;
 
+// Makes room for so many sales and campaigns more. What was a book before is one after.
+pub(crate) fn reserve_all(
+    accounts: &mut Vec<Account>,
+    rows: &mut Vec<SaleRow>,
+    links: &mut Vec<u64>,
+    dues: &mut VecDeque<Due>,
+    lasts: &mut LastSales,
+    sales: u32,
+    campaigns: u32,
+) -> Result<(), AllocError>
+    ensures accounts { accounts.new.items ≡ accounts.old.items }
+    ensures rows { rows.new.items ≡ rows.old.items }
+    ensures links { links.new.items ≡ links.old.items }
+    ensures dues { dues.new.items ≡ dues.old.items }
+    ensures numbers { (p : Pair) → number_of p lasts.new ≡ number_of p lasts.old }
+    ensures sale_room { OnOk result (sales ≤ min (rows.new.cap - rows.new.len) (min (links.new.cap - links.new.len) (min (dues.new.cap - dues.new.len) (user_room lasts.new)))) }
+    ensures account_room { OnOk result (campaigns ≤ accounts.new.cap - accounts.new.len) }
+    ensures row_room_stays { rows.old.cap - rows.old.len ≤ rows.new.cap - rows.new.len }
+    ensures link_room_stays { links.old.cap - links.old.len ≤ links.new.cap - links.new.len }
+    ensures due_room_stays { dues.old.cap - dues.old.len ≤ dues.new.cap - dues.new.len }
+    ensures user_room_stays { user_room lasts.old ≤ user_room lasts.new }
+    ensures account_room_stays { accounts.old.cap - accounts.old.len ≤ accounts.new.cap - accounts.new.len }
+{
+    accounts.reserve(campaigns as usize)?;
+    reserve_lists(rows, links, dues, sales as usize)?;
+    lasts.reserve()
+}
+
 // Makes room for so many sales more in the lists.
-pub(crate) fn reserve_lists(
+fn reserve_lists(
     rows: &mut Vec<SaleRow>,
     links: &mut Vec<u64>,
     dues: &mut VecDeque<Due>,

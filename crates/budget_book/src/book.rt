@@ -7,7 +7,7 @@ ghost use Rattle.budget_book.specs.Book.{Funds, BookState, IsBook, forgotten_of,
 ghost use Rattle.budget_book.specs.Sales.{committed_of, due_count, expired, forgettable, gone_with, sale_at};
 
 use crate::account::Account;
-use crate::appending::reserve_lists;
+use crate::appending::reserve_all;
 use crate::dues::{Due, sweep_dues};
 use crate::forgetting::{add_gone, drop_front, forgettable};
 use crate::last_sales::LastSales;
@@ -70,14 +70,15 @@ impl Book {
         ensures sale_room_stays { self.old.sale_room ≤ self.new.sale_room }
         ensures campaign_room_stays { self.old.campaign_room ≤ self.new.campaign_room }
     {
-        self.accounts.reserve(campaigns as usize)?;
-        reserve_lists(
+        reserve_all(
+            &mut self.accounts,
             &mut self.rows,
             &mut self.links,
             &mut self.dues,
-            sales as usize,
-        )?;
-        self.lasts.reserve()
+            &mut self.lasts,
+            sales,
+            campaigns,
+        )
     }
 
     /// How many sales are in the list.

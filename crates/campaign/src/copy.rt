@@ -1,4 +1,4 @@
-ghost use Rattle.std.specs.Prelude.{◌≡◌, ◌≤◌, ◌<◌, ◌*◌, ◌^◌, length, All, IfOk};
+ghost use Rattle.std.specs.Prelude.{◌≡◌, ◌≤◌, ◌<◌, ◌*◌, ◌^◌, [], length, All, IfOk, OnOk};
 ghost use Rattle.std.specs.Option.{option_to_list};
 ghost use Rattle.std.specs.List.{sum_by};
 ghost use Rattle.campaign.specs.Groups.{creative_of, join, names_of};
@@ -61,10 +61,18 @@ fn copy_parts(parts: &FactParts) -> Result<FactParts, AllocError>
 {
     let alloc = allocator(parts);
     let attr = List::from_vec(Vec::from_slice(alloc, parts.attr.as_slice())?);
-    let deals = copy_texts(alloc, parts.deals.as_slice())?;
-    let creative = copy_creative(parts)?;
-    let names = copy_names(alloc, parts)?;
-    Ok(join(parts, names, attr, deals, creative))
+    let lists = both(attr, copy_texts(alloc, parts.deals.as_slice()))?;
+    let more = both(lists, copy_creative(parts))?;
+    let copies = both(more, copy_names(alloc, parts))?;
+    Ok(join(parts, copies))
+}
+
+// What was copied first, with what is copied behind it. A generic type is let go of in one step.
+fn both<A: Drop, B: Drop>(first: A, second: Result<B, AllocError>) -> Result<(A, B), AllocError>
+    ensures { (a : _) (b : _) → first ≡ a → IfOk second (λ y. y ≡ b) → IfOk result (λ r. r ≡ (a, b)) }
+{
+    let second = second?;
+    Ok((first, second))
 }
 
 // What the memory of the parts comes from.
@@ -77,30 +85,23 @@ fn copy_names(alloc: Global, parts: &FactParts) -> Result<Names, AllocError>
     ensures { IfOk result (λ names. names ≡ names_of parts.now) }
 {
     let seat = parts.seat.copy()?;
-    let adomain = parts.adomain.copy()?;
-    let cat = copy_texts(alloc, parts.cat.as_slice())?;
-    Ok(((seat, adomain), cat))
+    let texts = both(seat, parts.adomain.copy())?;
+    both(texts, copy_texts(alloc, parts.cat.as_slice()))
 }
 
 fn copy_creative(parts: &FactParts) -> Result<Creative, AllocError>
     ensures { IfOk result (λ creative. creative ≡ creative_of parts.now) }
 {
     let adm = parts.adm.copy()?;
-    let crid = parts.crid.copy()?;
-    let adid = copy_optional(&parts.adid)?;
-    Ok(((adm, crid), adid))
+    let texts = both(adm, parts.crid.copy())?;
+    both(texts, copy_optional(&parts.adid))
 }
 
 // These parts, and those numbers that are no lists.
-fn join(
-    parts: &FactParts,
-    names: Names,
-    attr: List<i32>,
-    deals: List<Txt>,
-    creative: Creative,
-) -> FactParts
-    ensures { result ≡ join parts.now names attr deals creative }
+fn join(parts: &FactParts, copies: (((List<i32>, List<Txt>), Creative), Names)) -> FactParts
+    ensures { result ≡ join parts.now copies.1 copies.0.0.0 copies.0.0.1 copies.0.1 }
 {
+    let (((attr, deals), creative), names) = copies;
     let ((seat, adomain), cat) = names;
     let ((adm, crid), adid) = creative;
     FactParts {
@@ -125,10 +126,26 @@ fn copy_texts(alloc: Global, texts: &[Txt]) -> Result<List<Txt>, AllocError>
     ensures { IfOk result (λ ts. ts ≡ texts.now) }
 {
     let mut copies = Vec::with_capacity(alloc, texts.len())?;
+    let done = put_copies(texts, &mut copies);
+    listed(copies, done)
+}
+
+fn put_copies(texts: &[Txt], copies: &mut Vec<Txt>) -> Result<(), AllocError>
+    requires { copies.old.items ≡ [] }
+    ensures { OnOk result (copies.new.items ≡ texts.now) }
+{
     for text in texts {
         copies.push(text.copy()?)?;
     }
-    Ok(List::from_vec(copies))
+    Ok(())
+}
+
+// The items as a list, where all could be put there.
+fn listed<T: Drop>(items: Vec<T>, done: Result<(), AllocError>) -> Result<List<T>, AllocError>
+    ensures { (all : _) → OnOk done (items.items ≡ all) → IfOk result (λ l. l ≡ all) }
+{
+    done?;
+    Ok(List::from_vec(items))
 }
 
 fn copy_optional(text: &Option<Txt>) -> Result<Option<Txt>, AllocError>

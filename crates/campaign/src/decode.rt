@@ -173,16 +173,19 @@ fn paired<A: Drop, B: Drop>(first: A, behind: Found<B>) -> Found<(A, B)>
 fn get_names(alloc: Global, bytes: &[u8], place: usize) -> Found<Names>
     ensures { IfOk result (IsReadAt AreNames names_bytes bytes.now place) }
 {
-    let Some((seat, next)) = get_text(alloc, bytes, place)? else {
+    let Some((texts, next)) = get_two_texts(alloc, bytes, place)? else {
         return Ok(None);
     };
-    let Some((adomain, next)) = get_text(alloc, bytes, next)? else {
+    paired(texts, get_texts(alloc, bytes, next, MOST_ITEMS))
+}
+
+fn get_two_texts(alloc: Global, bytes: &[u8], place: usize) -> Found<(Txt, Txt)>
+    ensures { IfOk result (IsReadAt (BothValid IsShort IsShort) (both_bytes text_bytes text_bytes) bytes.now place) }
+{
+    let Some((text, next)) = get_text(alloc, bytes, place)? else {
         return Ok(None);
     };
-    let Some((cat, next)) = get_texts(alloc, bytes, next, MOST_ITEMS)? else {
-        return Ok(None);
-    };
-    Ok(Some((((seat, adomain), cat), next)))
+    paired(text, get_text(alloc, bytes, next))
 }
 
 fn get_look(alloc: Global, bytes: &[u8], place: usize) -> Found<Look>
@@ -218,16 +221,10 @@ fn get_money(alloc: Global, bytes: &[u8], place: usize) -> Found<Money>
 fn get_creative(alloc: Global, bytes: &[u8], place: usize) -> Found<Creative>
     ensures { IfOk result (IsReadAt IsCreative creative_bytes bytes.now place) }
 {
-    let Some((adm, next)) = get_text(alloc, bytes, place)? else {
+    let Some((texts, next)) = get_two_texts(alloc, bytes, place)? else {
         return Ok(None);
     };
-    let Some((crid, next)) = get_text(alloc, bytes, next)? else {
-        return Ok(None);
-    };
-    let Some((adid, next)) = get_optional(alloc, bytes, next)? else {
-        return Ok(None);
-    };
-    Ok(Some((((adm, crid), adid), next)))
+    paired(texts, get_optional(alloc, bytes, next))
 }
 
 fn get_optional(alloc: Global, bytes: &[u8], place: usize) -> Found<Option<Txt>>

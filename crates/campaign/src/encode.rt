@@ -55,8 +55,7 @@ fn put_look(parts: &FactParts, out: &mut Txt) -> Result<(), AllocError>
 {
     put_size(size_of(parts), out)?;
     put_list::<Ints>(parts.attr.as_slice(), out)?;
-    put_flag(parts.secure, out)?;
-    Ok(())
+    put_flag(parts.secure, out)
 }
 
 fn put_money(parts: &FactParts, out: &mut Txt) -> Result<(), AllocError>
@@ -77,8 +76,7 @@ fn put_creative(parts: &FactParts, out: &mut Txt) -> Result<(), AllocError>
 {
     put_text(parts.adm.as_bytes(), out)?;
     put_text(parts.crid.as_bytes(), out)?;
-    put_optional(&parts.adid, out)?;
-    Ok(())
+    put_optional(&parts.adid, out)
 }
 
 // Appends one or none, or a front of it.
@@ -124,6 +122,5 @@ fn put_sides(w: i32, h: i32, out: &mut Txt) -> Result<(), AllocError>
 {
     put_flag(true, out)?;
     put_int(w, out)?;
-    put_int(h, out)?;
-    Ok(())
+    put_int(h, out)
 }

@@ -61,8 +61,7 @@ fn put_in_cap(field: CampField, out: &mut Txt) -> Result<(), AllocError>
     ensures front { (more : List ℕ) × (out.new ≡ out.old ++ more) }
 {
     put_name(CampField::Cap.member(), out)?;
-    put_member(field.member(), out)?;
-    Ok(())
+    put_member(field.member(), out)
 }
 
 // Appends the path of an entry of a list of a predicate, or a front of it.

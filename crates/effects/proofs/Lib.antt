@@ -1,3 +1,4 @@
 pub mod Bodied
+pub mod Fronts
 pub mod PartCodes
 pub mod Sequences

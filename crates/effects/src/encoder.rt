@@ -1,6 +1,7 @@
 ghost use Rattle.std.specs.Prelude.{◌≡◌, ◌≤◌, ℕ, List, true, ◌++◌, OnOk, OnErr};
 ghost use Rattle.effects.specs.Bodies.{IsTagged};
-ghost use Rattle.effects.specs.Bytes.{HasLengths, IsChange, IsEncodable, IsGone, IsRecord, body_bytes, effect_bytes, is_kept, kept_bytes};
+ghost use Rattle.byte_fields.specs.Encodings.{FitsFour, four_bytes, text_bytes};
+ghost use Rattle.effects.specs.Bytes.{AreItems, AreSome, HasLengths, IsChange, IsEncodable, IsGone, IsRecord, IsUser, body_bytes, effect_bytes, is_kept, items_bytes, kept_bytes, record_bytes};
 ghost use Rattle.effects.specs.Tags.{by_cap, tag_of};
 
 use crate::items::put_items;
@@ -8,9 +9,10 @@ use crate::parts::{put_gone, put_optional_cap, put_record, put_row};
 use crate::tag::{Tag, put_tag};
 use byte_fields::{put_eight, put_flag, put_four, put_text};
 use campaign::Facts;
-use plain_exchange::{Change, Effect, KeptCampaign};
+use plain_exchange::{Change, Effect, KeptCampaign, SoldItem};
 use rtb_num::Txt;
 use std::alloc::AllocError;
+use target_expr::Expr;
 
 /// Appends the bytes of an effect. Where memory is refused the text stays as it was.
 pub fn encode(effect: &Effect, out: &mut Txt) -> Result<(), AllocError>
@@ -77,19 +79,32 @@ fn put_body(change: &Change, out: &mut Txt) -> Result<(), AllocError>
         Change::Swept => Ok(()),
         Change::Sold(items) => put_items(items.as_slice(), out),
         Change::Added(facts, expr) => put_record(facts, expr, out),
-        Change::Changed(n, facts, expr) => {
-            put_four(*n, out)?;
-            put_record(facts, expr, out)
-        }
+        Change::Changed(n, facts, expr) => put_changed(*n, facts, expr, out),
         Change::Paused(n) | Change::Resumed(n) => put_four(*n, out),
         Change::Billed(n) | Change::Lost(n) => put_eight(*n, out),
-        Change::SoldTo(user, items) => {
-            put_text(user.as_bytes(), out)?;
-            put_items(items.as_slice(), out)
-        }
+        Change::SoldTo(user, items) => put_sold_to(user, items.as_slice(), out),
         Change::Kept(kept) => put_kept(kept, out),
         Change::KeptSale(row) => put_row(row, out),
     }
+}
+
+fn put_changed(n: u32, facts: &Facts, expr: &Expr, out: &mut Txt) -> Result<(), AllocError>
+    ensures ok { OnOk result (out.new ≡ out.old ++ (four_bytes n ++ record_bytes facts.now expr.now)) }
+    ensures front { (more : List ℕ) × (out.new ≡ out.old ++ more) }
+    ensures valid { OnOk result (FitsFour n × IsRecord facts.now expr.now) }
+{
+    put_four(n, out)?;
+    put_record(facts, expr, out)
+}
+
+fn put_sold_to(user: &Txt, items: &[SoldItem], out: &mut Txt) -> Result<(), AllocError>
+    requires { IsUser user.now × AreSome items.now }
+    ensures ok { OnOk result (out.new ≡ out.old ++ (text_bytes user.now ++ items_bytes items.now)) }
+    ensures front { (more : List ℕ) × (out.new ≡ out.old ++ more) }
+    ensures valid { OnOk result (IsUser user.now × AreItems items.now) }
+{
+    put_text(user.as_bytes(), out)?;
+    put_items(items, out)
 }
 
 fn put_kept(kept: &KeptCampaign, out: &mut Txt) -> Result<(), AllocError>

@@ -2,12 +2,12 @@ ghost use Rattle.std.specs.Prelude.{◌≡◌, ◌∷◌, [], ◌++◌, codes, d
 ghost use Rattle.std.specs.Fmt.{signed_decimal};
 ghost use Rattle.std.specs.Option.{option_copied, option_map_or};
 ghost use Rattle.campaign.specs.Kept.{size_of};
-ghost use Rattle.json_out.specs.Inside.{put_members};
+ghost use Rattle.json_out.specs.Inside.{put_member, put_members};
 ghost use Rattle.json_out.specs.Strings.{string_text};
 ghost use Rattle.json_out.specs.Writer.{put_value, takes_name, takes_value};
 ghost use Rattle.rtb_macros.specs.Macros.{filled_in};
 ghost use Rattle.rtb_num.specs.Amounts.{micros_text};
-ghost use Rattle.rtb_response.specs.Response.{ad_members, bid_text, further_members, imp_id, macro_values as values_of, notice_members, optional_array, optional_text, sale_members, seat_of, sides_members};
+ghost use Rattle.rtb_response.specs.Response.{ad_members, bid_text, further_members, imp_id, macro_values as values_of, notice_members, optional_array, optional_text, sale_members, seat_of, sides_members, text_member};
 
 use campaign::Facts;
 use json_out::Writer;
@@ -105,11 +105,27 @@ fn put_addresses(
     ensures ok { OnOk result (writer.new ≡ put_members writer.old ((codes "burl", string_text (public.now ++ codes "/bill/" ++ decimal sale)) ∷ (codes "lurl", string_text (public.now ++ codes "/lose/" ++ decimal sale)) ∷ [])) }
     ensures next { OnOk result (IsTrue (takes_name writer.new)) }
 {
-    let burl = address(alloc, public, b"/bill/", sale)?;
-    let lurl = address(alloc, public, b"/lose/", sale)?;
-    writer.put_text(b"burl", burl.as_bytes())?;
-    writer.put_text(b"lurl", lurl.as_bytes())?;
+    put_address(alloc, writer, b"burl", public, b"/bill/", sale)?;
+    put_address(alloc, writer, b"lurl", public, b"/lose/", sale)?;
     Ok(())
+}
+
+fn put_address(
+    alloc: Global,
+    writer: &mut Writer,
+    name: &[u8],
+    public: &[u8],
+    path: &[u8],
+    sale: u64,
+) -> Result<(), AllocError>
+    requires { IsTrue (takes_name writer.old) }
+    ensures ok { OnOk result (writer.new ≡ put_member writer.old (text_member name.now (public.now ++ path.now ++ decimal sale))) }
+    ensures next { OnOk result (IsTrue (takes_name writer.new)) }
+{
+    let text = address(alloc, public, path, sale)?;
+    let done = writer.put_text(name, text.as_bytes());
+    drop(text);
+    done
 }
 
 fn address(alloc: Global, public: &[u8], path: &[u8], sale: u64) -> Result<Txt, AllocError>
@@ -133,12 +149,27 @@ fn put_ad(
     ensures next { OnOk result (IsTrue (takes_name writer.new)) }
 {
     let facts = &sale.record.record().facts;
-    let markup = markup(alloc, request, sale)?;
-    writer.put_text(b"adm", markup.as_bytes())?;
+    put_markup(alloc, writer, request, sale)?;
     writer.put_one(b"adomain", facts.adomain().as_bytes())?;
     writer.put_digits(alloc, b"cid", u64::from(sale.campaign))?;
     writer.put_text(b"crid", facts.crid().as_bytes())?;
     Ok(())
+}
+
+fn put_markup(
+    alloc: Global,
+    writer: &mut Writer,
+    request: &BidRequest,
+    sale: &Sold,
+) -> Result<(), AllocError>
+    requires { IsTrue (takes_name writer.old) }
+    ensures ok { OnOk result (writer.new ≡ put_member writer.old (text_member (codes "adm") (filled_in (values_of request.now sale.now) sale.now.record.facts.adm))) }
+    ensures next { OnOk result (IsTrue (takes_name writer.new)) }
+{
+    let markup = markup(alloc, request, sale)?;
+    let done = writer.put_text(b"adm", markup.as_bytes());
+    drop(markup);
+    done
 }
 
 // The markup with the macros' values.
@@ -146,8 +177,9 @@ fn markup(alloc: Global, request: &BidRequest, sale: &Sold) -> Result<Txt, Alloc
     ensures { IfOk result (λ t. t ≡ filled_in (values_of request.now sale.now) sale.now.record.facts.adm) }
 {
     let values = macro_values(alloc, request, sale)?;
-    let text = substitute(alloc, sale.record.record().facts.adm().as_bytes(), &values)?;
-    Ok(text)
+    let text = substitute(alloc, sale.record.record().facts.adm().as_bytes(), &values);
+    drop(values);
+    text
 }
 
 fn macro_values(alloc: Global, request: &BidRequest, sale: &Sold) -> Result<MacroValues, AllocError>
@@ -155,11 +187,12 @@ fn macro_values(alloc: Global, request: &BidRequest, sale: &Sold) -> Result<Macr
 {
     let facts = &sale.record.record().facts;
     let auction = request.id.copy()?;
-    let bid = digits(alloc, sale.sale)?;
-    let imp = Txt::from_slice(alloc, imp_id(request, sale))?;
-    let seat = facts.seat().copy()?;
-    let ad = copy_if_some(facts.adid())?;
-    let price = price(alloc, sale.price)?;
+    let one = both(auction, digits(alloc, sale.sale))?;
+    let two = both(one, Txt::from_slice(alloc, imp_id(request, sale)))?;
+    let three = both(two, facts.seat().copy())?;
+    let four = both(three, copy_if_some(facts.adid()))?;
+    let all = both(four, price(alloc, sale.price))?;
+    let (((((auction, bid), imp), seat), ad), price) = all;
     Ok(MacroValues {
         auction,
         bid,
@@ -168,6 +201,14 @@ fn macro_values(alloc: Global, request: &BidRequest, sale: &Sold) -> Result<Macr
         ad,
         price,
     })
+}
+
+// What was made first, with what is made behind it. A generic type is let go of in one step.
+fn both<A: Drop, B: Drop>(first: A, second: Result<B, AllocError>) -> Result<(A, B), AllocError>
+    ensures { (a : _) (b : _) → first ≡ a → IfOk second (λ y. y ≡ b) → IfOk result (λ r. r ≡ (a, b)) }
+{
+    let second = second?;
+    Ok((first, second))
 }
 
 fn digits(alloc: Global, n: u64) -> Result<Txt, AllocError>

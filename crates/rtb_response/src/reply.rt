@@ -115,11 +115,22 @@ fn campaign_reply(alloc: Global, status: u16, n: u32) -> Result<Answer, AllocErr
 fn sale_reply(alloc: Global, sale: u64, state: &[u8]) -> Result<Answer, AllocError>
     ensures { IfOk result (λ a. a ≡ sale_answer sale state.now) }
 {
-    let mut writer = object(alloc)?;
+    let mut writer = Writer::new(alloc);
+    let done = put_sale(&mut writer, sale, state);
+    closed(200, writer, done)
+}
+
+// Begins the object of a sale, before which nothing is written.
+fn put_sale(writer: &mut Writer, sale: u64, state: &[u8]) -> Result<(), AllocError>
+    requires { writer.old ≡ blank }
+    ensures ends { OnOk result (IsTrue (can_end writer.new)) }
+    ensures whole { OnOk result (IsTrue (is_whole (end writer.new))) }
+    ensures value { OnOk result (answer_with 200 (end writer.new).text ≡ sale_answer sale state.now) }
+{
+    writer.obj()?;
     writer.put_number(b"sale", sale)?;
     writer.put_text(b"state", state)?;
-    let answer = close(200, writer)?;
-    Ok(answer)
+    Ok(())
 }
 
 fn report_reply(
@@ -132,14 +143,40 @@ fn report_reply(
 ) -> Result<Answer, AllocError>
     ensures { IfOk result (λ a. a ≡ object_answer 200 (report_members n live bid budget totals.now)) }
 {
-    let mut writer = object(alloc)?;
+    let mut writer = Writer::new(alloc);
+    let done = put_report(&mut writer, n, live, bid, budget, totals);
+    closed(200, writer, done)
+}
+
+// Begins the object of a report, before which nothing is written.
+fn put_report(
+    writer: &mut Writer,
+    n: u32,
+    live: bool,
+    bid: Micros,
+    budget: Nanos,
+    totals: &Totals,
+) -> Result<(), AllocError>
+    requires { writer.old ≡ blank }
+    ensures { OnOk result (writer.new ≡ in_object blank (report_members n live bid budget totals.now)) }
+{
+    writer.obj()?;
     writer.put_number(b"campaign", u64::from(n))?;
     writer.put_text(b"state", state_word(live))?;
     writer.put_micros(b"bid", bid)?;
     writer.put_nanos(b"budget", budget)?;
-    put_totals(&mut writer, totals)?;
-    let answer = close(200, writer)?;
-    Ok(answer)
+    put_totals(writer, totals)?;
+    Ok(())
+}
+
+// The answer whose body is the object, where all of it could be written.
+fn closed(status: u16, writer: Writer, done: Result<(), AllocError>) -> Result<Answer, AllocError>
+    requires ends { OnOk done (IsTrue (can_end writer)) }
+    requires whole { OnOk done (IsTrue (is_whole (end writer))) }
+    ensures { (a : _) → OnOk done (answer_with status (end writer).text ≡ a) → IfOk result (λ r. r ≡ a) }
+{
+    done?;
+    close(status, writer)
 }
 
 fn error_reply(alloc: Global, status: u16, word: &[u8]) -> Result<Answer, AllocError>
@@ -154,21 +191,41 @@ fn error_reply(alloc: Global, status: u16, word: &[u8]) -> Result<Answer, AllocE
 fn below_reply(alloc: Global, committed: Nanos) -> Result<Answer, AllocError>
     ensures { IfOk result (λ a. a ≡ error_answer 409 (codes "below-committed") ((codes "committed", nanos_text committed) ∷ [])) }
 {
-    let mut writer = object(alloc)?;
+    let mut writer = Writer::new(alloc);
+    let done = put_below(&mut writer, committed);
+    closed(409, writer, done)
+}
+
+fn put_below(writer: &mut Writer, committed: Nanos) -> Result<(), AllocError>
+    requires { writer.old ≡ blank }
+    ensures ends { OnOk result (IsTrue (can_end writer.new)) }
+    ensures whole { OnOk result (IsTrue (is_whole (end writer.new))) }
+    ensures value { OnOk result (answer_with 409 (end writer.new).text ≡ error_answer 409 (codes "below-committed") ((codes "committed", nanos_text committed) ∷ [])) }
+{
+    writer.obj()?;
     writer.put_text(b"error", b"below-committed")?;
     writer.put_nanos(b"committed", committed)?;
-    let answer = close(409, writer)?;
-    Ok(answer)
+    Ok(())
 }
 
 fn full_reply(alloc: Global, limit: Limit) -> Result<Answer, AllocError>
     ensures { IfOk result (λ a. a ≡ error_answer 503 (codes "full") (text_member (codes "limit") (limit_word limit) ∷ [])) }
 {
-    let mut writer = object(alloc)?;
+    let mut writer = Writer::new(alloc);
+    let done = put_full(&mut writer, limit);
+    closed(503, writer, done)
+}
+
+fn put_full(writer: &mut Writer, limit: Limit) -> Result<(), AllocError>
+    requires { writer.old ≡ blank }
+    ensures ends { OnOk result (IsTrue (can_end writer.new)) }
+    ensures whole { OnOk result (IsTrue (is_whole (end writer.new))) }
+    ensures value { OnOk result (answer_with 503 (end writer.new).text ≡ error_answer 503 (codes "full") (text_member (codes "limit") (limit_word limit) ∷ [])) }
+{
+    writer.obj()?;
     writer.put_text(b"error", b"full")?;
     writer.put_text(b"limit", word_of(limit))?;
-    let answer = close(503, writer)?;
-    Ok(answer)
+    Ok(())
 }
 
 fn word_of(limit: Limit) -> &'static [u8]

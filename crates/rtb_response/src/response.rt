@@ -2,7 +2,7 @@ ghost use Rattle.std.specs.Prelude.{◌≡◌, cond, map, IsTrue, IfOk, OnOk};
 ghost use Rattle.std.specs.List.{list_any};
 ghost use Rattle.std.specs.Option.{option_copied};
 ghost use Rattle.json_out.specs.Texts.{array_text};
-ghost use Rattle.json_out.specs.Writer.{put_value, takes_value};
+ghost use Rattle.json_out.specs.Writer.{blank, is_whole, put_value, takes_value};
 ghost use Rattle.rtb_response.specs.Response.{bid_text, is_of_seat, response_text, seat_bids, seat_of as seat_of_sale, seat_text, seats_of};
 
 use crate::bid::put_bid;
@@ -26,12 +26,37 @@ pub fn write_response(
     ensures { IfOk result (λ t. t ≡ response_text (option_copied public.entry) request.now sold.now) }
 {
     let mut writer = Writer::new(alloc);
+    let done = put_response(alloc, &mut writer, request, sold.as_slice(), public);
+    finished(writer, done)
+}
+
+// Writes the object of the response, before which nothing is written.
+fn put_response(
+    alloc: Global,
+    writer: &mut Writer,
+    request: &BidRequest,
+    sold: &[Sold],
+    public: Option<&Txt>,
+) -> Result<(), AllocError>
+    requires { writer.old ≡ blank }
+    ensures whole { OnOk result (IsTrue (is_whole writer.new)) }
+    ensures text { OnOk result (writer.new.text ≡ response_text (option_copied public.entry) request.now sold.now) }
+{
     writer.obj()?;
     writer.put_text(b"id", request.id.as_bytes())?;
     writer.name(b"seatbid")?;
-    put_seats(alloc, &mut writer, request, sold.as_slice(), public)?;
+    put_seats(alloc, writer, request, sold, public)?;
     writer.put_text(b"cur", b"USD")?;
     writer.end()?;
+    Ok(())
+}
+
+// What was written, where all of it could be.
+fn finished(writer: Writer, done: Result<(), AllocError>) -> Result<Txt, AllocError>
+    requires { OnOk done (IsTrue (is_whole writer)) }
+    ensures { (t : _) → OnOk done (writer.text ≡ t) → IfOk result (λ r. r ≡ t) }
+{
+    done?;
     Ok(writer.finish())
 }
 

@@ -103,8 +103,7 @@ fn put_banner(imp: usize, out: &mut Txt) -> Result<(), AllocError>
     ensures front { (more : List ℕ) × (out.new ≡ out.old ++ more) }
 {
     put_imp(imp, out)?;
-    put_name(b".banner", out)?;
-    Ok(())
+    put_name(b".banner", out)
 }
 
 fn put_of_pmp(imp: usize, name: &[u8], out: &mut Txt) -> Result<(), AllocError>
@@ -120,8 +119,7 @@ fn put_pmp(imp: usize, out: &mut Txt) -> Result<(), AllocError>
     ensures front { (more : List ℕ) × (out.new ≡ out.old ++ more) }
 {
     put_imp(imp, out)?;
-    put_name(b".pmp", out)?;
-    Ok(())
+    put_name(b".pmp", out)
 }
 
 fn put_of_deal(imp: usize, deal: usize, name: &[u8], out: &mut Txt) -> Result<(), AllocError>
@@ -151,7 +149,5 @@ fn put_deal(imp: usize, deal: usize, out: &mut Txt) -> Result<(), AllocError>
     ensures front { (more : List ℕ) × (out.new ≡ out.old ++ more) }
 {
     put_pmp(imp, out)?;
-    put_name(b".deals", out)?;
-    put_place(deal, out)?;
-    Ok(())
+    put_item(b".deals", deal, out)
 }

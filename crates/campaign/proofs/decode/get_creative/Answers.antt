@@ -1,22 +1,16 @@
+use Rattle.byte_fields.specs.Codes.{BothValid, both_bytes}
 use Rattle.byte_fields.specs.Encodings.{IsOptionOf, IsShort, option_bytes, text_bytes}
-use Rattle.byte_fields.proofs.Codes.{three_no_first, three_no_second, three_no_third}
+use Rattle.byte_fields.proofs.Codes.{both_code, read_no_first}
 use Rattle.byte_fields.proofs.Rows.{text_code}
 use Rattle.campaign.proofs.decode.get_creative.Goals as goal
+use Rattle.campaign.proofs.Decoding.{read_paired}
 
 pub returns-in_default : goal.returns-in_default
 returns-in_default c =
-    let none = rw c.in_default.is at c.in_ok-adm.ensures in
-    three_no_first IsShort text_bytes IsShort text_bytes (IsOptionOf IsShort) (option_bytes text_bytes) c.args.bytes.now c.args.place none
+    let none = rw c.in_default.is at c.in_ok-texts.ensures in
+    read_no_first (BothValid IsShort IsShort) (both_bytes text_bytes text_bytes) (IsOptionOf IsShort) (option_bytes text_bytes) c.args.bytes.now c.args.place none
 
-pub returns-in_default-2 : goal.returns-in_default-2
-returns-in_default-2 c =
-    let adm = rw c.in-Some.is at c.in_ok-adm.ensures in
-    let none = rw c.in_default-2.is at c.in_ok-crid.ensures in
-    three_no_second IsShort text_bytes IsShort text_bytes (IsOptionOf IsShort) (option_bytes text_bytes) text_code c.args.bytes.now c.args.place c.in-Some.adm c.in-Some.next adm none
-
-pub returns-in_default-3 : goal.returns-in_default-3
-returns-in_default-3 c =
-    let adm = rw c.in-Some.is at c.in_ok-adm.ensures in
-    let crid = rw c.in-Some-2.is at c.in_ok-crid.ensures in
-    let none = rw c.in_default-3.is at c.in_ok-adid.ensures in
-    three_no_third IsShort text_bytes IsShort text_bytes (IsOptionOf IsShort) (option_bytes text_bytes) text_code text_code c.args.bytes.now c.args.place c.in-Some.adm c.in-Some.next c.in-Some-2.crid c.in-Some-2.next adm crid none
+pub returns : goal.returns
+returns c =
+    let texts = rw c.in-Some.is at c.in_ok-texts.ensures in
+    rw c.paired.ensures (read_paired (BothValid IsShort IsShort) (both_bytes text_bytes text_bytes) (IsOptionOf IsShort) (option_bytes text_bytes) (both_code IsShort text_bytes IsShort text_bytes text_code text_code) c.args.bytes.now c.args.place c.in-Some.texts c.in-Some.next c.get_optional.result texts c.get_optional.ensures)

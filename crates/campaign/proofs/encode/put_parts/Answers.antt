@@ -30,3 +30,30 @@ returns-clause-ok c =
     c.in_ok-put_creative.ensures.ok
     ∙ ap (λ o. o ++ creative) (c.in_ok-put_money.ensures.ok ∙ ap (λ o. o ++ money) (c.in_ok-put_look.ensures.ok ∙ ap (λ o. o ++ look) c.in_ok-put_names.ensures.ok))
     ∙ onto out names look money creative ∙ ap (λ l. out ++ l) (sym (facts_is p))
+
+-- a front behind a front
+further : (o t : List ℕ) {u : List ℕ} → (more : List ℕ) × (t ≡ o ++ more) → (more : List ℕ) × (u ≡ t ++ more) → (more : List ℕ) × (u ≡ o ++ more)
+further o t f g = (f.0 ++ g.0, g.1 ∙ ap (λ l. l ++ g.0) f.1 ∙ append_assoc o f.0 g.0)
+
+pub returns-in_err-put_look-clause-front : goal.returns-in_err-put_look-clause-front
+returns-in_err-put_look-clause-front c = further c.args.out.now c.put_names.new.out c.in_ok-put_names.ensures.front c.in_err-put_look.ensures.front
+
+pub returns-in_err-put_money-clause-front : goal.returns-in_err-put_money-clause-front
+returns-in_err-put_money-clause-front c =
+    let o = c.args.out.now in
+    let look = further o c.put_names.new.out c.in_ok-put_names.ensures.front c.in_ok-put_look.ensures.front in
+    further o c.put_look.new.out look c.in_err-put_money.ensures.front
+
+pub returns-in_err-put_creative-clause-front : goal.returns-in_err-put_creative-clause-front
+returns-in_err-put_creative-clause-front c =
+    let o = c.args.out.now in
+    let look = further o c.put_names.new.out c.in_ok-put_names.ensures.front c.in_ok-put_look.ensures.front in
+    let money = further o c.put_look.new.out look c.in_ok-put_money.ensures.front in
+    further o c.put_money.new.out money c.in_err-put_creative.ensures.front
+
+pub returns-clause-front : goal.returns-clause-front
+returns-clause-front c =
+    let o = c.args.out.now in
+    let look = further o c.put_names.new.out c.in_ok-put_names.ensures.front c.in_ok-put_look.ensures.front in
+    let money = further o c.put_look.new.out look c.in_ok-put_money.ensures.front in
+    further o c.put_money.new.out money c.in_ok-put_creative.ensures.front

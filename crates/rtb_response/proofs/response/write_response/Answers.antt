@@ -1,26 +1,11 @@
-use Rattle.std.proofs.Common.{◌≡◌, ◌∙◌, ap, false, map, [], ◌∷◌}
-use Rattle.std.specs.Prelude.{codes}
+use Rattle.std.proofs.Common.{◌≡◌, subst}
+use Rattle.std.specs.Prelude.{OnOk}
 use Rattle.std.specs.Option.{option_copied}
-use Rattle.json_out.specs.declared.places.Place.TheVariants.{Object}
-use Rattle.json_out.specs.Texts.{Member, array_text}
-use Rattle.json_out.specs.Inside.{in_object, put_member}
-use Rattle.json_out.specs.Writer.{begin, blank, put_name, put_value}
-use Rattle.json_out.proofs.Objects.{closes, members_are}
-use Rattle.rtb_response.specs.Response.{seat_text, seats_of, text_member}
+use Rattle.rtb_response.specs.Response.{response_text}
 use Rattle.rtb_response.proofs.response.write_response.Goals as goal
 
 pub returns : goal.returns
 returns c =
-    let public = option_copied c.args.public in
-    let r = c.args.request.now in
-    let sold = c.args.sold.now in
-    let id : Member = text_member (codes "id") r.id in
-    let cur : Member = text_member (codes "cur") (codes "USD") in
-    let value = array_text (map (seat_text public r sold) (seats_of sold)) in
-    let first = c.in_ok-put_text.ensures.ok ∙ ap (λ t. put_member c.obj.new.self (text_member (codes "id") t)) c.as_bytes.ensures.value
-    ∙ ap (λ v. put_member v id) (c.in_ok-obj.ensures.ok ∙ ap (λ v. begin v (Object false false)) c.new-writer.ensures) in
-    let named = c.in_ok-name.ensures.ok ∙ ap (λ v. put_name v (codes "seatbid")) first in
-    let seated = c.in_ok-put_seats.ensures ∙ ap (λ l. put_value c.name.new.self (array_text (map (seat_text public r l) (seats_of l)))) c.as_slice.ensures ∙ ap (λ v. put_value v value) named in
-    let is : c.put_text-2.new.self ≡ in_object blank (id ∷ (codes "seatbid", value) ∷ cur ∷ []) =
-    c.in_ok-put_text-2.ensures.ok ∙ ap (λ v. put_member v cur) seated ∙ members_are blank [] (id ∷ (codes "seatbid", value) ∷ cur ∷ []) in
-    c.finish.ensures ∙ ap (λ v. v.text) c.in_ok-end.ensures.ok ∙ (closes c.put_text-2.new.self (id ∷ (codes "seatbid", value) ∷ cur ∷ []) is).2
+    let text = response_text (option_copied c.args.public) c.args.request.now in
+    let put = c.put_response-done in
+    c.finished.ensures (text c.args.sold.now) (subst (λ sold. OnOk put.result (put.new.writer.text ≡ text sold)) c.as_slice.ensures put.ensures.text)

@@ -1,13 +1,14 @@
-use Rattle.std.proofs.Common.{◌≡◌, ℕ, ◌+◌, ◌<◌, ◌≤◌, ◌++◌, [], Option, Some, length, get_or, take, sym, ◌∙◌, ap, arith, length-append}
+use Rattle.std.proofs.Common.{◌≡◌, ◌+◌, ◌<◌, ◌≤◌, ◌++◌, [], Option, Some, length, get_or, take, sym, ◌∙◌, ap, arith, length-append}
 use Rattle.std.specs.Prelude.{fold, option_map, slice_get}
 use Rattle.std.specs.List.{enumerate_from}
 use Rattle.std.specs.Option.{option_to_list}
 use Rattle.std.proofs.lemmas.List.{take_all}
 use Rattle.std.proofs.lemmas.List.FromFn.{get_or-enumerate_from, length-enumerate_from}
 use Rattle.std.proofs.lemmas.List.Sums.{fold_more}
-use Rattle.std.proofs.lemmas.Option.{get_or_from_slice_get}
+use Rattle.std.proofs.lemmas.Option.{get_or_from_slice_get, slice_get-map}
 use Rattle.clearing.specs.declared.Win.{Win}
 use Rattle.auction_core.specs.Auctions.{beside}
+use Rattle.auction_core.specs.Draft.{found_for}
 use Rattle.plain_exchange.specs.Auction.{Award, award_next, win}
 use Rattle.plain_exchange.specs.State.{swept}
 use Rattle.auction_core.proofs.Auctioning.{one_at_most, some_there}
@@ -43,3 +44,12 @@ returns-clause-value c =
     let s = c.args.self.now.state in
     let whole : take c.loop-imp.imp (enumerate_from 0 r.imps) ≡ enumerate_from 0 r.imps = take_all c.loop-imp.imp (enumerate_from 0 r.imps) (omega (arith, length-enumerate_from 0 r.imps)) in
     c.loop-imp.invariant.value ∙ ap (fold (award_next c.args.self.now.ttl c.args.moment r (swept c.args.moment s)) []) whole
+
+pub loop-imp-init : goal.loop-imp-init
+loop-imp-init c = record { value = c.new-awards.ensures.items; few = omega (arith, ap length c.new-awards.ensures.items) }
+
+pub win-requires-clause-found : goal.win-requires-clause-found
+win-requires-clause-found c i at =
+    let find = found_for c.args.self.now.state c.args.request.now in
+    let found : slice_get c.args.found.now c.loop-imp.imp ≡ Some (find i) = ap (λ l. slice_get l c.loop-imp.imp) c.requires.found ∙ slice_get-map find c.args.request.now.imps c.loop-imp.imp ∙ ap (option_map find) at in
+    c.index-found-imp.is ∙ get_or_from_slice_get c.args.found.now c.loop-imp.imp (find i) c.index-found-imp.result found

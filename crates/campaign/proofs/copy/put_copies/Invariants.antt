@@ -1,5 +1,5 @@
 use Rattle.std.proofs.Common.{◌≡◌, take}
-use Rattle.campaign.proofs.copy.copy_texts.Given as goal
+use Rattle.campaign.proofs.copy.put_copies.Given as goal
 
 abbrev pub invariant-loop-text : goal.invariant-loop-text
 invariant-loop-text l = l.copies.items ≡ take l.text-index l.texts
