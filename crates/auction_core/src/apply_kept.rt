@@ -117,8 +117,7 @@ impl Core {
             return Err(ApplyFault::Unfit);
         }
         self.reserve_sales(1)?;
-        let copy = copy_row(row)?;
-        let key = key_of(alloc, row.user.as_ref())?;
+        let (copy, key) = copy_sale(alloc, row)?;
         self.keep_sale(copy, key);
         Ok(())
     }
@@ -186,6 +185,15 @@ fn charge_of(row: &SaleRow) -> Nanos
         SaleState::Held | SaleState::Billed => row.price,
         SaleState::Lost | SaleState::Expired => nanos(0),
     }
+}
+
+// The sale, and the key of its user.
+fn copy_sale(alloc: Global, row: &SaleRow) -> Result<(SaleRow, Option<UserKey>), AllocError>
+    ensures { IfOk result (λ p. p ≡ (row.now, row.now.user)) }
+{
+    let copy = copy_row(row)?;
+    let key = key_of(alloc, row.user.as_ref())?;
+    Ok((copy, key))
 }
 
 fn copy_row(row: &SaleRow) -> Result<SaleRow, AllocError>

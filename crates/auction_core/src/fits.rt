@@ -1,5 +1,5 @@
 // Whether effects of a journal fit the state.
-ghost use Rattle.std.specs.Prelude.{◌≡◌, ◌≤◌, ◌-◌, ◌^◌, ◌==◌, ◌&&◌, if◌then◌else◌, IfOk, IsTrue, false, is_some, length, map, min, not};
+ghost use Rattle.std.specs.Prelude.{◌≡◌, ◌≤◌, ◌-◌, ◌^◌, ◌==◌, ◌&&◌, if◌then◌else◌, [], IfOk, IsTrue, OnOk, false, is_some, length, map, min, not};
 ghost use Rattle.std.specs.Option.{option_copied, option_map_or};
 ghost use Rattle.auction_core.specs.Applying.{User, items_cost, holding_for, with_sold};
 ghost use Rattle.auction_core.specs.Draft.{can_change};
@@ -10,7 +10,7 @@ ghost use Rattle.plain_exchange.specs.State.{Campaign, campaign_at, free, sale_n
 
 use crate::draft::Holding;
 use crate::exchange::Core;
-use crate::sell::key_of;
+use crate::sell::{filled, key_of};
 use budget_book::{MOST_SALES, SaleState};
 use campaign::Facts;
 use plain_exchange::SoldItem;
@@ -140,11 +140,24 @@ pub(crate) fn item_holdings(
     ensures { IfOk result (λ hs. hs ≡ map (holding_for (option_copied user.entry)) items.now) }
 {
     let mut all = List::with_capacity(alloc, items.len())?;
+    let done = put_holdings(&mut all, alloc, user, items);
+    filled(all, done)
+}
+
+fn put_holdings(
+    all: &mut List<Holding>,
+    alloc: Global,
+    user: Option<&Txt>,
+    items: &[SoldItem],
+) -> Result<(), AllocError>
+    requires { all.old ≡ [] }
+    ensures { OnOk result (all.new ≡ map (holding_for (option_copied user.entry)) items.now) }
+{
     for item in items {
         let holding = item_holding(alloc, user, item)?;
         all.push(holding)?;
     }
-    Ok(all)
+    Ok(())
 }
 
 fn item_holding(alloc: Global, user: Option<&Txt>, item: &SoldItem) -> Result<Holding, AllocError>

@@ -7,7 +7,7 @@ ghost use Rattle.plain_exchange.specs.State.{Campaign, campaign_at, forgotten};
 use crate::exchange::Core;
 use budget_book::{Gone, SaleRow};
 use campaign::Facts;
-use plain_exchange::{Change, Effect, KeptCampaign};
+use plain_exchange::{Change, Effect, KeptCampaign, Record};
 use std::alloc::AllocError;
 use target_expr::Expr;
 
@@ -30,9 +30,8 @@ impl Core {
         requires there { (1 ≤ n) × (n ≤ length self.now.state.campaigns) }
         ensures { (c : Campaign) → campaign_at self.now.state n ≡ Some c → IfOk result (λ e. e ≡ kept_campaign c) }
     {
-        let record = self.entry(n).record();
-        let expr = record.expr.copy()?;
-        let facts = record.facts.copy()?;
+        let copies = copy_parts(self.entry(n).record())?;
+        let (facts, expr) = copies;
         Ok(campaign_effect(self.is_live(n), facts, expr, self.book.gone(n)))
     }
 
@@ -54,6 +53,14 @@ impl Core {
     {
         self.book.forgotten()
     }
+}
+
+fn copy_parts(entry: &Record) -> Result<(Facts, Expr), AllocError>
+    ensures { IfOk result (λ p. p ≡ (entry.now.facts, entry.now.expr)) }
+{
+    let expr = entry.expr.copy()?;
+    let facts = entry.facts.copy()?;
+    Ok((facts, expr))
 }
 
 fn campaign_effect(live: bool, facts: Facts, expr: Expr, gone: Gone) -> Effect

@@ -1,5 +1,5 @@
 // What an auction sells, prepared.
-ghost use Rattle.std.specs.Prelude.{◌≡◌, ◌≤◌, ◌-◌, ◌++◌, IfOk, List, OnOk, Option, length, map, option_and_then, option_map, option_to_list, slice_get};
+ghost use Rattle.std.specs.Prelude.{◌≡◌, ◌≤◌, ◌-◌, ◌++◌, [], IfOk, List, OnOk, Option, length, map, option_and_then, option_map, option_to_list, slice_get};
 ghost use Rattle.std.specs.Option.{option_copied};
 ghost use Rattle.auction_core.specs.Auctions.{holding_of, item_due};
 ghost use Rattle.plain_exchange.specs.Step.{all_sold_as, deal_of, sold_as, sold_change};
@@ -109,10 +109,35 @@ pub(crate) fn holdings(
     ensures { IfOk result (λ hs. hs ≡ map (holding_of due (option_copied user.entry)) awards.now) }
 {
     let mut all = List::with_capacity(alloc, awards.len())?;
+    let done = put_holdings(&mut all, alloc, awards, due, user);
+    filled(all, done)
+}
+
+fn put_holdings(
+    all: &mut List<Holding>,
+    alloc: Global,
+    awards: &[(u32, Win)],
+    due: u64,
+    user: Option<&Txt>,
+) -> Result<(), AllocError>
+    requires { all.old ≡ [] }
+    ensures { OnOk result (all.new ≡ map (holding_of due (option_copied user.entry)) awards.now) }
+{
     for award in awards {
         let holding = holding(alloc, &award.1, due, user)?;
         all.push(holding)?;
     }
+    Ok(())
+}
+
+// The list, where all could be put there. A generic type is let go of in one step.
+pub(crate) fn filled<T: Drop>(
+    all: List<T>,
+    done: Result<(), AllocError>,
+) -> Result<List<T>, AllocError>
+    ensures { (items : _) → OnOk done (all ≡ items) → IfOk result (λ l. l ≡ items) }
+{
+    done?;
     Ok(all)
 }
 
@@ -157,10 +182,18 @@ fn items(alloc: Global, awards: &[(u32, Win)], due: u64) -> Result<List<SoldItem
     ensures { IfOk result (λ items. items ≡ map (item_due due) awards.now) }
 {
     let mut all = List::with_capacity(alloc, awards.len())?;
+    let done = put_items(&mut all, awards, due);
+    filled(all, done)
+}
+
+fn put_items(all: &mut List<SoldItem>, awards: &[(u32, Win)], due: u64) -> Result<(), AllocError>
+    requires { all.old ≡ [] }
+    ensures { OnOk result (all.new ≡ map (item_due due) awards.now) }
+{
     for award in awards {
         all.push(item(&award.1, due))?;
     }
-    Ok(all)
+    Ok(())
 }
 
 fn item(win: &Win, due: u64) -> SoldItem

@@ -11,8 +11,11 @@ pub returns : goal.returns
 returns c = λ d at.
     let i = c.self.inside in
     let there = subst (λ (v : CoreState). campaign_at v.state c.args.n ≡ Some d) (sym c.self.view_is) at in
-    let entry = c.record-record.ensures ∙ c.entry.ensures d at in
+    let entry = c.record.ensures ∙ c.entry.ensures d at in
+    let copies = c.in_ok-copies.copies in
+    let facts = ap (λ p. p.0) c.in_ok-copies.ensures ∙ ap (λ (r : Record). r.facts) entry in
+    let expr = ap (λ p. p.1) c.in_ok-copies.ensures ∙ ap (λ (r : Record). r.expr) entry in
     let purse = funds_in_book i.table.campaigns i.book.campaigns i.book.sales c.args.n d (funds_for d) c.self.invariant there in
     c.campaign_effect.ensures
-    ∙ kept_parts d c.is_live.result c.in_ok-facts.facts c.in_ok-expr.expr c.gone.result (c.is_live.ensures d at) (c.in_ok-facts.ensures ∙ ap (λ (r : Record). r.facts) entry) (c.in_ok-expr.ensures ∙ ap (λ (r : Record). r.expr) entry)
+    ∙ kept_parts d c.is_live.result copies.0 copies.1 c.gone.result (c.is_live.ensures d at) facts expr
     (c.gone.ensures (funds_for d) ∙ ap (λ (p : Funds). p.gone) purse)
