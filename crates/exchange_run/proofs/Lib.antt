@@ -8,3 +8,4 @@ pub mod Facts
 pub mod Places
 pub mod Replies
 pub mod Wanted
+pub mod Appending

@@ -159,8 +159,7 @@ fn cut_and_name<D: Disk>(disk: &mut D) -> Result<(), Failed>
     ensures cause { CountsErrors (D.faults disk.old) (D.faults disk.new) result }
 {
     cut_synced(disk, 8)?;
-    name_short(disk)?;
-    Ok(())
+    name_short(disk)
 }
 
 // Cuts the disk to its first bytes, and syncs.

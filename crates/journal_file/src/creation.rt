@@ -31,8 +31,7 @@ fn create_anew<D: Disk>(disk: &mut D) -> Result<(), Failed>
     ensures cause { CountsErrors (D.faults disk.old) (D.faults disk.new) result }
 {
     write_synced(disk, 0, &[0])?;
-    name_and_open(disk)?;
-    Ok(())
+    name_and_open(disk)
 }
 
 // Makes a journal without blocks of a creation that was not finished, which has this size.

@@ -10,15 +10,6 @@ pub returns-in_err-write_synced-clause-kept : goal.returns-in_err-write_synced-c
 returns-in_err-write_synced-clause-kept g c = λ told here.
     always_not_synced (λ image. length image < 9) (StandsFor (created_name ∷ []) []) (write 0 1) _ _ short_keeps short_stands here (c.in_err-write_synced.ensures.failed told)
 
-pub returns-in_err-name_and_open-clause-kept : goal.returns-in_err-name_and_open-clause-kept
-returns-in_err-name_and_open-clause-kept g c = λ told here.
-    let s0 = g.D.Disk.store c.args.disk.now in
-    let closed = closed_reads s0.reads (here s0.reads (g.met.D.Disk.stands c.args.disk.now told)) in
-    let e = c.in_ok-write_synced.ensures.done told in
-    let one = always_synced (λ image. length image < 9) (StandsFor (created_name ∷ []) []) (write 0 1) _ _ _ short_keeps short_stands here (unopened_stands _ closed) e in
-    let each = each_synced IsUnopened (write 0 1) s0 (g.D.Disk.store c.write_synced.new.disk) _ closed e in
-    always_then (StandsFor (created_name ∷ []) []) _ _ _ one (c.in_err-name_and_open.ensures.kept (c.in_ok-write_synced.ensures.told ∙ told) each)
-
 pub returns-clause-kept : goal.returns-clause-kept
 returns-clause-kept g c = λ told here.
     let s0 = g.D.Disk.store c.args.disk.now in
@@ -26,4 +17,14 @@ returns-clause-kept g c = λ told here.
     let e = c.in_ok-write_synced.ensures.done told in
     let one = always_synced (λ image. length image < 9) (StandsFor (created_name ∷ []) []) (write 0 1) _ _ _ short_keeps short_stands here (unopened_stands _ closed) e in
     let each = each_synced IsUnopened (write 0 1) s0 (g.D.Disk.store c.write_synced.new.disk) _ closed e in
-    always_then (StandsFor (created_name ∷ []) []) _ _ _ one (c.in_ok-name_and_open.ensures.kept (c.in_ok-write_synced.ensures.told ∙ told) each)
+    always_then (StandsFor (created_name ∷ []) []) _ _ _ one (c.name_and_open.ensures.kept (c.in_ok-write_synced.ensures.told ∙ told) each)
+
+pub returns-clause-opened : goal.returns-clause-opened
+returns-clause-opened g c = λ told here.
+    let s0 = g.D.Disk.store c.args.disk.now in
+    let closed = closed_reads s0.reads (here s0.reads (g.met.D.Disk.stands c.args.disk.now told)) in
+    let each = each_synced IsUnopened (write 0 1) s0 (g.D.Disk.store c.write_synced.new.disk) _ closed (c.in_ok-write_synced.ensures.done told) in
+    c.name_and_open.ensures.opened (c.in_ok-write_synced.ensures.told ∙ told) each
+
+pub returns-clause-long : goal.returns-clause-long
+returns-clause-long g c = λ told. c.name_and_open.ensures.long (c.in_ok-write_synced.ensures.told ∙ told)
