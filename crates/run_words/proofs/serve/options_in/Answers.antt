@@ -6,6 +6,7 @@ use Rattle.run_words.specs.declared.fault.WordsFault.TheVariants.{Usage}
 use Rattle.run_words.specs.declared.serve.ServeOptions.{ServeOptions}
 use Rattle.run_words.proofs.serve.options_in.Goals as goal
 
+-- The command is simple by computing.
 is_plain : is_simple_and_free serve_app ≡ true
 is_plain = refl
 
