@@ -10,7 +10,6 @@ use thiserror::Error;
 
 /// Why a JSON text is no campaign.
 #[derive(Clone, Copy, Error)]
-#[error("{}", self.text())]
 pub enum CampFault {
     NotObject,
     /// The field is required and is absent or null.
@@ -41,6 +40,12 @@ impl CampFault {
             CampFault::Target { .. } => "the target is no expression",
             CampFault::Memory => "memory ran out",
         }
+    }
+}
+
+impl fmt::Display for CampFault {
+    fn fmt<W: fmt::Write>(&self, f: &mut fmt::Formatter<W>) -> fmt::Result {
+        f.write_str(self.text())
     }
 }
 
