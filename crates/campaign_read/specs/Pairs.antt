@@ -1,7 +1,8 @@
--- Cited by private functions alone: the fields of a campaign as they are read, in pairs.
-use Rattle.std.specs.Prelude.{ℕ, ℤ, ◌*◌, Bool, List, Option}
+-- Cited by private functions alone: the fields of a campaign and of a predicate as they are read, in pairs.
+use Rattle.std.specs.Prelude.{ℕ, ℤ, ◌*◌, Bool, List, Option, if◌then◌else◌}
 use Rattle.campaign.specs.Caps.{CapTerms}
 use Rattle.campaign.specs.declared.parts.FactParts.{FactParts}
+use Rattle.target_expr.specs.declared.pred.RawPred.{RawPred}
 
 -- those up to the budget
 abbrev pub Stated : Type 0
@@ -29,3 +30,7 @@ joined read = record {
   adid = read.0.1;
   cap = read.1;
 }
+
+-- a predicate's attribute, what it admits and what it excludes
+abbrev pub chosen : (List ℕ × List (List ℕ)) × List (List ℕ) → Bool → RawPred
+chosen read negated = record { attr = read.0.0; negated = negated; values = if negated then read.1 else read.0.1 }

@@ -11,34 +11,48 @@ use thiserror::Error;
 /// Why a JSON text is no campaign.
 #[derive(Clone, Copy, Error)]
 pub enum CampFault {
-    #[error("the campaign is no object")]
     NotObject,
     /// The field is required and is absent or null.
-    #[error("a field is missing")]
     Missing { field: CampField },
     /// The field has a value of another type, or stands beside one that excludes it.
-    #[error("a field is of another type")]
     WrongType { field: CampField },
     /// The field's number is not whole or out of its range.
-    #[error("a field is out of its range")]
     Range { field: CampField },
     /// The field's number is no amount of money in whole micro-dollars.
-    #[error("a field is no price")]
     Price { field: CampField, fault: PriceFault },
     /// What it states is past a limit.
-    #[error("a field is past a limit")]
     Fact { fault: FactFault },
     /// Its target is no expression.
-    #[error("the target is no expression")]
     Target { fault: ExprFault },
-    #[error("memory ran out")]
     Memory,
+}
+
+impl CampFault {
+    // What it is, without its field.
+    fn text(&self) -> &'static str {
+        match self {
+            CampFault::NotObject => "the campaign is no object",
+            CampFault::Missing { .. } => "a field is missing",
+            CampFault::WrongType { .. } => "a field is of another type",
+            CampFault::Range { .. } => "a field is out of its range",
+            CampFault::Price { .. } => "a field is no price",
+            CampFault::Fact { .. } => "a field is past a limit",
+            CampFault::Target { .. } => "the target is no expression",
+            CampFault::Memory => "memory ran out",
+        }
+    }
+}
+
+impl fmt::Display for CampFault {
+    fn fmt<W: fmt::Write>(&self, f: &mut fmt::Formatter<W>) -> fmt::Result {
+        f.write_str(self.text())
+    }
 }
 
 impl fmt::Debug for CampFault {
     // As it is told.
     fn fmt<W: fmt::Write>(&self, f: &mut fmt::Formatter<W>) -> fmt::Result {
-        fmt::Display::fmt(self, f)
+        f.write_str(self.text())
     }
 }
 

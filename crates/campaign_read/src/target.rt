@@ -1,15 +1,16 @@
-ghost use Rattle.std.specs.Prelude.{◌≡◌, ◌&&◌, [], ◌∷◌, if◌then◌else◌, map, not, IfOk};
+ghost use Rattle.std.specs.Prelude.{◌≡◌, ◌&&◌, ◌++◌, [], ◌∷◌, if◌then◌else◌, map, not, IfOk};
 ghost use Rattle.exact_json.specs.View.{tree_of};
 ghost use Rattle.json_fields.specs.Answers.{Answers, map_ok, value_or};
 ghost use Rattle.json_fields.specs.Fields.{as_array};
 ghost use Rattle.json_fields.specs.Items.{each_at};
 ghost use Rattle.campaign.specs.declared.field.CampField.{CampField};
 ghost use Rattle.campaign_read.specs.declared.fault.CampFault.{CampFault};
+ghost use Rattle.campaign_read.specs.Pairs.{chosen};
 ghost use Rattle.campaign_read.specs.Target.{conjunction_at, conjunction_faults, conjunction_from, conjunctions_from, fault_where, has_in, has_not, pred_at, pred_faults, pred_from, target_faults, target_from};
 
 use crate::fault::CampFault;
 use crate::lists::{ListField, texts_field};
-use crate::parts::{fault, text_field};
+use crate::parts::{both, fault, text_field};
 use campaign::CampField;
 use exact_json::Value;
 use json_fields as fields;
@@ -70,21 +71,48 @@ fn pred_entry(alloc: Global, i: usize, j: usize, value: &Value) -> Result<RawPre
     }
 }
 
-#[tactic(auto, using(json_fields::proofs::First::firsts), unfolding(crate::specs::Target::pred_faults, crate::specs::Target::pred_from, crate::specs::Parts::list_from))]
 fn pred_in(alloc: Global, i: usize, j: usize, pred: &Value) -> Result<RawPred, CampFault>
     ensures { Answers CampFault.Memory (pred_faults i j (tree_of pred.now)) (pred_from (tree_of pred.now)) result }
 {
-    let attr = text_field(pred, CampField::PredicateAttr(i, j))?;
-    some_list(i, j, pred)?;
-    let admitted = texts_field(alloc, pred, ListField::In(i, j))?;
-    one_list(i, j, pred)?;
-    let excluded = texts_field(alloc, pred, ListField::Not(i, j))?;
+    let read = text_field(pred, CampField::PredicateAttr(i, j));
+    let read = unless_faulty(read, some_list(i, j, pred));
+    let read = both(read, texts_field(alloc, pred, ListField::In(i, j)));
+    let read = unless_faulty(read, one_list(i, j, pred));
+    let read = both(read, texts_field(alloc, pred, ListField::Not(i, j)));
+    match read {
+        Ok(read) => Ok(chosen(read, pred)),
+        Err(fault) => Err(fault),
+    }
+}
+
+// What was read, or the first fault.
+#[tactic(auto, using(json_fields::proofs::First::firsts))]
+fn unless_faulty<A: Drop>(
+    read: Result<A, CampFault>,
+    right: Result<(), CampFault>,
+) -> Result<A, CampFault>
+    ensures { (a b : _) (x : A) → Answers CampFault.Memory a x read → Answers CampFault.Memory b tt right → Answers CampFault.Memory (a ++ b) x result }
+{
+    match read {
+        Ok(read) => match right {
+            Ok(()) => Ok(read),
+            Err(fault) => Err(fault),
+        },
+        Err(fault) => Err(fault),
+    }
+}
+
+// The predicate of an attribute and two lists.
+fn chosen(read: ((Txt, List<Txt>), List<Txt>), pred: &Value) -> RawPred
+    ensures { result ≡ chosen read (has_not (tree_of pred.now)) }
+{
+    let ((attr, admitted), excluded) = read;
     let negated = has_not(pred);
-    Ok(RawPred {
+    RawPred {
         attr,
         negated,
         values: choose(negated, admitted, excluded),
-    })
+    }
 }
 
 // A predicate lists what it admits or what it excludes.

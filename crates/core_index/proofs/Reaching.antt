@@ -68,7 +68,7 @@ cost_of_one_more f imps k i inside at =
     let item = ap f (get_or_from_slice_get imps k i i at) in
     omega (arith, split, one, item)
 
-cost_of_front : (f : Imp → ℕ) (imps : List Imp) (k : ℕ) → sum_by f (take k imps) ≤ sum_by f imps
+pub cost_of_front : (f : Imp → ℕ) (imps : List Imp) (k : ℕ) → sum_by f (take k imps) ≤ sum_by f imps
 cost_of_front f imps zero = omega arith
 cost_of_front f [] (suc k) = omega arith
 cost_of_front f (i ∷ imps) (suc k) = omega (arith, sum_by-cons f i (take k imps), sum_by-cons f i imps, cost_of_front f imps k)

@@ -1,5 +1,5 @@
 -- From what was called to what a command comes to.
-use Rattle.std.proofs.Common.{◌≡◌, ◌⊎◌, ◌≢◌, ℕ, List, [], ◌∷◌, Option, None, Some, Result, Ok, Err, true, refl, sym, subst, ap}
+use Rattle.std.proofs.Common.{◌≡◌, ◌⊎◌, ◌≢◌, ℕ, List, [], ◌∷◌, Option, None, Some, Result, Ok, Err, true, refl, sym, subst, ap, arith, ◌∙◌}
 use Rattle.std.specs.Prelude.{MatchResult}
 use Rattle.journal_file.specs.declared.faults.JournalFault.{JournalFault}
 use Rattle.journal_file.specs.declared.faults.JournalFault.TheVariants as fault
@@ -10,6 +10,8 @@ use Rattle.recovery.specs.Damage.{IsDamagedAt}
 use Rattle.recovery.specs.Openings.{Opens as Opens', Recovers as Recovers'}
 use Rattle.rtb_base.specs.Faults.{RisesOnlyWhere, Rose}
 use Rattle.rtb_disk.specs.Stores.{Store}
+use Rattle.rtb_io.specs.Statuses.{code_of}
+use Rattle.rtb_io.specs.declared.status.Status.{Status}
 use Rattle.rtb_io.specs.declared.status.Status.TheVariants as status
 use Rattle.run_commands.specs.Endings.{Ends}
 use Rattle.run_commands.specs.Journals.{EndsAt, HasCause}
@@ -33,3 +35,21 @@ has_cause store faults faults' fault.Memory says rose quiet = quiet (λ e. cc)
 pub gives_no_door : {A : Type 0} (f : WorldFault) (count count' : ℕ) → RisesOnlyWhere (◌≡◌ {A = Result A WorldFault} (Err f) (Err world.Failed)) count count' → GivesNoDoor f count count'
 gives_no_door world.Failed count count' h = h.1 refl
 gives_no_door world.Memory count count' h = h.2 (λ e. cc)
+
+is_not_written : (s : Status) → code_of s ≡ 7 → s ≡ status.NotWritten
+is_not_written status.Done e = absurd (omega arith)
+is_not_written status.Refused e = absurd (omega arith)
+is_not_written status.Usage e = absurd (omega arith)
+is_not_written status.NoDoor e = absurd (omega arith)
+is_not_written status.NoDisk e = absurd (omega arith)
+is_not_written status.JournalFailed e = absurd (omega arith)
+is_not_written status.Damaged e = absurd (omega arith)
+is_not_written status.NotWritten e = refl
+is_not_written status.DoorFailed e = absurd (omega arith)
+is_not_written status.Memory e = absurd (omega arith)
+is_not_written status.NotRead e = absurd (omega arith)
+
+-- what is said of a status holds of its number
+pub rises_by_code : (s : Status) (code count count' : ℕ) → code ≡ code_of s → RisesOnlyWhere (s ≡ status.NotWritten) count count'
+    → RisesOnlyWhere (code ≡ code_of status.NotWritten) count count'
+rises_by_code s code count count' is h = (h.0, λ e. h.1 (is_not_written s (sym is ∙ e)), λ other. h.2 (λ e. other (is ∙ ap code_of e)))

@@ -1,5 +1,6 @@
-use Rattle.std.proofs.Common.{◌≡◌, ◌+◌, ℕ, List, ◌++◌, ◌∙◌, ap, arith, get_or, length, map, subst, sym, take}
+use Rattle.std.proofs.Common.{◌≡◌, ◌+◌, ℕ, List, ◌++◌, ◌∙◌, ap, arith, get_or, length, map, refl, subst, sym, take}
 use Rattle.std.proofs.lemmas.List.{take_all}
+use Rattle.std.proofs.lemmas.Result.{IfOk-from_err}
 use Rattle.target_expr.specs.declared.pred.Pred.{Pred}
 use Rattle.target_expr.specs.declared.pred.Pair.{Pair}
 use Rattle.target_expr.specs.Pairs.{pairs_of}
@@ -57,3 +58,22 @@ pub returns-clause-grown : goal.returns-clause-grown
 returns-clause-grown g c =
     let P : Campaigns → Type 0 = λ l. AreGrown (pairs_of (expression_of l)) c.loop-expr.parts.items in
     subst P (take_all c.loop-expr.expr-index c.args.added.now c.loop-expr-test.false) c.loop-expr.invariant.grown
+
+pub loop-expr-init : goal.loop-expr-init
+loop-expr-init g c = record { grown = c.requires.empty; count = refl; first = refl; cost = omega arith }
+
+pub overflow_cast-first : goal.overflow_cast-first
+overflow_cast-first g c =
+    let same : length c.loop-expr-item.result.1 ≡ length (get_or c.args.added.now c.loop-expr.expr-index c.loop-expr-item.result).1 =
+    ap (λ (q : ℕ × List (List Pred)). length q.1) c.loop-expr-item.is in
+    omega (arith, same, conjunctions_up c.args.added.now c.loop-expr.expr-index c.loop-expr-item.result c.loop-expr-test.true, c.conjunctions.ensures.value, c.requires.few)
+
+pub returns-clause-cost : goal.returns-clause-cost
+returns-clause-cost g c =
+    omega (arith, ap (λ (l : Campaigns). length (pairs_of (expression_of l))) (take_all c.loop-expr.expr-index c.args.added.now c.loop-expr-test.false), c.loop-expr.invariant.cost)
+
+pub returns-in_err-pairs-clause-grown : goal.returns-in_err-pairs-clause-grown
+returns-in_err-pairs-clause-grown g c = IfOk-from_err c.from_residual.result _ c.from_residual.ensures.0
+
+pub returns-in_err-enter_pairs-clause-grown : goal.returns-in_err-enter_pairs-clause-grown
+returns-in_err-enter_pairs-clause-grown g c = IfOk-from_err c.from_residual-in_err-enter_pairs.result _ c.from_residual-in_err-enter_pairs.ensures.0

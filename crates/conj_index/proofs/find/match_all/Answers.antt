@@ -1,4 +1,5 @@
 use Rattle.std.proofs.Common.{◌≡◌, ◌+◌, ◌≤◌, ◌<◌, ◌∙◌, ℕ, List, ap, subst, length, take, max, arith, get_or}
+use Rattle.std.proofs.lemmas.Result.{IfOk-from_err}
 use Rattle.conj_match.specs.Bits.{AreSet}
 use Rattle.conj_match.specs.Matching.{cost_of, is_match, lists_at}
 use Rattle.conj_index.specs.declared.key.Key.{Key}
@@ -54,3 +55,21 @@ returns-clause-found g c =
     let parts = take (length c.args.pairs.now + 1) c.args.index.now.parts in
     let end : c.loop-size.size ≡ length parts = omega (arith, ap length c.first_parts-part-items.ensures, c.loop-size-test.false) in
     subst (λ (n : ℕ). AreHit c.args.pairs.now parts n c.loop-size.tally) end c.loop-size.invariant.hit
+
+pub returns-clause-room : goal.returns-clause-room
+returns-clause-room g c = c.loop-size.invariant.room
+
+pub returns-clause-cost : goal.returns-clause-cost
+returns-clause-cost g c = omega (arith, cost_below c.args.pairs.now c.args.index.now c.loop-size.size, c.loop-size.invariant.cost)
+
+pub returns-in_err-begin-clause-room : goal.returns-in_err-begin-clause-room
+returns-in_err-begin-clause-room g c = IfOk-from_err c.from_residual.result _ c.from_residual.ensures.0
+
+pub returns-in_err-begin-clause-found : goal.returns-in_err-begin-clause-found
+returns-in_err-begin-clause-found g c = IfOk-from_err c.from_residual.result _ c.from_residual.ensures.0
+
+pub returns-in_err-find_in-clause-room : goal.returns-in_err-find_in-clause-room
+returns-in_err-find_in-clause-room g c = IfOk-from_err c.from_residual-in_err-find_in.result _ c.from_residual-in_err-find_in.ensures.0
+
+pub returns-in_err-find_in-clause-found : goal.returns-in_err-find_in-clause-found
+returns-in_err-find_in-clause-found g c = IfOk-from_err c.from_residual-in_err-find_in.result _ c.from_residual-in_err-find_in.ensures.0

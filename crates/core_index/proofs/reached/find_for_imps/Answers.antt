@@ -1,8 +1,9 @@
-use Rattle.std.proofs.Common.{◌∙◌, ◌<◌, length, arith}
+use Rattle.std.proofs.Common.{◌∙◌, ◌<◌, length, map, ap, arith}
+use Rattle.std.proofs.lemmas.List.{take_all}
 use Rattle.auction_core.specs.Draft.{found_for}
 use Rattle.core_index.specs.Reached.{imp_cost}
 use Rattle.core_index.proofs.Fronts.{item_at}
-use Rattle.core_index.proofs.Reaching.{cost_of_one_more, cost_within, pushed}
+use Rattle.core_index.proofs.Reaching.{cost_of_front, cost_of_one_more, cost_within, pushed}
 use Rattle.core_index.proofs.reached.find_for_imps.Goals as goal
 
 pub loop-imp-preserved : goal.loop-imp-preserved
@@ -30,3 +31,16 @@ returns-in_err-push-clause-cost g c =
     let inside : k < length r.imps = omega (arith, c.len-imp-end.ensures, c.loop-imp-test.true) in
     let (i, at) = item_at r.imps k inside in
     omega (arith, c.loop-imp.invariant.1, c.in_ok-numbers.ensures.cost i at, cost_within (imp_cost c.args.index.now r) r.imps k i inside at)
+
+pub returns-clause-answer : goal.returns-clause-answer
+returns-clause-answer g c = λ s is.
+    let r = c.args.request.now in
+    c.loop-imp.invariant.0 s is ∙ ap (map (found_for s r)) (take_all c.loop-imp.imp r.imps (omega (arith, c.len-imp-end.ensures, c.loop-imp-test.false)))
+
+pub returns-clause-cost : goal.returns-clause-cost
+returns-clause-cost g c =
+    let r = c.args.request.now in
+    omega (arith, c.loop-imp.invariant.1, cost_of_front (imp_cost c.args.index.now r) r.imps c.loop-imp.imp)
+
+pub loop-imp-init : goal.loop-imp-init
+loop-imp-init g c = (λ s is. c.in_ok-found.ensures.items, omega arith)

@@ -2,7 +2,7 @@ use Rattle.std.proofs.Common.{refl, subst, sym, [], ◌∷◌}
 use Rattle.link_door.specs.Worlds.{HandsOut}
 use Rattle.run_commands.specs.Serve.{Announces, EndsWithoutDoor, listens, no_door}
 use Rattle.run_commands.proofs.Growing.{says_the_same}
-use Rattle.run_commands.proofs.Telling.{gives_no_door}
+use Rattle.run_commands.proofs.Telling.{gives_no_door, rises_by_code}
 use Rattle.run_commands.proofs.serve_command.serve_exchange.Goals as goal
 
 pub returns-in-Ok-clause-listens : goal.returns-in-Ok-clause-listens
@@ -23,3 +23,15 @@ returns-in-Err-clause-listens g c = λ disk opens.
     c.in-Err.fault (gives_no_door c.in-Err.fault _ _ c.in-Err.ensures.cause)
     (subst (λ code. EndsWithoutDoor c.in-Err.fault (g.K.Sink.written c.args.sink.now) (g.K.Sink.written c.end_without_door-status.new.sink) code)
     (sym c.with_disk.ensures.status) c.end_without_door-status.ensures.ends)
+
+pub returns-in-Ok-clause-disks : goal.returns-in-Ok-clause-disks
+returns-in-Ok-clause-disks g c = c.doors.ensures.disks
+
+pub returns-in-Ok-clause-cause : goal.returns-in-Ok-clause-cause
+returns-in-Ok-clause-cause g c = rises_by_code c.announce-ended.result.status _ _ _ c.code.ensures c.announce-ended.ensures.cause
+
+pub returns-in-Err-clause-disks : goal.returns-in-Err-clause-disks
+returns-in-Err-clause-disks g c = c.doors.ensures.disks
+
+pub returns-in-Err-clause-cause : goal.returns-in-Err-clause-cause
+returns-in-Err-clause-cause g c = rises_by_code c.end_without_door-status.result _ _ _ c.with_disk.ensures.status c.end_without_door-status.ensures.cause
