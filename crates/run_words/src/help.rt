@@ -66,34 +66,27 @@ Example:
 // The command with what is told of it.
 fn told_command<'a>(alloc: Global, topic: Topic) -> Result<Command<'a>, AllocError> {
     match topic {
-        Topic::Program => program_command(alloc),
-        Topic::Serve => told_serve(serve_command(alloc)),
-        Topic::Recover => told_recover(recover_command(alloc)),
+        Topic::Program => told(program_command(alloc), "rtbx", PROGRAM_ABOUT, PROGRAM_END),
+        Topic::Serve => told(serve_command(alloc), "rtbx serve", SERVE_ABOUT, SERVE_END),
+        Topic::Recover => told(
+            recover_command(alloc),
+            "rtbx recover",
+            RECOVER_ABOUT,
+            RECOVER_END,
+        ),
     }
 }
 
-fn told_serve<'a>(command: Result<Command<'a>, AllocError>) -> Result<Command<'a>, AllocError> {
+fn told<'a>(
+    command: Result<Command<'a>, AllocError>,
+    name: &str,
+    about: &'a str,
+    end: &'a str,
+) -> Result<Command<'a>, AllocError> {
     match command {
-        Ok(command) => described(command, "rtbx serve", SERVE_ABOUT, SERVE_END),
+        Ok(command) => described(command, name, about, end),
         Err(error) => Err(error),
     }
-}
-
-fn told_recover<'a>(command: Result<Command<'a>, AllocError>) -> Result<Command<'a>, AllocError> {
-    match command {
-        Ok(command) => described(command, "rtbx recover", RECOVER_ABOUT, RECOVER_END),
-        Err(error) => Err(error),
-    }
-}
-
-fn program_command<'a>(alloc: Global) -> Result<Command<'a>, AllocError> {
-    let try_command = Command::new(alloc, "try").about(TRY_ABOUT);
-    let serve = Command::new(alloc, "serve").about(SERVE_ABOUT);
-    let recover = Command::new(alloc, "recover").about(RECOVER_ABOUT);
-    let commands = vec![in alloc; try_command, serve, recover]?;
-    let program = Command::new(alloc, "rtbx").disable_help_subcommand(true);
-    let with_commands = program.subcommands(commands)?;
-    described(with_commands, "rtbx", PROGRAM_ABOUT, PROGRAM_END)
 }
 
 fn described<'a>(
@@ -107,6 +100,26 @@ fn described<'a>(
         .about(about)
         .after_help(end)
         .bin_name(name)
+}
+
+fn program_command<'a>(alloc: Global) -> Result<Command<'a>, AllocError> {
+    match commands(alloc) {
+        Ok(commands) => Command::new(alloc, "rtbx")
+            .disable_help_subcommand(true)
+            .subcommands(commands),
+        Err(error) => Err(error),
+    }
+}
+
+fn commands<'a>(alloc: Global) -> Result<Vec<Command<'a>>, AllocError> {
+    let try_command = named(alloc, "try", TRY_ABOUT);
+    let serve = named(alloc, "serve", SERVE_ABOUT);
+    let recover = named(alloc, "recover", RECOVER_ABOUT);
+    Ok(vec![in alloc; try_command, serve, recover]?)
+}
+
+fn named<'a>(alloc: Global, name: &'a str, about: &'a str) -> Command<'a> {
+    Command::new(alloc, name).about(about)
 }
 
 /// What `clap` says of words that it refuses, the first of which is the command's name, as one line without

@@ -1,4 +1,5 @@
 pub mod Arrives
+pub mod Counts
 pub mod Ends
 pub mod Rooms
 pub mod Served

@@ -1,8 +1,13 @@
-use Rattle.std.proofs.Common.{◌≡◌, ◌∙◌, ap, refl, true}
-use Rattle.clap.specs.Words.{app_of, is_simple_and_free}
-use Rattle.run_words.specs.Commands.{recover_app}
+use Rattle.std.proofs.Common.{◌≡◌, ◌∙◌, ap, refl, sym, true, ℕ, List, map, Bor}
+use Rattle.std.specs.Prelude.{MatchResult, Option, Result, Ok, Err, Some, None, option_map}
+use Rattle.clap.specs.Words.{App, Row, Text, app_of, is_simple_and_free}
+use Rattle.run_words.specs.Commands.{given_by, recover_app, recover_of}
+use Rattle.run_words.specs.declared.fault.WordsFault.{WordsFault}
+use Rattle.run_words.specs.declared.fault.WordsFault.TheVariants.{Usage}
+use Rattle.run_words.specs.declared.recover.RecoverOptions.{RecoverOptions}
 use Rattle.run_words.proofs.recover.options_in.Goals as goal
 
+-- The command is simple by computing.
 is_plain : is_simple_and_free recover_app ≡ true
 is_plain = refl
 
@@ -10,3 +15,20 @@ pub match_words-requires : goal.match_words-requires
 match_words-requires c =
     let app : app_of c.in_ok-command.command ≡ recover_app = c.in_ok-command.ensures in
     record { simple = ap is_simple_and_free app ∙ is_plain }
+
+-- Options that are those of the rows, where a parse gives these.
+of_rows : (result : Result RecoverOptions WordsFault) (given : Option (List Row)) (rows : List Row) → given ≡ Some rows
+    → MatchResult result (λ o. o ≡ recover_of rows) (λ e. e ≡ Usage → ⊥)
+    → MatchResult result (λ o. option_map recover_of given ≡ Some o) (λ e. e ≡ Usage → option_map recover_of given ≡ None)
+of_rows (Ok o) given rows read is = ap (option_map recover_of) read ∙ ap Some (sym is)
+of_rows (Err e) given rows read not_usage = λ usage. absurd (not_usage usage)
+
+pub returns-in-Ok : goal.returns-in-Ok
+returns-in-Ok c =
+    let words : List Text = map (λ (s : Bor (List ℕ)). s.now) c.args.words.now in
+    of_rows c.options-given.result (given_by recover_app words) _ (ap (λ (a : App). given_by a words) (sym c.in_ok-command.ensures) ∙ c.in-Ok.ensures) c.options-given.ensures
+
+pub returns-in-Err : goal.returns-in-Err
+returns-in-Err c = λ usage.
+    let words : List Text = map (λ (s : Bor (List ℕ)). s.now) c.args.words.now in
+    ap (λ (a : App). option_map recover_of (given_by a words)) (sym c.in_ok-command.ensures) ∙ ap (option_map recover_of) (c.in-Err.ensures usage)

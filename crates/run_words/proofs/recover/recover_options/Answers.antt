@@ -1,0 +1,16 @@
+use Rattle.std.proofs.Common.{◌≡◌, ◌∙◌, Bor, List, ap, map, subst, sym, ℕ}
+use Rattle.std.specs.Prelude.{MatchResult, Option, None, Some, option_map}
+use Rattle.std.proofs.lemmas.Bool.{cond-true}
+use Rattle.run_words.specs.Commands.{given_by, recover_app, recover_of, recover_options}
+use Rattle.run_words.specs.declared.fault.WordsFault.TheVariants.{Usage}
+use Rattle.run_words.specs.declared.recover.RecoverOptions.{RecoverOptions}
+use Rattle.run_words.proofs.recover.recover_options.Goals as goal
+
+abbrev given : List (List ℕ) → Option RecoverOptions
+given words = option_map recover_of (given_by recover_app words)
+
+pub returns : goal.returns
+returns c =
+    let same = ap (map (λ (s : Bor (List ℕ)). s.now)) c.as_slice.ensures.value ∙ c.in_ok-texts.ensures.0 in
+    let read : recover_options c.args.words.now ≡ given (map (λ (s : Bor (List ℕ)). s.now) c.as_slice.result.now) = cond-true _ _ _ c.in_ok-texts.ensures.1 ∙ ap given (sym same) in
+    subst (λ (x : Option RecoverOptions). MatchResult c.options_in.result (λ o. x ≡ Some o) (λ e. e ≡ Usage → x ≡ None)) (sym read) c.options_in.ensures
