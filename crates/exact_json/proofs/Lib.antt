@@ -14,6 +14,7 @@ pub mod Scanning
 pub mod Steps
 pub mod Bodies
 pub mod Loop
+pub mod Begins
 pub mod Known
 pub mod OneFault
 pub mod PlaceLaws

@@ -1,5 +1,5 @@
-ghost use Rattle.std.specs.Prelude.{◌≡◌, ◌<◌, ◌≤◌, ◌+◌, ◌++◌, [], ◌∷◌, Some, List, ℕ, true, false, length, option_map, IfOk, IfSome, OnOk};
-ghost use Rattle.exact_json.specs.Gives.{Gives, Runs};
+ghost use Rattle.std.specs.Prelude.{◌≡◌, ◌<◌, ◌≤◌, ◌+◌, ◌++◌, [], ◌∷◌, Some, List, ℕ, true, false, length, option_map, IfErr, IfOk, IfSome, OnOk};
+ghost use Rattle.exact_json.specs.Gives.{Fails, Gives, Leaves, Runs};
 ghost use Rattle.exact_json.specs.Escapes.{piece_view};
 ghost use Rattle.exact_json.specs.Reading.{EndsRun, after_run, body_at, escape_at, hex_at, is_special, mapped, quoted_at, unit_at};
 ghost use Rattle.exact_json.specs.Strings.{Piece, alone, escape_value, hex_digit, is_escape, is_hex, is_high, is_low, code_point, text_behind, unit_text, utf8};
@@ -40,21 +40,32 @@ fn unescape(mut text: Txt, bytes: &[u8]) -> Result<(Txt, &[u8]), Stop>
     ensures gives { Gives (λ t. t) result (mapped (λ t. text ++ t) (quoted_at bytes.now)) }
     ensures shorter { IfOk result (λ p. length p.1.now ≤ length bytes.now) }
 {
+    match append_pieces(&mut text, bytes) {
+        Ok(rest) => Ok((text, rest)),
+        Err(stop) => Err(stop),
+    }
+}
+
+// Appends the text of the pieces up to the quotation mark. It gives what stands behind.
+fn append_pieces<'a>(onto: &mut Txt, bytes: &'a [u8]) -> Result<&'a [u8], Stop>
+    ensures gives { Leaves onto.new result (mapped (λ t. onto.old ++ t) (quoted_at bytes.now)) }
+    ensures shorter { IfOk result (λ rest. length rest.now ≤ length bytes.now) }
+{
     let mut high = None;
     let mut left = bytes;
     loop {
         let (run, rest) = run_of(left)?;
-        high = push_run(&mut text, high, run)?;
+        high = push_run(onto, high, run)?;
         let Some((first, after)) = rest.split_first() else {
             return Err(Stop::Short);
         };
         if *first == b'"' {
-            push_alone(&mut text, high)?;
-            return Ok((text, after));
+            push_alone(onto, high)?;
+            return Ok(after);
         }
-        let (escape, after) = escape_of(after)?;
-        high = push_escape(&mut text, high, escape)?;
-        left = push_escapes(&mut text, high, after)?;
+        let (behind, rest) = append_escapes(onto, high, after)?;
+        high = behind;
+        left = rest;
     }
 }
 
@@ -132,6 +143,25 @@ fn push_utf8(text: &mut Txt, code: u32) -> Result<(), AllocError>
         last[0],
         last[1],
     ])
+}
+
+// Appends the escape whose backslash is behind, and the escapes of two bytes that follow. It gives the high
+// surrogate, if the last is one, and what stands behind.
+fn append_escapes<'a>(
+    onto: &mut Txt,
+    high: Option<u16>,
+    bytes: &'a [u8],
+) -> Result<(Option<u16>, &'a [u8]), Stop>
+    requires { IfSome high (λ h. is_high h ≡ true) }
+    ensures high { IfOk result (λ p. IfSome p.0 (λ n. is_high n ≡ true)) }
+    ensures value { IfOk result (λ p. mapped (λ t. onto.old ++ t) (body_at high (92 ∷ bytes.now)) ≡ mapped (λ t. onto.new ++ t) (body_at p.0 p.1.now)) }
+    ensures fails { IfErr result (λ e. Fails e (mapped (λ t. onto.old ++ t) (body_at high (92 ∷ bytes.now)))) }
+    ensures shorter { IfOk result (λ p. length p.1.now ≤ length bytes.now) }
+{
+    let (escape, after) = escape_of(bytes)?;
+    let behind = push_escape(onto, high, escape)?;
+    let rest = push_escapes(onto, behind, after)?;
+    Ok((behind, rest))
 }
 
 fn escape_of(bytes: &[u8]) -> Result<(Escape, &[u8]), Stop>

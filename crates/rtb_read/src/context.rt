@@ -26,22 +26,24 @@ pub(crate) fn site_field(request: &Value) -> Result<Option<Site>, ReqFault>
     }
 }
 
-#[tactic(auto, using(json_fields::proofs::First::firsts), unfolding(crate::specs::Context::site_faults, crate::specs::Context::site_from))]
 fn site_in(site: &Value) -> Result<Site, ReqFault>
     ensures { Answers ReqFault.Memory (site_faults (tree_of site.now)) (site_from (tree_of site.now)) result }
 {
-    let id = text_field(site, Field::Site(SiteField::Id))?;
-    let domain = text_field(site, Field::Site(SiteField::Domain))?;
+    let read = text_field(site, Field::Site(SiteField::Id));
+    let read = both(read, text_field(site, Field::Site(SiteField::Domain)));
     let publisher = publisher_field(
         site,
         Field::Site(SiteField::Publisher),
         Field::Site(SiteField::PublisherId),
-    )?;
-    Ok(Site {
-        id,
-        domain,
-        publisher,
-    })
+    );
+    match both(read, publisher) {
+        Ok(((id, domain), publisher)) => Ok(Site {
+            id,
+            domain,
+            publisher,
+        }),
+        Err(fault) => Err(fault),
+    }
 }
 
 // The id of the publisher, by the fields of the publisher and of its id.
@@ -67,22 +69,24 @@ pub(crate) fn app_field(request: &Value) -> Result<Option<App>, ReqFault>
     }
 }
 
-#[tactic(auto, using(json_fields::proofs::First::firsts), unfolding(crate::specs::Context::app_faults, crate::specs::Context::app_from))]
 fn app_in(app: &Value) -> Result<App, ReqFault>
     ensures { Answers ReqFault.Memory (app_faults (tree_of app.now)) (app_from (tree_of app.now)) result }
 {
-    let id = text_field(app, Field::App(AppField::Id))?;
-    let bundle = text_field(app, Field::App(AppField::Bundle))?;
+    let read = text_field(app, Field::App(AppField::Id));
+    let read = both(read, text_field(app, Field::App(AppField::Bundle)));
     let publisher = publisher_field(
         app,
         Field::App(AppField::Publisher),
         Field::App(AppField::PublisherId),
-    )?;
-    Ok(App {
-        id,
-        bundle,
-        publisher,
-    })
+    );
+    match both(read, publisher) {
+        Ok(((id, bundle), publisher)) => Ok(App {
+            id,
+            bundle,
+            publisher,
+        }),
+        Err(fault) => Err(fault),
+    }
 }
 
 #[tactic(auto, unfolding(crate::specs::Parts::inside_faults, crate::specs::Parts::inside_from))]

@@ -111,26 +111,35 @@ fn deal_in(alloc: Global, at: u8, imp: usize, place: usize, deal: &Value) -> Res
     requires forms { HasForms (tree_of deal.now) }
     ensures { Answers ReqFault.Memory (deal_faults imp place (tree_of deal.now)) (deal_from at (tree_of deal.now)) result }
 {
-    let id = id_field(imp, place, deal)?;
-    let floor = floor_field(deal, Field::OfDeal(imp, place, DealField::Bidfloor))?;
-    let currency = currency_field(
-        alloc,
-        deal,
-        Field::OfDeal(imp, place, DealField::Bidfloorcur),
-    )?;
-    let at = type_field(
-        deal,
-        Field::OfDeal(imp, place, DealField::At),
-        DEAL_TYPES,
-        at,
-    )?;
+    let head = id_field(imp, place, deal);
+    let head = both(
+        head,
+        floor_field(deal, Field::OfDeal(imp, place, DealField::Bidfloor)),
+    );
+    let head = both(
+        head,
+        currency_field(
+            alloc,
+            deal,
+            Field::OfDeal(imp, place, DealField::Bidfloorcur),
+        ),
+    );
+    let head = both(
+        head,
+        type_field(
+            deal,
+            Field::OfDeal(imp, place, DealField::At),
+            DEAL_TYPES,
+            at,
+        ),
+    );
     let read = texts_field(alloc, imp, place, deal, DealField::Wseat);
     let read = both(
         read,
         texts_field(alloc, imp, place, deal, DealField::Wadomain),
     );
-    match read {
-        Ok((wseat, wadomain)) => Ok(Deal {
+    match both(head, read) {
+        Ok(((((id, floor), currency), at), (wseat, wadomain))) => Ok(Deal {
             id,
             floor,
             currency,

@@ -11,7 +11,8 @@ use crate::banner::banner_field;
 use crate::deals::pmp_field;
 use crate::fault::ReqFault;
 use crate::parts::{
-    both, currency_field, fault, flag_field, floor_field, id_field, push, text_field, unless_faulty,
+    both, currency_field, fault, flag_field, floor_field, id_field, kept_if, push, text_field,
+    unless_faulty,
 };
 use exact_json::Value;
 use json_fields as fields;
@@ -27,8 +28,8 @@ pub(crate) fn imps_in(alloc: Global, at: u8, values: &[Value]) -> Result<List<Im
 {
     check_count(values.len())?;
     let imps = all_imps(alloc, at, values)?;
-    check_ids(imps.as_slice())?;
-    Ok(imps)
+    let different = check_ids(imps.as_slice());
+    kept_if(imps, different)
 }
 
 // Whether there are 1 to 64.
@@ -83,15 +84,18 @@ fn imp_in(alloc: Global, at: u8, place: usize, imp: &Value) -> Result<Imp, ReqFa
     requires forms { HasForms (tree_of imp.now) }
     ensures { Answers ReqFault.Memory (imp_faults place (tree_of imp.now)) (imp_from at (tree_of imp.now)) result }
 {
-    let id = id_field(imp, Field::Imp(place, ImpField::Id))?;
-    let tagid = text_field(imp, Field::Imp(place, ImpField::Tagid))?;
-    let secure = flag_field(imp, Field::Imp(place, ImpField::Secure))?;
-    let floor = floor_field(imp, Field::Imp(place, ImpField::Bidfloor))?;
+    let head = id_field(imp, Field::Imp(place, ImpField::Id));
+    let head = both(head, text_field(imp, Field::Imp(place, ImpField::Tagid)));
+    let head = both(head, flag_field(imp, Field::Imp(place, ImpField::Secure)));
+    let head = both(
+        head,
+        floor_field(imp, Field::Imp(place, ImpField::Bidfloor)),
+    );
     let read = currency_field(alloc, imp, Field::Imp(place, ImpField::Bidfloorcur));
     let read = both(read, banner_field(alloc, place, imp));
     let read = both(read, pmp_field(alloc, at, place, imp));
-    match read {
-        Ok(((currency, banner), pmp)) => Ok(Imp {
+    match both(head, read) {
+        Ok(((((id, tagid), secure), floor), ((currency, banner), pmp))) => Ok(Imp {
             id,
             tagid,
             secure,

@@ -1,8 +1,8 @@
-ghost use Rattle.std.specs.Prelude.{◌≡◌, ◌++◌, [], ◌∷◌, List, false, map, option_map, codes, IfOk, IfSome, OnOk};
+ghost use Rattle.std.specs.Prelude.{◌≡◌, ◌++◌, [], ◌∷◌, List, false, map, option_map, codes, IfErr, IfOk, IfSome, OnOk};
 ghost use Rattle.std.specs.List.{All};
 ghost use Rattle.exact_json.specs.Forms.{HasForms};
 ghost use Rattle.exact_json.specs.View.{tree_of};
-ghost use Rattle.json_fields.specs.Answers.{Answers, map_ok, value_or};
+ghost use Rattle.json_fields.specs.Answers.{Answers, IsFirst, map_ok, value_or};
 ghost use Rattle.json_fields.specs.Fields.{as_flag, or_absent, present};
 ghost use Rattle.rtb_types.specs.Paths.{member_name};
 ghost use Rattle.rtb_read.specs.Imps.{currency_in, floor_in, id_in};
@@ -48,6 +48,17 @@ pub(crate) fn both<A: Drop, B: Drop>(
             Ok(second) => Ok((first, second)),
             Err(fault) => Err(fault),
         },
+        Err(fault) => Err(fault),
+    }
+}
+
+// The value, which had no fault before, unless what was looked at in it has one.
+#[tactic(auto, using(json_fields::proofs::First::firsts))]
+pub(crate) fn kept_if<T: Drop>(value: T, looked: Result<(), ReqFault>) -> Result<T, ReqFault>
+    ensures { (a b : List ReqFault) (x : T) → a ≡ [] → value ≡ x → OnOk looked (b ≡ []) → IfErr looked (IsFirst ReqFault.Memory b) → Answers ReqFault.Memory (a ++ b) x result }
+{
+    match looked {
+        Ok(()) => Ok(value),
         Err(fault) => Err(fault),
     }
 }
