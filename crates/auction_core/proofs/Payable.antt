@@ -1,5 +1,5 @@
 -- What is sold can be paid, sale by sale.
-use Rattle.std.proofs.Common.{◌≡◌, ◌≢◌, ℕ, suc, ◌+◌, ◌<◌, ◌≤◌, ◌&&◌, cond, eqb, true, false, List, [], ◌∷◌, ◌++◌, length, map, refl, ap, sym, ◌∙◌, subst, arith, Option, Some, None}
+use Rattle.std.proofs.Common.{◌≡◌, ◌≢◌, ℕ, suc, ◌+◌, ◌<◌, ◌≤◌, ◌&&◌, cond, eqb, true, false, List, [], ◌∷◌, length, map, refl, ap, sym, ◌∙◌, subst, arith, Option, Some}
 use Rattle.std.specs.Prelude.{nat_le, nat_lt}
 use Rattle.std.specs.List.{enumerate_from, filter_map, list_all}
 use Rattle.std.proofs.lemmas.Bool.{and_parts, eqb-true, false≢true, le-leb, leb-true, lt-leb, ltb-false}
@@ -11,7 +11,7 @@ use Rattle.auction_core.specs.declared.draft.Plan.TheVariants.{Sell}
 use Rattle.auction_core.specs.declared.draft.Holding.{Holding}
 use Rattle.deal_rules.specs.Terms.{user_of}
 use Rattle.plain_exchange.specs.declared.changes.SoldItem.{SoldItem}
-use Rattle.budget_book.specs.Sales.{expired, expired_at}
+use Rattle.budget_book.specs.Sales.{expired_at}
 use Rattle.campaign_store.specs.declared.limit.Limit.TheVariants.{Sales}
 use Rattle.plain_exchange.specs.declared.commands.Reply.TheVariants as reply
 use Rattle.plain_exchange.specs.Auction.{Award, awards_of, due_at, sale_of, sales_of}

@@ -1,5 +1,5 @@
 -- What a draft of a command says, and when it can be carried out.
-use Rattle.std.specs.Prelude.{◌≡◌, ℕ, ◌+◌, ◌≤◌, ◌<◌, ◌&&◌, if◌then◌else◌, List, [], ◌∷◌, length, map, filter, Bool, true, false, Option, Some, None, option_map, IsTrue, nat_le, not}
+use Rattle.std.specs.Prelude.{◌≡◌, ℕ, ◌≤◌, ◌&&◌, List, [], ◌∷◌, length, map, filter, Bool, true, false, IsTrue, nat_le, not}
 use Rattle.std.specs.List.{enumerate_from}
 use Rattle.std.specs.Option.{option_map_or}
 use Rattle.assign.specs.Rows.{pairs_of}

@@ -1,6 +1,6 @@
 -- Only private clauses cite this file. What a command does to a state in which nothing is due, as it is
 -- prepared.
-use Rattle.std.specs.Prelude.{◌≡◌, ℕ, Option, None, Some}
+use Rattle.std.specs.Prelude.{◌≡◌, ℕ, None, Some}
 use Rattle.auction_core.specs.Draft.{CanCarry, answered, carried}
 use Rattle.auction_core.specs.declared.draft.Answer.TheVariants.{Told}
 use Rattle.auction_core.specs.declared.draft.Plan.{Plan}

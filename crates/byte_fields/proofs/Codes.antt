@@ -1,9 +1,9 @@
 -- Laws of what begins at a place, and of codes.
-use Rattle.std.proofs.Common.{◌≡◌, ℕ, ◌+◌, ◌<◌, ◌≤◌, List, [], ◌∷◌, ◌++◌, length, drop, Option, Some, None, Bool, true, false, refl, sym, ap, subst, ◌∙◌, arith, append_assoc, length-append, length-drop}
+use Rattle.std.proofs.Common.{◌≡◌, ℕ, ◌+◌, ◌≤◌, List, [], ◌∷◌, ◌++◌, length, drop, Option, Some, None, Bool, true, false, refl, sym, ap, subst, ◌∙◌, arith, append_assoc, length-append, length-drop}
 use Rattle.std.proofs.lemmas.List.{drop-drop, drop_at}
 use Rattle.rtb_num.proofs.Plain.{heads, tails, both_same}
 use Rattle.byte_fields.specs.Codes.{BeginsAt, IsReadAt, IsCode, BothValid, both_bytes}
-use Rattle.byte_fields.specs.Encodings.{IsOptionOf, option_bytes, IsByte, byte_bytes, IsFlag, flag_bytes}
+use Rattle.byte_fields.specs.Encodings.{IsOptionOf, option_bytes, IsFlag, flag_bytes}
 
 -- what stands behind a word is the rest
 rest_is : (bytes word rest : List ℕ) (place : ℕ) → drop place bytes ≡ word ++ rest → rest ≡ drop (place + length word) bytes

@@ -3,8 +3,8 @@ use Rattle.std.proofs.Common.{◌≡◌, ℕ, ◌+◌, ◌-◌, ◌<◌, ◌≤�
 use Rattle.std.specs.List.{flat_map}
 use Rattle.std.proofs.lemmas.List.{drop_at, take_at, length-take-le}
 use Rattle.std.proofs.lemmas.List.Concat.{flat_map-append}
-use Rattle.std.proofs.lemmas.List.Elements.{All-head, All-tail, All-push}
-use Rattle.byte_fields.specs.Codes.{BeginsAt, IsReadAt, IsCode, BothValid, both_bytes}
+use Rattle.std.proofs.lemmas.List.Elements.{All-head, All-tail}
+use Rattle.byte_fields.specs.Codes.{BeginsAt, IsReadAt, IsCode}
 use Rattle.byte_fields.specs.Encodings.{FitsFour, four_bytes, IsShort, text_bytes, IsListOf, IsListWithin, CountsMore, list_bytes}
 use Rattle.byte_fields.proofs.Codes.{begins_from, begins_both, begins_first, begins_second, begins_as, narrow_code, one_reading}
 use Rattle.byte_fields.proofs.Numbers.{four_code}

@@ -10,11 +10,13 @@
 
 mod laws;
 mod lists;
+mod pairs;
 mod scalars;
 mod texts;
 
 pub use laws::{fields_tell_their_ends, what_was_put_begins_there, what_was_put_is_read_again};
 pub use lists::{Element, Found, get_list, put_list};
+pub use pairs::paired;
 pub use scalars::{
     get_byte, get_eight, get_flag, get_four, put_byte, put_eight, put_flag, put_four,
 };

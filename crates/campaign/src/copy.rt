@@ -7,7 +7,7 @@ ghost use Rattle.campaign.specs.Kept.{text_bytes_of};
 use crate::decode::{Creative, Names};
 use crate::facts::Facts;
 use crate::parts::FactParts;
-use rtb_num::{List, Txt};
+use rtb_num::{List, Txt, pair_with};
 use std::alloc::{AllocError, Global};
 
 impl Facts {
@@ -61,18 +61,10 @@ fn copy_parts(parts: &FactParts) -> Result<FactParts, AllocError>
 {
     let alloc = allocator(parts);
     let attr = List::from_vec(Vec::from_slice(alloc, parts.attr.as_slice())?);
-    let lists = both(attr, copy_texts(alloc, parts.deals.as_slice()))?;
-    let more = both(lists, copy_creative(parts))?;
-    let copies = both(more, copy_names(alloc, parts))?;
+    let lists = pair_with(attr, copy_texts(alloc, parts.deals.as_slice()))?;
+    let more = pair_with(lists, copy_creative(parts))?;
+    let copies = pair_with(more, copy_names(alloc, parts))?;
     Ok(join(parts, copies))
-}
-
-// What was copied first, with what is copied behind it. A generic type is let go of in one step.
-fn both<A: Drop, B: Drop>(first: A, second: Result<B, AllocError>) -> Result<(A, B), AllocError>
-    ensures { (a : _) (b : _) → first ≡ a → IfOk second (λ y. y ≡ b) → IfOk result (λ r. r ≡ (a, b)) }
-{
-    let second = second?;
-    Ok((first, second))
 }
 
 // What the memory of the parts comes from.
@@ -85,16 +77,16 @@ fn copy_names(alloc: Global, parts: &FactParts) -> Result<Names, AllocError>
     ensures { IfOk result (λ names. names ≡ names_of parts.now) }
 {
     let seat = parts.seat.copy()?;
-    let texts = both(seat, parts.adomain.copy())?;
-    both(texts, copy_texts(alloc, parts.cat.as_slice()))
+    let texts = pair_with(seat, parts.adomain.copy())?;
+    pair_with(texts, copy_texts(alloc, parts.cat.as_slice()))
 }
 
 fn copy_creative(parts: &FactParts) -> Result<Creative, AllocError>
     ensures { IfOk result (λ creative. creative ≡ creative_of parts.now) }
 {
     let adm = parts.adm.copy()?;
-    let texts = both(adm, parts.crid.copy())?;
-    both(texts, copy_optional(&parts.adid))
+    let texts = pair_with(adm, parts.crid.copy())?;
+    pair_with(texts, copy_optional(&parts.adid))
 }
 
 // These parts, and those numbers that are no lists.

@@ -1,7 +1,5 @@
 ghost use Rattle.std.specs.Prelude.{◌≡◌, ◌≤◌, List, length, All, IfOk};
 ghost use Rattle.std.specs.List.{flat_map};
-ghost use Rattle.std.specs.Option.{option_map};
-ghost use Rattle.std.specs.Result.{result_map_both};
 ghost use Rattle.byte_fields.specs.Codes.{BothValid, IsReadAt, both_bytes};
 ghost use Rattle.byte_fields.specs.Encodings.{IsListOf, IsOptionOf, IsShort, eight_bytes, list_bytes, option_bytes, text_bytes};
 ghost use Rattle.campaign.specs.declared.decode.FactBytes.TheVariants.{Memory};
@@ -13,7 +11,7 @@ use crate::MOST_ITEMS;
 use crate::facts::Facts;
 use crate::ints::{Ints, get_int};
 use crate::parts::FactParts;
-use byte_fields::{Found, get_eight, get_flag, get_list, get_text, get_texts};
+use byte_fields::{Found, get_eight, get_flag, get_list, get_text, get_texts, paired};
 use rtb_num::{List, Micros, Nanos, Txt};
 use std::alloc::{AllocError, Global};
 use std::fmt;
@@ -157,17 +155,6 @@ fn get_names_look(alloc: Global, bytes: &[u8], place: usize) -> Found<(Names, Lo
         return Ok(None);
     };
     paired(names, get_look(alloc, bytes, next))
-}
-
-// What was found first, with what was found behind it. A generic type is let go of in one step, so no
-// reader lets go of what was found before part by part.
-fn paired<A: Drop, B: Drop>(first: A, behind: Found<B>) -> Found<(A, B)>
-    ensures { result ≡ result_map_both (option_map (λ r. ((first, r.0), r.1))) (λ e. e) behind }
-{
-    let Some((second, next)) = behind? else {
-        return Ok(None);
-    };
-    Ok(Some(((first, second), next)))
 }
 
 fn get_names(alloc: Global, bytes: &[u8], place: usize) -> Found<Names>

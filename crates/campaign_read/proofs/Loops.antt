@@ -1,10 +1,9 @@
 -- What one more element adds to the values that a loop has read.
-use Rattle.std.proofs.Common.{◌≡◌, ℕ, ◌+◌, ◌<◌, List, [], ◌∷◌, ◌++◌, map, take, length, get_or, refl, sym, ap, ◌∙◌}
-use Rattle.std.proofs.lemmas.List.{map_push}
+use Rattle.std.proofs.Common.{◌≡◌, ℕ, ◌+◌, ◌<◌, List, [], ◌∷◌, ◌++◌, map, take, length, get_or, refl}
 use Rattle.exact_json.specs.Tree.{Tree}
 use Rattle.json_fields.specs.Answers.{value_or}
 use Rattle.json_fields.specs.Fields.{as_array}
-use Rattle.json_fields.proofs.Each.{each_none, front_more, map_more}
+use Rattle.json_fields.proofs.Each.{each_none, map_more}
 use Rattle.target_expr.specs.declared.pred.RawPred.{RawPred}
 use Rattle.campaign_read.specs.Target.{conjunction_faults, conjunction_from, conjunctions_from, pred_at, pred_from}
 

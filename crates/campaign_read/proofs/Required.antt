@@ -1,5 +1,5 @@
 -- A whole number that has to be there, by way of one that may be absent.
-use Rattle.std.proofs.Common.{◌≡◌, ℤ, Option, Some, None, Result, Ok, Err, refl, sym, ap, ◌∙◌}
+use Rattle.std.proofs.Common.{◌≡◌, Option, Some, None, Result, Ok, Err, refl}
 use Rattle.json_fields.specs.Answers.{map_ok}
 use Rattle.json_fields.specs.Fields.{optional, required}
 use Rattle.json_fields.specs.declared.flaw.Flaw.{Flaw}

@@ -7,9 +7,8 @@ ghost use Rattle.effects.specs.declared.tag.Tag.{Tag as tag_type};
 ghost use Rattle.plain_exchange.specs.declared.changes.Change.{Change as change_type};
 
 use crate::fields::{get_expr, get_facts, get_terms, get_user};
-use crate::found::paired;
 use crate::items::get_items;
-use byte_fields::{Found, get_eight, get_four};
+use byte_fields::{Found, get_eight, get_four, paired};
 use campaign::{Cap, Facts};
 use plain_exchange::Change;
 use std::alloc::Global;

@@ -7,9 +7,8 @@ ghost use Rattle.effects.specs.declared.tag.Tag.{Tag as tag_type};
 use crate::fields::{
     get_expr, get_facts, get_gone, get_optional_cap, get_optional_user, get_state, get_triple,
 };
-use crate::found::paired;
 use budget_book::{Gone, SaleRow, SaleState};
-use byte_fields::{Found, get_eight, get_flag};
+use byte_fields::{Found, get_eight, get_flag, paired};
 use campaign::{Cap, Facts};
 use plain_exchange::{Change, KeptCampaign};
 use rtb_num::{Nanos, Txt};

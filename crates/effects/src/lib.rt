@@ -9,7 +9,6 @@ mod decoder;
 mod encoder;
 mod fault;
 mod fields;
-mod found;
 mod items;
 mod kept;
 mod laws;

@@ -1,5 +1,5 @@
 -- The entries of a posting list rise, and a fault's place is determined.
-use Rattle.std.proofs.Common.{◌≡◌, ℕ, ◌+◌, ◌-◌, ◌*◌, ◌<◌, ◌≤◌, ◌⊎◌, inl, inr, List, Bool, true, false, cond, refl, sym, ◌∙◌, ap, subst, arith, length, Some, None, Option, Ok, Err, Result, IsOk, IfOk, MatchOption, ◌↔◌}
+use Rattle.std.proofs.Common.{◌≡◌, ℕ, ◌+◌, ◌-◌, ◌*◌, ◌<◌, ◌≤◌, inl, inr, List, Bool, true, false, cond, refl, ◌∙◌, ap, subst, arith, length}
 use Rattle.std.proofs.lemmas.Bool.{cases_lt, cases_order}
 use Rattle.postings.specs.declared.entry.Entry.{Entry}
 use Rattle.postings.specs.declared.fault.BuildFault.{BuildFault}

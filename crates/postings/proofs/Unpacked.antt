@@ -1,5 +1,5 @@
 -- A posting list has the entries that it was made of.
-use Rattle.std.proofs.Common.{◌≡◌, ℕ, ◌+◌, ◌-◌, ◌<◌, ◌≤◌, suc, zero, List, [], ◌∷◌, Bool, refl, sym, ◌∙◌, ap, subst, arith, length, map, Some, None, Option, option_map, slice_get}
+use Rattle.std.proofs.Common.{◌≡◌, ℕ, ◌+◌, ◌-◌, ◌<◌, suc, zero, List, [], ◌∷◌, Bool, refl, sym, ◌∙◌, ap, arith, length, map, Some, option_map, slice_get}
 use Rattle.postings.specs.declared.entry.Entry.{Entry}
 use Rattle.postings.specs.Order.{entry_at}
 use Rattle.postings.specs.Packed.{AreMarked, id_of, is_marked, unpack, unpack_from}

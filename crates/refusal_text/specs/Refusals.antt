@@ -3,7 +3,6 @@
 use Rattle.std.specs.Prelude.{ℕ, List, [], ◌∷◌, codes, decimal}
 use Rattle.exact_json.specs.declared.fault.JsonFault.{JsonFault}
 use Rattle.exact_json.specs.declared.fault.JsonFault.TheVariants as json
-use Rattle.campaign.specs.declared.field.CampField.{CampField}
 use Rattle.campaign.specs.declared.parts.FactFault.{FactFault}
 use Rattle.campaign.specs.Paths.{camp_path}
 use Rattle.campaign_read.specs.declared.fault.CampFault.{CampFault}

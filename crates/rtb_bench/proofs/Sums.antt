@@ -4,7 +4,7 @@ use Rattle.std.proofs.Math.Nat.{mod-add-mod}
 use Rattle.std.proofs.lemmas.List.{take_all, take_more}
 use Rattle.exact_json.proofs.Values.{pairs_again}
 use Rattle.exact_json.specs.declared.value.Value.{Value}
-use Rattle.exact_json.specs.Tree.{Trees, no_trees, tree, Pairs, no_pairs, pair, list_of, members_of}
+use Rattle.exact_json.specs.Tree.{Trees, no_trees, tree, Pairs, list_of, members_of}
 use Rattle.exact_json.specs.View.{tree_of, trees_of, pairs_of, trees_from, pairs_from}
 use Rattle.rtb_bench.specs.Counts.{values_in, bytes_in, trees_values, trees_bytes, pairs_values, pairs_bytes}
 

@@ -1,5 +1,5 @@
 -- What a run answers.
-use Rattle.std.specs.Prelude.{◌≡◌, ◌≢◌, ℕ, pos, ◌≤◌, ◌*◌, ◌%◌, ◌^◌, ◌⊎◌, List, [], ◌∷◌, ◌++◌, Option, codes, decimal, IsTrue}
+use Rattle.std.specs.Prelude.{◌≡◌, ◌≢◌, ℕ, pos, ◌≤◌, ◌*◌, ◌%◌, ◌^◌, ◌⊎◌, List, [], ◌∷◌, Option, codes, decimal, IsTrue}
 use Rattle.std.specs.List.{concat}
 use Rattle.rtb_io.specs.Fronts.{AppendsFront}
 use Rattle.std.specs.Io.KnownBytes.{Consumes, Appends, IsAtEnd}

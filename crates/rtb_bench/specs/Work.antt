@@ -4,7 +4,7 @@ use Rattle.std.specs.Str.{bytes_eq}
 use Rattle.std.specs.Io.KnownBytes.{Appends}
 use Rattle.rtb_io.specs.Fronts.{AppendsFront}
 use Rattle.target_expr.specs.declared.attr.Attr.{Attr}
-use Rattle.conj_index.specs.Campaigns.{Campaigns, AreKept, DoRise}
+use Rattle.conj_index.specs.Campaigns.{Campaigns, DoRise}
 use Rattle.rtb_bench.specs.declared.named_work.profile.Profile.{Profile}
 use Rattle.rtb_bench.specs.declared.named_work.profile.Profile.TheVariants.{Selective, Broad}
 use Rattle.rtb_bench.specs.declared.named_work.work.Way.{Way}

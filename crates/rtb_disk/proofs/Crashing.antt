@@ -1,10 +1,10 @@
 -- What a crash leaves by a pick is an image.
-use Rattle.std.proofs.Common.{◌≡◌, ℕ, ◌+◌, ◌≤◌, ◌<◌, List, [], ◌∷◌, ◌++◌, length, take, drop, min, max, Bool, true, false, refl, sym, ◌∙◌, ap, subst, arith, length-append}
-use Rattle.std.specs.Prelude.{fold, ◌==◌, ◌%◌, ◌&&◌, if◌then◌else◌}
-use Rattle.std.proofs.lemmas.List.{take_min, take_more, drop_all, take_all, drop-append-le, length-take}
+use Rattle.std.proofs.Common.{◌≡◌, ℕ, ◌+◌, ◌≤◌, ◌<◌, List, [], ◌∷◌, ◌++◌, length, take, drop, Bool, true, false, refl, sym, ◌∙◌, ap, subst, arith}
+use Rattle.std.specs.Prelude.{fold, ◌==◌, ◌%◌, if◌then◌else◌}
+use Rattle.std.proofs.lemmas.List.{take_min, drop_all, take_all, drop-append-le, length-take}
 use Rattle.std.proofs.lemmas.List.Sums.{fold_push}
-use Rattle.rtb_disk.specs.Stores.{Store, Change, IsImage, Leaves, Torn, TornCut, fresh, write, cut, changed}
-use Rattle.rtb_disk.specs.Record.{all_done, done, effect, is_change, is_settling, made_of, part, replay}
+use Rattle.rtb_disk.specs.Stores.{Store, IsImage, Torn, TornCut, fresh, write, cut, changed}
+use Rattle.rtb_disk.specs.Record.{all_done, done, effect, is_settling, made_of, part, replay}
 use Rattle.rtb_disk.specs.Crashes.{behind_sync, by_bit, crashed, next_pick, with_picked}
 use Rattle.rtb_disk.specs.Images.{cut_part, length-part, torn_written}
 use Rattle.rtb_disk.proofs.Replayed.{effect_reads}

@@ -1,12 +1,12 @@
 -- One call more in the record.
-use Rattle.std.proofs.Common.{◌≡◌, ℕ, ◌+◌, ◌-◌, ◌≤◌, List, [], ◌∷◌, ◌++◌, length, take, drop, Bool, true, false, refl, sym, ◌∙◌, ap, inl, inr, arith, Result, Ok, Err, OnErr}
+use Rattle.std.proofs.Common.{◌≡◌, ℕ, ◌+◌, ◌-◌, ◌≤◌, List, [], ◌∷◌, ◌++◌, length, take, drop, Bool, true, false, refl, ◌∙◌, ap, inl, inr, arith, Result, Ok, Err, OnErr}
 use Rattle.std.specs.Prelude.{replicate}
-use Rattle.std.proofs.lemmas.List.{take-append-le, length-append}
+use Rattle.std.proofs.lemmas.List.{take-append-le}
 use Rattle.std.proofs.lemmas.List.Sums.{fold_push}
-use Rattle.rtb_disk.specs.Stores.{Store, Fails, fresh, write, cut, overwritten, changed}
-use Rattle.rtb_disk.specs.Record.{done, effect, filled, is_change, made_of, part, replay, written}
+use Rattle.rtb_disk.specs.Stores.{Store, Fails, fresh, write, overwritten, changed}
+use Rattle.rtb_disk.specs.Record.{done, effect, filled, made_of, part, replay, written}
 use Rattle.rtb_disk.specs.Memory.{Did, DiskState, recorded, store_of}
-use Rattle.rtb_disk.specs.Images.{cut_part, drop-filled, length-part, torn_written}
+use Rattle.rtb_disk.specs.Images.{drop-filled, length-part, torn_written}
 use Rattle.rtb_disk.specs.declared.calls.Call.{Call}
 use Rattle.rtb_disk.specs.declared.calls.Call.TheVariants as call
 use Rattle.rtb_disk.specs.declared.calls.Made.{Made}

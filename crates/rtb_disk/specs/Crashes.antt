@@ -1,5 +1,5 @@
 -- What a crash leaves of a disk in memory, by a pick of the changes.
-use Rattle.std.specs.Prelude.{ℕ, ◌/◌, ◌%◌, ◌==◌, ◌&&◌, List, [], ◌∷◌, ◌++◌, fold, Bool, true, false, if◌then◌else◌}
+use Rattle.std.specs.Prelude.{ℕ, ◌/◌, ◌%◌, ◌==◌, ◌&&◌, List, [], ◌∷◌, ◌++◌, fold, if◌then◌else◌}
 use Rattle.rtb_disk.specs.Stores.{fresh}
 use Rattle.rtb_disk.specs.Record.{done, is_change, is_settling, replay}
 use Rattle.rtb_disk.specs.declared.calls.Made.{Made}

@@ -1,9 +1,9 @@
 -- The law of a disk in memory, with its proof: what a read gives is one of the images. Private.
-use Rattle.std.specs.Prelude.{◌≡◌, ℕ, ◌+◌, ◌-◌, ◌≤◌, ◌<◌, ◌/◌, min, max, List, [], ◌∷◌, ◌++◌, length, take, drop, replicate, Bool, true, false}
+use Rattle.std.specs.Prelude.{◌≡◌, ℕ, ◌+◌, ◌-◌, ◌≤◌, ◌<◌, ◌/◌, min, List, [], ◌∷◌, ◌++◌, length, take, drop, replicate, Bool, true, false}
 use Rattle.std.proofs.Common.{refl, sym, ◌∙◌, ap, arith, ⊎_elim, append_assoc, length-append, length-drop}
 use Rattle.std.proofs.lemmas.List.{take_at, drop_at, drop-drop, take-take, take_min, take_all, drop_all, length-take, length-replicate, take-append-le, append-nil}
 use Rattle.std.proofs.lemmas.Bool.{cases_lt, false≢true}
-use Rattle.rtb_disk.specs.Stores.{Store, Torn, TornCut, IsImage, untold, fresh, write, cut, overwritten, changed, settled}
+use Rattle.rtb_disk.specs.Stores.{Store, Torn, TornCut, IsImage, untold, fresh, write, overwritten}
 use Rattle.rtb_disk.specs.Record.{effect, filled, part, replay, written}
 use Rattle.rtb_disk.specs.Memory.{DiskState, store_of}
 use Rattle.rtb_disk.specs.declared.calls.Call.{Call}

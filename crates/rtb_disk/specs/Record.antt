@@ -1,5 +1,5 @@
 -- What the calls of a disk in memory do.
-use Rattle.std.specs.Prelude.{ℕ, ◌+◌, ◌-◌, ◌/◌, ◌&&◌, not, List, [], ◌∷◌, ◌++◌, length, take, fold, replicate, Bool, true, false, Option, Some, None, if◌then◌else◌}
+use Rattle.std.specs.Prelude.{ℕ, ◌+◌, ◌-◌, ◌/◌, ◌&&◌, not, List, ◌++◌, length, take, fold, replicate, Bool, true, false, Option, Some, None, if◌then◌else◌}
 use Rattle.rtb_disk.specs.Stores.{Store, write, cut, overwritten, changed, settled}
 use Rattle.rtb_disk.specs.declared.calls.Call.{Call}
 use Rattle.rtb_disk.specs.declared.calls.Call.TheVariants as call

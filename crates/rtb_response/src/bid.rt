@@ -13,7 +13,7 @@ use campaign::Facts;
 use json_out::Writer;
 use plain_exchange::Sold;
 use rtb_macros::{MacroValues, substitute};
-use rtb_num::{Micros, Txt, write_decimal, write_micros};
+use rtb_num::{Micros, Txt, pair_with, write_decimal, write_micros};
 use rtb_types::BidRequest;
 use std::alloc::{AllocError, Global};
 
@@ -187,11 +187,11 @@ fn macro_values(alloc: Global, request: &BidRequest, sale: &Sold) -> Result<Macr
 {
     let facts = &sale.record.record().facts;
     let auction = request.id.copy()?;
-    let one = both(auction, digits(alloc, sale.sale))?;
-    let two = both(one, Txt::from_slice(alloc, imp_id(request, sale)))?;
-    let three = both(two, facts.seat().copy())?;
-    let four = both(three, copy_if_some(facts.adid()))?;
-    let all = both(four, price(alloc, sale.price))?;
+    let one = pair_with(auction, digits(alloc, sale.sale))?;
+    let two = pair_with(one, Txt::from_slice(alloc, imp_id(request, sale)))?;
+    let three = pair_with(two, facts.seat().copy())?;
+    let four = pair_with(three, copy_if_some(facts.adid()))?;
+    let all = pair_with(four, price(alloc, sale.price))?;
     let (((((auction, bid), imp), seat), ad), price) = all;
     Ok(MacroValues {
         auction,
@@ -201,14 +201,6 @@ fn macro_values(alloc: Global, request: &BidRequest, sale: &Sold) -> Result<Macr
         ad,
         price,
     })
-}
-
-// What was made first, with what is made behind it. A generic type is let go of in one step.
-fn both<A: Drop, B: Drop>(first: A, second: Result<B, AllocError>) -> Result<(A, B), AllocError>
-    ensures { (a : _) (b : _) → first ≡ a → IfOk second (λ y. y ≡ b) → IfOk result (λ r. r ≡ (a, b)) }
-{
-    let second = second?;
-    Ok((first, second))
 }
 
 fn digits(alloc: Global, n: u64) -> Result<Txt, AllocError>

@@ -1,10 +1,9 @@
 -- What the images of a disk say, from the disk as it was handed out to the disk behind the last link.
-use Rattle.std.proofs.Common.{◌≡◌, ◌⊎◌, ℕ, List, [], true, ap, inr, sym, subst}
+use Rattle.std.proofs.Common.{◌≡◌, [], true, ap, inr, sym, subst}
 use Rattle.link_door.specs.declared.door.Door.{Ghosts as DoorGhosts}
 use Rattle.link_door.specs.declared.link.Link.{Ghosts as LinkGhosts}
 use Rattle.one_worker.specs.Standing.{GoesOn, SaysUpTo, disk_in, store_in}
 use Rattle.one_worker.specs.declared.exchange.Exchange.{Exchange}
-use Rattle.plain_exchange.specs.declared.changes.Effect.{Effect}
 use Rattle.recovery.specs.Texts.{HasText}
 use Rattle.rtb_disk.specs.Stores.{Always, settled}
 use Rattle.rtb_disk.specs.declared.disk.Disk.{Ghosts}

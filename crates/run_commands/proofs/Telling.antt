@@ -1,12 +1,10 @@
 -- From what was called to what a command comes to.
-use Rattle.std.proofs.Common.{◌≡◌, ◌⊎◌, ◌≢◌, ℕ, List, [], ◌∷◌, Option, None, Some, Result, Ok, Err, true, refl, sym, subst, ap, arith, ◌∙◌}
+use Rattle.std.proofs.Common.{◌≡◌, ◌≢◌, ℕ, List, [], ◌∷◌, Option, Result, Ok, Err, true, refl, sym, ap, arith, ◌∙◌}
 use Rattle.std.specs.Prelude.{MatchResult}
 use Rattle.journal_file.specs.declared.faults.JournalFault.{JournalFault}
 use Rattle.journal_file.specs.declared.faults.JournalFault.TheVariants as fault
-use Rattle.link_door.specs.Worlds.{HandsOut}
 use Rattle.link_door.specs.declared.world.WorldFault.{WorldFault}
 use Rattle.link_door.specs.declared.world.WorldFault.TheVariants as world
-use Rattle.recovery.specs.Damage.{IsDamagedAt}
 use Rattle.recovery.specs.Openings.{Opens as Opens', Recovers as Recovers'}
 use Rattle.rtb_base.specs.Faults.{RisesOnlyWhere, Rose}
 use Rattle.rtb_disk.specs.Stores.{Store}

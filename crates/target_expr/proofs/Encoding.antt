@@ -1,5 +1,5 @@
 -- The bytes of expressions are a code, and what is read of them step by step.
-use Rattle.std.proofs.Common.{◌≡◌, ℕ, ◌<◌, ◌≤◌, List, ◌∷◌, length, get_or, Bool, true, false, cond, Some, None, All, leb, refl, sym, ◌∙◌, ap, arith, lit<}
+use Rattle.std.proofs.Common.{◌≡◌, ℕ, ◌≤◌, List, length, get_or, Bool, true, false, cond, Some, None, All, leb, refl, ap, arith}
 use Rattle.std.specs.List.{list_all}
 use Rattle.std.proofs.lemmas.Bool.{and_parts, leb-true}
 use Rattle.target_expr.proofs.Attributes.{in_table, same_number}

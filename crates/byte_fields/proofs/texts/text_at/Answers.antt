@@ -1,4 +1,4 @@
-use Rattle.std.proofs.Common.{ℕ, ◌-◌, ◌<◌, ◌≤◌, length, ap, arith, length-drop}
+use Rattle.std.proofs.Common.{◌-◌, ◌<◌, ◌≤◌, length, ap, arith, length-drop}
 use Rattle.std.proofs.lemmas.List.{take_rest}
 use Rattle.byte_fields.proofs.texts.text_at.Goals as goal
 use Rattle.byte_fields.proofs.Rows.{text_no_length, text_too_short, text_there}

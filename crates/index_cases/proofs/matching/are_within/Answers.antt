@@ -1,4 +1,4 @@
-use Rattle.std.proofs.Common.{◌+◌, ◌<◌, ◌≤◌, All, arith, get_or, length, subst, sym, take, take_all}
+use Rattle.std.proofs.Common.{◌<◌, All, get_or, subst, sym, take, take_all}
 use Rattle.std.proofs.lemmas.List.{take_more}
 use Rattle.std.proofs.lemmas.List.Elements.{All-push}
 use Rattle.index_cases.proofs.matching.are_within.Goals as goal

@@ -1,6 +1,5 @@
-use Rattle.std.proofs.Common.{◌≡◌, ◌<◌, ◌≤◌, ◌+◌, ◌∙◌, ap, arith, length, refl, slice_get, sym, Some, Option, option_map, ℕ}
+use Rattle.std.proofs.Common.{◌≡◌, ◌∙◌, ap, arith, length, refl, slice_get, sym, Some, option_map, ℕ}
 use Rattle.std.proofs.lemmas.Option.{slice_get_past, slice_get_read}
-use Rattle.postings.specs.declared.entry.Entry.{Entry}
 use Rattle.postings.specs.Packed.{is_marked}
 use Rattle.postings.proofs.Unpacked.{unpacked_get, unpacked_length}
 use Rattle.postings.proofs.Postings.at.Goals as goal

@@ -1,4 +1,4 @@
-use Rattle.std.proofs.Common.{◌∙◌, ap, arith, length, sym}
+use Rattle.std.proofs.Common.{ap, arith, length}
 use Rattle.postings.proofs.Unpacked.{unpacked_length}
 use Rattle.postings.proofs.Postings.len.Goals as goal
 

@@ -1,4 +1,4 @@
-use Rattle.std.proofs.Common.{◌∙◌, ap, false, subst, sym, ◌≡◌, ℕ}
+use Rattle.std.proofs.Common.{◌∙◌, ap}
 use Rattle.postings.specs.Packed.{is_marked}
 use Rattle.postings.proofs.Marks.{none_marked}
 use Rattle.postings.proofs.packing.marks_of.Goals as goal

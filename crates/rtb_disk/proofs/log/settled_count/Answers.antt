@@ -1,4 +1,4 @@
-use Rattle.std.proofs.Common.{◌≡◌, ◌+◌, ◌∙◌, ◌++◌, ◌∷◌, [], ap, sym, subst, take, ℕ, List}
+use Rattle.std.proofs.Common.{◌≡◌, ◌+◌, ◌∙◌, ◌++◌, ◌∷◌, [], ap, sym, subst, take, List}
 use Rattle.std.proofs.lemmas.List.{take_more}
 use Rattle.rtb_disk.specs.declared.calls.Made.{Made}
 use Rattle.rtb_disk.proofs.Crashing.{IsSplit, split_other, split_settling}

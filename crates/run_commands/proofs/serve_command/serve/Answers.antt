@@ -1,4 +1,4 @@
-use Rattle.std.proofs.Common.{◌≡◌, subst, sym}
+use Rattle.std.proofs.Common.{subst}
 use Rattle.run_commands.specs.Serve.{Serves}
 use Rattle.run_commands.proofs.serve_command.serve.Goals as goal
 

@@ -1,4 +1,4 @@
-use Rattle.std.proofs.Common.{refl, subst, sym, [], ◌∷◌}
+use Rattle.std.proofs.Common.{refl, subst, sym}
 use Rattle.link_door.specs.Worlds.{HandsOut}
 use Rattle.run_commands.specs.Serve.{Announces, EndsWithoutDoor, listens, no_door}
 use Rattle.run_commands.proofs.Growing.{says_the_same}

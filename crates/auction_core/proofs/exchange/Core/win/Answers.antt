@@ -1,4 +1,4 @@
-use Rattle.std.proofs.Common.{◌≡◌, ◌∙◌, ap, sym}
+use Rattle.std.proofs.Common.{◌∙◌, ap, sym}
 use Rattle.std.specs.List.{list_all}
 use Rattle.auction_core.specs.Auctions.{beside}
 use Rattle.clearing.specs.Clearing.{is_fit, outcome}

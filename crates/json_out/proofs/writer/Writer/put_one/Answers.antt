@@ -3,7 +3,7 @@ use Rattle.json_out.specs.declared.places.Place.TheVariants.{Array}
 use Rattle.json_out.specs.Strings.{string_text}
 use Rattle.json_out.specs.Texts.{array_text}
 use Rattle.json_out.specs.Inside.{put_member}
-use Rattle.json_out.specs.Writer.{Written, begin, can_end, end, put_name, put_value, takes_name, takes_value}
+use Rattle.json_out.specs.Writer.{begin, can_end, end, put_name, put_value, takes_name, takes_value}
 use Rattle.json_out.proofs.Objects.{array_ends, element_more, name_next, value_next}
 use Rattle.json_out.proofs.writer.Writer.put_one.Goals as goal
 

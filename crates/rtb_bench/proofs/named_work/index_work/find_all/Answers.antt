@@ -1,5 +1,5 @@
-use Rattle.std.proofs.Common.{List, ℕ, ◌++◌, take, subst, ◌∙◌}
-use Rattle.rtb_bench.specs.Found.{AreSums, all_found}
+use Rattle.std.proofs.Common.{take, ◌∙◌}
+use Rattle.rtb_bench.specs.Found.{all_found}
 use Rattle.rtb_bench.proofs.Totals.{sums_step}
 use Rattle.rtb_bench.proofs.named_work.index_work.find_all.Goals as goal
 

@@ -1,4 +1,4 @@
-use Rattle.std.proofs.Common.{◌≡◌, ℕ, ◌<◌, ◌≤◌, ◌++◌, ◌∷◌, [], All, List, sym, subst}
+use Rattle.std.proofs.Common.{ℕ, ◌<◌, ◌≤◌, ◌++◌, ◌∷◌, [], All, List, sym, subst}
 use Rattle.target_expr.specs.declared.pred.Pred.{Pred}
 use Rattle.conj_index.specs.Campaigns.{Campaigns, conjunctions_in}
 use Rattle.rtb_bench.proofs.Totals.{above, fewer}

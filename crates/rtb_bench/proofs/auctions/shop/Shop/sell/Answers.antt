@@ -1,4 +1,4 @@
-use Rattle.std.proofs.Common.{◌≡◌, ◌∙◌, ℕ, List, ap, map, subst, sym}
+use Rattle.std.proofs.Common.{◌≡◌, ◌∙◌, ℕ, ap, map, subst, sym}
 use Rattle.auction_core.specs.Core.{CoreState, listed_as}
 use Rattle.auction_core.specs.Draft.{IsDraftOf}
 use Rattle.conj_index.specs.Content.{IsIndexOf}
