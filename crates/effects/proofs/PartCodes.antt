@@ -1,5 +1,6 @@
 -- The parts of changes are codes.
-use Rattle.std.proofs.Common.{◌≡◌, ℕ, ◌+◌, ◌<◌, ◌≤◌, ◌^◌, List, [], ◌∷◌, ◌++◌, length, take, get_or, Option, Some, None, Bool, true, false, cond, refl, sym, ap, subst, ◌∙◌, arith, append-nil, lit<}
+use Rattle.std.proofs.Common.{◌≡◌, ◌↔◌, ℕ, ◌+◌, ◌<◌, ◌≤◌, ◌^◌, List, [], ◌∷◌, ◌++◌, length, take, get_or, Option, Some, None, Bool, true, false, cond, refl, sym, ap, subst, ◌∙◌, arith, append-nil, lit<}
+use Rattle.std.specs.Prelude.{IsTrue}
 use Rattle.std.specs.List.{flat_map}
 use Rattle.std.proofs.lemmas.Bool.Decides.{nat_tests}
 use Rattle.std.proofs.lemmas.Bool.{false≢true}
@@ -236,6 +237,12 @@ user_none bytes place none = λ user m u a. none user m (user_fits user u) a
 
 pub user_refused : (bytes : List ℕ) (place : ℕ) (user : List ℕ) (n : ℕ) → IsReadAt IsShort text_bytes bytes place (Some (user, n)) → (IsUser user → ⊥) → IsReadAt IsUser text_bytes bytes place None
 user_refused = read_narrow IsShort text_bytes text_code IsUser user_fits
+
+pub user_taken : (bytes : List ℕ) (place : ℕ) (user : List ℕ) (n : ℕ) (is_empty : Bool) → IsReadAt IsShort text_bytes bytes place (Some (user, n)) → (IsTrue is_empty ↔ (user ≡ [])) → is_empty ≡ false → length user ≤ 255 → IsReadAt IsUser text_bytes bytes place (Some (user, n))
+user_taken bytes place [] n is_empty read none some low =
+    let empty : is_empty ≡ true = none.1 refl in
+    cc
+user_taken bytes place (c ∷ user) n is_empty read none some low = ((omega arith, low), read.1)
 
 -- ---- rows of items
 

@@ -1,5 +1,5 @@
 use Rattle.std.proofs.Common.{length, ap, arith}
-use Rattle.effects.proofs.PartCodes.{user_none, user_refused}
+use Rattle.effects.proofs.PartCodes.{user_none, user_refused, user_taken}
 use Rattle.effects.proofs.fields.get_user.Goals as goal
 
 pub returns-in_default : goal.returns-in_default
@@ -18,3 +18,8 @@ returns-then-len-gt-LONGEST_USER c =
     let read = rw c.in-Some.is at c.in_ok-user.ensures in
     user_refused c.args.bytes.now c.args.place c.in-Some.user c.in-Some.next read
     (λ u. omega (arith, u.1, c.len.ensures, c.if-len-gt-LONGEST_USER.true))
+
+pub returns : goal.returns
+returns c =
+    let read = rw c.in-Some.is at c.in_ok-user.ensures in
+    user_taken c.args.bytes.now c.args.place c.in-Some.user c.in-Some.next c.is_empty.result read c.is_empty.ensures c.if-is_empty.false (omega (arith, c.len.ensures, c.if-len-gt-LONGEST_USER.false))

@@ -1,3 +1,4 @@
+use Rattle.std.proofs.Common.{refl}
 use Rattle.one_worker.proofs.Links.{failed_served, one_given, one_served}
 use Rattle.one_worker.proofs.Moving.{goes_same}
 use Rattle.one_worker.proofs.door.serve_next.Goals as goal
@@ -20,3 +21,9 @@ returns-in-Err-clause-links g c = failed_served _ _ _ _ _ _ _ c.in-Err.field-0 c
 
 pub returns-in-Err-clause-journal : goal.returns-in-Err-clause-journal
 returns-in-Err-clause-journal g c = goes_same c.args.worker.now.exchange
+
+pub returns-in-Err-clause-all : goal.returns-in-Err-clause-all
+returns-in-Err-clause-all g c = λ e. absurd (cc e)
+
+pub returns-in-Err-clause-cause : goal.returns-in-Err-clause-cause
+returns-in-Err-clause-cause g c = (c.in-Err.ensures.cause.0, λ _. c.in-Err.ensures.cause.1, λ no. absurd (no refl))

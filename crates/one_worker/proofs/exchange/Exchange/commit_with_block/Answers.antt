@@ -24,3 +24,9 @@ returns-in-Err-clause-moves g c = λ command moment d.
     by_append _ c.args.self.now _ _ c.as_bytes.ensures.value c.append.result b.0 c.requires.whole b.2 refl
     (effect_made c.args.self.now.core moment command c.args.draft b.0 _ d b.1 (c.commit-reply.ensures.state command moment d))
     c.append.ensures.added c.append.ensures.stopped c.append.ensures.any_moment c.append.ensures.broken
+
+pub returns-in-Err-clause-written : goal.returns-in-Err-clause-written
+returns-in-Err-clause-written g c = refl
+
+pub returns-in-Err-clause-cause : goal.returns-in-Err-clause-cause
+returns-in-Err-clause-cause g c = c.in-Err.ensures.cause
