@@ -1,11 +1,12 @@
 //! Calls that count their steps: of `conj_index`, an index of campaigns and what is found in it, and those
-//! of `matching`.
+//! of `correcting` and `matching`.
 //!
 //! A campaign is written as its expression, as `case_exprs` says, and `5000*` before it stands for so many
 //! campaigns with that expression. The campaigns are numbered from 1.
 ghost use Rattle.std.specs.Prelude.{◌≡◌, ◌≤◌, ◌<◌, ◌+◌, All, IfOk};
 ghost use Rattle.conj_index.specs.Campaigns.{conjunctions_in};
 
+use crate::correcting;
 use crate::matching::{answer_with, put_numbers};
 use case_exprs::{assignment_in, make_expr};
 use case_lines::{done, kept_if};
@@ -17,13 +18,14 @@ use std::marker::Brand;
 use std::sync::ledger::{Blank, Ledger};
 use target_expr::{Assignment, Expr, ExprFault};
 
-/// Answers a call of this area or of `matching`, or tells that it is none.
+/// Answers a call of this area, of `correcting` or of `matching`, or tells that it is none.
 ///
 /// - `find | ASSIGNMENT | CAMPAIGN | .. | CAMPAIGN`: the numbers of the campaigns that the index of these
 ///   finds, or `none`; `, but ` and what asking each gives where that is something else; and `, then ` and
 ///   what the second of two finds in one room gives where that is.
 /// - `index_build | CAMPAIGN | .. | CAMPAIGN`: the owners of the conjunctions, and of each part how many
 ///   keys and lists it has, as `1 1, 0 keys 1 lists, 2 keys 2 lists`.
+/// - `corrected | ASSIGNMENT | COMMAND | .. | COMMAND`: what `correcting` says.
 pub fn answer(alloc: Global, call: &[u8], args: &[Txt], out: &mut Txt) -> Result<bool, AllocError> {
     answer_by::<Brand>(alloc, call, args, out, Blank::new(1))
 }
@@ -46,6 +48,13 @@ fn answer_by<L: Ledger>(
         }
         campaigns if call == b"index_build".as_slice() => done(build(
             alloc, campaigns, &mut steps, out,
+        )),
+        [assigned, commands @ ..] if call == b"corrected".as_slice() => done(correcting::run(
+            alloc,
+            assigned.as_bytes(),
+            commands,
+            &mut steps,
+            out,
         )),
         _ => answer_with(alloc, call, args, &mut steps, out),
     }

@@ -1,11 +1,13 @@
-//! The program `index_cases`: reads cases of posting lists and the index, a line each, and prints those that
-//! are answered otherwise than they say.
+//! The program `index_cases`: reads cases of posting lists, the index and its versions, a line each, and prints
+//! those that are answered otherwise than they say.
 //!
 //! `case_lines` says what a case is; each area has a module with its calls.
 #![tactic(auto)]
 
+mod correcting;
 mod finding;
 mod matching;
+mod records;
 
 use case_lines::{Areas, run_cases};
 use rtb_num::{StdSink, StdSource, Txt};
