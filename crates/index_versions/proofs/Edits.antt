@@ -83,8 +83,8 @@ pub noted_last : (recent : RecentEdits) (edit n spare : ℕ) → edit ≤ newest
     → touched_after edit (record { oldest = recent.oldest; touched = recent.touched ++ n ∷ []; spare = spare }) ≡ touched_after edit recent ++ n ∷ []
 noted_last recent edit n spare known = drop-append-le (edit - recent.oldest) recent.touched (n ∷ []) (omega (arith, known))
 
-pub kept_after : (recent left : RecentEdits) (edit to : ℕ) → recent.oldest ≤ to → to ≤ newest recent → to ≤ edit → left.oldest ≡ to → left.touched ≡ touched_after to recent
+pub kept_after : (recent left : RecentEdits) (edit to : ℕ) → recent.oldest ≤ to → to ≤ edit → left.oldest ≡ to → left.touched ≡ touched_after to recent
     → touched_after edit left ≡ touched_after edit recent
-kept_after recent left edit to from until later starts stays =
+kept_after recent left edit to from later starts stays =
     let gone : (to - recent.oldest) + (edit - left.oldest) ≡ edit - recent.oldest = omega (arith, from, later, starts) in
     ap (drop (edit - left.oldest)) stays ∙ drop-drop (edit - left.oldest) (to - recent.oldest) recent.touched ∙ ap (λ k. drop k recent.touched) gone

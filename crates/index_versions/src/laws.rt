@@ -26,5 +26,5 @@ pub fn what_was_found_can_be_corrected()
 /// forget those up to a number takes none of those after it.
 pub fn edits_are_remembered()
     ensures noted { (recent : RecentEdits) (edit n spare : ℕ) → edit ≤ newest recent → touched_after edit (record { oldest = recent.oldest; touched = recent.touched ++ n ∷ []; spare = spare }) ≡ touched_after edit recent ++ n ∷ [] }
-    ensures forgotten { (recent left : RecentEdits) (edit to : ℕ) → recent.oldest ≤ to → to ≤ newest recent → to ≤ edit → left.oldest ≡ to → left.touched ≡ touched_after to recent → touched_after edit left ≡ touched_after edit recent }
+    ensures forgotten { (recent left : RecentEdits) (edit to : ℕ) → recent.oldest ≤ to → to ≤ edit → left.oldest ≡ to → left.touched ≡ touched_after to recent → touched_after edit left ≡ touched_after edit recent }
 {}
