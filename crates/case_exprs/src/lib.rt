@@ -1,4 +1,4 @@
-//! Expressions and assignments as cases write them.
+//! Expressions and assignments as cases write them, and the least record of a campaign with an expression.
 //!
 //! An expression is written `os=iOS,Android&gender!F|pos`: `&` stands between predicates and `|` between
 //! conjunctions, `!` for `=` where a predicate is negated, and a name alone lists no value. `-` has no
@@ -9,6 +9,9 @@ ghost use Rattle.std.specs.Prelude.{◌≡◌, IfOk, IsTrue};
 ghost use Rattle.std.specs.List.{list_any};
 ghost use Rattle.target_expr.specs.Truth.{are_single, same_attr};
 
+mod records;
+
+pub use records::least_record;
 use rtb_num::{List, Txt};
 use std::alloc::{AllocError, Global};
 use target_expr::{Assignment, Attr, Expr, ExprFault, RawPred, attr_named};

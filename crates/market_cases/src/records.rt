@@ -1,10 +1,8 @@
 // Records of campaigns that cases name by what they hold.
-ghost use Rattle.std.specs.Prelude.{◌≡◌, ◌%◌, IfOk, IfSome};
-
-use campaign::{FactParts, Facts};
-use campaign_store::{SharedRecord, make_record};
+use campaign_store::SharedRecord;
+use case_exprs::least_record;
 use case_lines::kept;
-use rtb_num::{List, Micros, Nanos, Txt, write_decimal};
+use rtb_num::{List, Txt, write_decimal};
 use std::alloc::{AllocError, Global};
 use target_expr::{Expr, RawPred};
 
@@ -18,48 +16,6 @@ pub struct Shape {
 
 // The most that a case may ask for, so that a wrong number costs little.
 const MOST: u64 = 256;
-
-// The facts of the least campaign, with one byte of text in each of four fields; none where they are refused.
-pub fn least_facts(alloc: Global) -> Result<Option<Facts>, AllocError> {
-    let (Some(bid), Some(budget)) = (Micros::new(1), Nanos::new(1_000)) else {
-        return Ok(None);
-    };
-    let mut parts = bare_parts(alloc, bid, budget);
-    let filled = fill_parts(&mut parts);
-    let parts = kept(parts, filled)?;
-    if parts.budget.get() % 1_000 != 0 {
-        drop(parts);
-        return Ok(None);
-    }
-    Ok(Facts::make(parts).ok())
-}
-
-// The parts without their texts.
-fn bare_parts(alloc: Global, bid: Micros, budget: Nanos) -> FactParts {
-    FactParts {
-        seat: Txt::new(alloc),
-        adomain: Txt::new(alloc),
-        cat: List::new(alloc),
-        w: None,
-        h: None,
-        attr: List::new(alloc),
-        secure: false,
-        bid,
-        deals: List::new(alloc),
-        budget,
-        adm: Txt::new(alloc),
-        crid: Txt::new(alloc),
-        adid: None,
-        cap: None,
-    }
-}
-
-fn fill_parts(parts: &mut FactParts) -> Result<(), AllocError> {
-    parts.seat.push(b's')?;
-    parts.adomain.push(b'd')?;
-    parts.adm.push(b'm')?;
-    parts.crid.push(b'c')
-}
 
 // The expression of that shape; none where it is refused.
 pub fn expr_of(alloc: Global, shape: Shape) -> Result<Option<Expr>, AllocError> {
@@ -135,21 +91,7 @@ fn count_digits(number: u64) -> usize {
 // The record of that shape; none where a part is refused.
 pub fn record_of(alloc: Global, shape: Shape) -> Result<Option<SharedRecord>, AllocError> {
     match expr_of(alloc, shape)? {
-        Some(expr) => record_with(alloc, expr),
+        Some(expr) => least_record(alloc, expr),
         None => Ok(None),
-    }
-}
-
-fn record_with(alloc: Global, expr: Expr) -> Result<Option<SharedRecord>, AllocError> {
-    match least_facts(alloc) {
-        Ok(Some(facts)) => Ok(Some(make_record(alloc, facts, expr)?)),
-        Ok(None) => {
-            drop(expr);
-            Ok(None)
-        }
-        Err(refused) => {
-            drop(expr);
-            Err(refused)
-        }
     }
 }
