@@ -1,5 +1,5 @@
 -- What is sold can be paid, sale by sale.
-use Rattle.std.proofs.Common.{◌≡◌, ◌≢◌, ℕ, suc, ◌+◌, ◌<◌, ◌≤◌, ◌&&◌, cond, eqb, true, false, List, [], ◌∷◌, length, map, refl, ap, sym, ◌∙◌, subst, arith, Option, Some}
+use Rattle.std.proofs.Common.{◌≡◌, ◌≢◌, ℕ, suc, ◌+◌, ◌<◌, ◌≤◌, ◌&&◌, cond, eqb, true, false, List, [], ◌∷◌, length, map, refl, ap, sym, ◌∙◌, subst, arith, None, Option, Some}
 use Rattle.std.specs.Prelude.{nat_le, nat_lt}
 use Rattle.std.specs.List.{enumerate_from, filter_map, list_all}
 use Rattle.std.proofs.lemmas.Bool.{and_parts, eqb-true, false≢true, le-leb, leb-true, lt-leb, ltb-false}
@@ -15,7 +15,7 @@ use Rattle.budget_book.specs.Sales.{expired_at}
 use Rattle.campaign_store.specs.declared.limit.Limit.TheVariants.{Sales}
 use Rattle.plain_exchange.specs.declared.commands.Reply.TheVariants as reply
 use Rattle.plain_exchange.specs.Auction.{Award, awards_of, due_at, sale_of, sales_of}
-use Rattle.plain_exchange.specs.Effects.{can_pay, has_room, sale_by, with_items}
+use Rattle.plain_exchange.specs.Effects.{can_pay, edits_in, has_room, sale_by, with_items}
 use Rattle.plain_exchange.specs.State.{State, forgotten, most_sales, swept, with_sales}
 use Rattle.plain_exchange.specs.Step.{Transition, all_sold_as, auction, changing, item_of, sell, sold_as, sold_change, unchanged}
 use Rattle.auction_core.specs.declared.outcome.Outcome.{Outcome}
@@ -84,14 +84,18 @@ many_swept m s = length-map s.sales (expired_at m)
 pub none_sold : (ttl m : ℕ) (r : BidRequest) (s : State) (awards : List Award) → awards ≡ awards_of ttl m r (swept m s) → awards ≡ []
     → IsOutcome m (swept m s) (auction ttl m r (swept m s) (awards_of ttl m r (swept m s))) (told_alone reply.NoBid)
 none_sold ttl m r s awards e none =
-    subst (λ ds. IsOutcome m (swept m s) (auction ttl m r (swept m s) ds) (told_alone reply.NoBid)) (sym none ∙ e) (record { reply = refl; after = refl; change = refl })
+    subst (λ ds. IsOutcome m (swept m s) (auction ttl m r (swept m s) ds) (told_alone reply.NoBid)) (sym none ∙ e) (record { reply = refl; after = refl; change = refl; edits_are = refl })
 
 pub too_many_sold : (ttl m : ℕ) (r : BidRequest) (s : State) (awards : List Award) → awards ≡ awards_of ttl m r (swept m s) → awards ≢ [] → most_sales < length s.sales + length awards
     → IsOutcome m (swept m s) (auction ttl m r (swept m s) (awards_of ttl m r (swept m s))) (told_alone (reply.Full Sales))
 too_many_sold ttl m r s awards e some many =
     let u = swept m s in
     let is : auction ttl m r u awards ≡ unchanged u (reply.Full Sales) = some_sell ttl m r u awards some ∙ is_full ttl m r u awards (omega (arith, many, many_swept m s)) in
-    subst (λ t. IsOutcome m u t (told_alone (reply.Full Sales))) (sym is ∙ ap (auction ttl m r u) e) (record { reply = refl; after = refl; change = refl })
+    subst (λ t. IsOutcome m u t (told_alone (reply.Full Sales))) (sym is ∙ ap (auction ttl m r u) e) (record { reply = refl; after = refl; change = refl; edits_are = refl })
+
+sold_unedited : (user : Option (List ℕ)) (items : List SoldItem) → 0 ≡ edits_in (sold_change user items)
+sold_unedited None items = refl
+sold_unedited (Some user) items = refl
 
 pub all_are_sold : (ttl m : ℕ) (r : BidRequest) (s : State) (awards : List Award) → awards ≡ awards_of ttl m r (swept m s) → awards ≢ [] → length s.sales + length awards ≤ most_sales
     → IsOutcome m (swept m s) (auction ttl m r (swept m s) (awards_of ttl m r (swept m s))) (does (Sell (map (holding_of (due_at ttl m) (user_of r)) awards)) (reply.Sold (all_sold_as s r awards)) (sold_change (user_of r) (map (item_of ttl m) awards)))
@@ -103,6 +107,7 @@ all_are_sold ttl m r s awards e some few =
       reply = ap (λ l. reply.Sold l) (sold_swept m r s awards);
       after = ap (λ rows. with_sales u rows) (rows_are ttl m r awards);
       change = refl;
+      edits_are = sold_unedited (user_of r) (map (item_of ttl m) awards);
     })
 
 pub all_possible : (ttl m : ℕ) (r : BidRequest) (s : State) (awards : List Award) (sale_room campaign_room : ℕ) → awards ≡ awards_of ttl m r (swept m s) → length s.sales + length awards ≤ most_sales → length awards ≤ sale_room

@@ -3,7 +3,7 @@ use Rattle.std.proofs.Common.{◌≡◌, ℕ, ◌-◌, ◌&&◌, cond, Bool, tru
 use Rattle.std.specs.Prelude.{nat_le, option_map, slice_get}
 use Rattle.std.specs.Option.{option_map_or}
 use Rattle.std.proofs.lemmas.Option.{slice_get-map}
-use Rattle.auction_core.specs.Draft.{carried, settled}
+use Rattle.auction_core.specs.Draft.{carried, settled, edits_planned}
 use Rattle.auction_core.specs.Outcomes.{IsOutcome, does, told_alone}
 use Rattle.auction_core.specs.declared.draft.Answer.TheVariants as answer
 use Rattle.auction_core.specs.declared.draft.Plan.{Plan}
@@ -17,13 +17,14 @@ use Rattle.plain_exchange.specs.declared.changes.Change.{Change}
 use Rattle.plain_exchange.specs.declared.changes.Change.TheVariants as change
 use Rattle.plain_exchange.specs.declared.commands.Reply.{Reply}
 use Rattle.plain_exchange.specs.declared.commands.Reply.TheVariants as reply
+use Rattle.plain_exchange.specs.Effects.{edits_in}
 use Rattle.plain_exchange.specs.State.{Campaign, State, campaign_at, forgotten, sale_numbered, swept, with_campaign, with_sale}
 use Rattle.plain_exchange.specs.Step.{Transition, at_campaign, at_sale, bill_sale, billed_by, changing, lose_sale, lost_by, pause_campaign, report_campaign, resume_campaign, unchanged, with_live}
 use Rattle.plain_exchange.proofs.Each.{none_some, some_same}
 use Rattle.auction_core.proofs.Stating.{changed_is}
 
 pub told_is : (m : ℕ) (s : State) (r : Reply) → IsOutcome m s (unchanged s r) (told_alone r)
-told_is m s r = record { reply = refl; after = refl; change = refl }
+told_is m s r = record { reply = refl; after = refl; change = refl; edits_are = refl }
 
 pub same_outcome : (m : ℕ) (s : State) (t u : Transition) (o : Outcome) → t ≡ u → IsOutcome m s u o → IsOutcome m s t o
 same_outcome m s t u o e h = subst (λ v. IsOutcome m s v o) (sym e) h
@@ -43,13 +44,13 @@ pub told_there : (m : ℕ) (s : State) (n : ℕ) (act : Campaign → Transition)
 told_there m s n act c r at e = same_outcome m s (at_campaign s n act) (unchanged s r) (told_alone r) (at_some s n act c at ∙ e) (told_is m s r)
 
 pub done_there : (m : ℕ) (s after : State) (n : ℕ) (act : Campaign → Transition) (c : Campaign) (p : Plan) (r : Reply) (ch : Change) → campaign_at s n ≡ Some c → act c ≡ changing after r ch → carried p m s ≡ after
-    → IsOutcome m s (at_campaign s n act) (does p r ch)
-done_there m s after n act c p r ch at e f = same_outcome m s (at_campaign s n act) (changing after r ch) (does p r ch) (at_some s n act c at ∙ e) (record { reply = refl; after = f; change = refl })
+    → edits_planned p ≡ edits_in ch → IsOutcome m s (at_campaign s n act) (does p r ch)
+done_there m s after n act c p r ch at e f one = same_outcome m s (at_campaign s n act) (changing after r ch) (does p r ch) (at_some s n act c at ∙ e) (record { reply = refl; after = f; change = refl; edits_are = one })
 
 pub pause_live : (m : ℕ) (s : State) (n : ℕ) (c : Campaign) → campaign_at s n ≡ Some c → c.live ≡ true → IsOutcome m s (at_campaign s n (pause_campaign n s)) (does (plan.Pause n) (reply.Paused n) (change.Paused n))
 pause_live m s n c at live =
     done_there m s (with_campaign s n (with_live false c)) n (pause_campaign n s) c (plan.Pause n) (reply.Paused n) (change.Paused n) at
-    (ap (λ b. cond b (changing (with_campaign s n (with_live false c)) (reply.Paused n) (change.Paused n)) (unchanged s (reply.Paused n))) live) (changed_is n (with_live false) s c at)
+    (ap (λ b. cond b (changing (with_campaign s n (with_live false c)) (reply.Paused n) (change.Paused n)) (unchanged s (reply.Paused n))) live) (changed_is n (with_live false) s c at) refl
 
 pub pause_paused : (m : ℕ) (s : State) (n : ℕ) (c : Campaign) → campaign_at s n ≡ Some c → c.live ≡ false → IsOutcome m s (at_campaign s n (pause_campaign n s)) (told_alone (reply.Paused n))
 pause_paused m s n c at live =
@@ -59,7 +60,7 @@ pause_paused m s n c at live =
 pub resume_paused : (m : ℕ) (s : State) (n : ℕ) (c : Campaign) → campaign_at s n ≡ Some c → c.live ≡ false → IsOutcome m s (at_campaign s n (resume_campaign n s)) (does (plan.Resume n) (reply.Resumed n) (change.Resumed n))
 resume_paused m s n c at live =
     done_there m s (with_campaign s n (with_live true c)) n (resume_campaign n s) c (plan.Resume n) (reply.Resumed n) (change.Resumed n) at
-    (ap (λ b. cond b (unchanged s (reply.Resumed n)) (changing (with_campaign s n (with_live true c)) (reply.Resumed n) (change.Resumed n))) live) (changed_is n (with_live true) s c at)
+    (ap (λ b. cond b (unchanged s (reply.Resumed n)) (changing (with_campaign s n (with_live true c)) (reply.Resumed n) (change.Resumed n))) live) (changed_is n (with_live true) s c at) refl
 
 pub resume_live : (m : ℕ) (s : State) (n : ℕ) (c : Campaign) → campaign_at s n ≡ Some c → c.live ≡ true → IsOutcome m s (at_campaign s n (resume_campaign n s)) (told_alone (reply.Resumed n))
 resume_live m s n c at live =
@@ -71,8 +72,8 @@ pub report_any : (m : ℕ) (s : State) (n : ℕ) → IsOutcome m s (at_campaign 
 report_any m s n = by_campaign (campaign_at s n) refl
   where
     by_campaign : (o : Option Campaign) → campaign_at s n ≡ o → IsOutcome m s (at_campaign s n (report_campaign n s)) (record { plan = plan.Nothing; answer = answer.Report n; change = None })
-    by_campaign None e = record { reply = refl; after = sym (ap (λ (t : Transition). t.after) (at_none s n (report_campaign n s) e)); change = sym (ap (λ (t : Transition). t.change) (at_none s n (report_campaign n s) e)) }
-    by_campaign (Some c) e = record { reply = refl; after = sym (ap (λ (t : Transition). t.after) (at_some s n (report_campaign n s) c e)); change = sym (ap (λ (t : Transition). t.change) (at_some s n (report_campaign n s) c e)) }
+    by_campaign None e = record { reply = refl; after = sym (ap (λ (t : Transition). t.after) (at_none s n (report_campaign n s) e)); change = sym (ap (λ (t : Transition). t.change) (at_none s n (report_campaign n s) e)); edits_are = refl }
+    by_campaign (Some c) e = record { reply = refl; after = sym (ap (λ (t : Transition). t.after) (at_some s n (report_campaign n s) c e)); change = sym (ap (λ (t : Transition). t.change) (at_some s n (report_campaign n s) c e)); edits_are = refl }
 
 -- ---- sales
 
@@ -133,7 +134,7 @@ bill_outcome m s n state.Lost = told_alone reply.WasLost
 bill_outcome m s n state.Expired = told_alone reply.WasExpired
 
 billed_as : (m : ℕ) (s : State) (n : ℕ) (sale : SaleRow) (st : SaleState) → sale_numbered s n ≡ Some sale → sale.state ≡ st → IsOutcome m s (billed_by st n s sale) (bill_outcome m s n st)
-billed_as m s n sale state.Held there e = record { reply = refl; after = settled_is state.Billed s n sale there e; change = refl }
+billed_as m s n sale state.Held there e = record { reply = refl; after = settled_is state.Billed s n sale there e; change = refl; edits_are = refl }
 billed_as m s n sale state.Billed there e = told_is m s (reply.Billed n)
 billed_as m s n sale state.Lost there e = told_is m s reply.WasLost
 billed_as m s n sale state.Expired there e = told_is m s reply.WasExpired
@@ -152,7 +153,7 @@ lose_outcome m s n state.Lost = told_alone (reply.Lost n)
 lose_outcome m s n state.Expired = told_alone reply.WasExpired
 
 lost_as : (m : ℕ) (s : State) (n : ℕ) (sale : SaleRow) (st : SaleState) → sale_numbered s n ≡ Some sale → sale.state ≡ st → IsOutcome m s (lost_by st n s sale) (lose_outcome m s n st)
-lost_as m s n sale state.Held there e = record { reply = refl; after = settled_is state.Lost s n sale there e; change = refl }
+lost_as m s n sale state.Held there e = record { reply = refl; after = settled_is state.Lost s n sale there e; change = refl; edits_are = refl }
 lost_as m s n sale state.Billed there e = told_is m s reply.WasBilled
 lost_as m s n sale state.Lost there e = told_is m s (reply.Lost n)
 lost_as m s n sale state.Expired there e = told_is m s reply.WasExpired

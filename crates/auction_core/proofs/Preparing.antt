@@ -1,13 +1,18 @@
 -- What is prepared of an auction, and of other commands.
-use Rattle.std.proofs.Common.{◌≡◌, ℕ, ◌≤◌, true, List, length, refl, Result, Ok, Err}
-use Rattle.std.specs.Prelude.{IfOk, OnOk}
+use Rattle.std.proofs.Common.{◌≡◌, ℕ, ◌≤◌, Bool, cond, true, false, List, length, refl, None, Option, Some, Result, Ok, Err}
+use Rattle.std.specs.Prelude.{IfOk, OnOk, option_map}
+use Rattle.std.specs.Option.{option_map_or, option_or}
 use Rattle.auction_core.specs.Auctions.{award_outcome}
-use Rattle.auction_core.specs.Draft.{is_simple}
+use Rattle.auction_core.specs.Draft.{effect_edits, is_simple}
 use Rattle.auction_core.specs.Outcomes.{IsOutcome, IsPossible}
 use Rattle.auction_core.specs.declared.outcome.Outcome.{Outcome}
 use Rattle.plain_exchange.specs.Auction.{Award, awards_of}
+use Rattle.plain_exchange.specs.declared.changes.Change.{Change}
+use Rattle.plain_exchange.specs.declared.changes.Change.TheVariants as change
+use Rattle.plain_exchange.specs.declared.changes.Effect.{Effect}
 use Rattle.plain_exchange.specs.declared.commands.Command.{Command}
 use Rattle.plain_exchange.specs.declared.commands.Command.TheVariants as command
+use Rattle.plain_exchange.specs.Effects.{edits_in}
 use Rattle.plain_exchange.specs.State.{State, swept}
 use Rattle.plain_exchange.specs.Step.{auction}
 use Rattle.rtb_types.specs.declared.request.BidRequest.{BidRequest}
@@ -35,3 +40,13 @@ other_simple (command.Resume n) other = refl
 other_simple (command.Report n) other = refl
 other_simple (command.Bill n) other = refl
 other_simple (command.Lose n) other = refl
+
+-- what takes effect where a command has this change of its own
+abbrev pub effect_with : ℕ → Bool → Option Change → Option Effect
+effect_with m due own = option_map (λ (c : Change). record { moment = m; change = c }) (option_or own (cond due (Some change.Swept) None))
+
+-- the effect of a command is just the edits of its own change: that sales expire is none
+pub effect_edited : (m : ℕ) (own : Option Change) (due : Bool) → effect_edits (effect_with m due own) ≡ option_map_or edits_in own 0
+effect_edited m (Some c) due = refl
+effect_edited m None true = refl
+effect_edited m None false = refl

@@ -1,5 +1,5 @@
 -- What a draft of a command says, and when it can be carried out.
-use Rattle.std.specs.Prelude.{◌≡◌, ℕ, ◌≤◌, ◌&&◌, List, [], ◌∷◌, length, map, filter, Bool, true, false, IsTrue, nat_le, not}
+use Rattle.std.specs.Prelude.{◌≡◌, ℕ, ◌≤◌, ◌&&◌, List, [], ◌∷◌, length, map, filter, Bool, true, false, IsTrue, nat_le, not, Option}
 use Rattle.std.specs.List.{enumerate_from}
 use Rattle.std.specs.Option.{option_map_or}
 use Rattle.assign.specs.Rows.{pairs_of}
@@ -18,7 +18,8 @@ use Rattle.campaign_store.specs.declared.record.Record.{Record}
 use Rattle.plain_exchange.specs.declared.commands.Command.{Command}
 use Rattle.plain_exchange.specs.declared.commands.Command.TheVariants as command
 use Rattle.plain_exchange.specs.declared.commands.Reply.{Reply}
-use Rattle.plain_exchange.specs.Effects.{can_pay, has_room, is_within_limits}
+use Rattle.plain_exchange.specs.declared.changes.Effect.{Effect}
+use Rattle.plain_exchange.specs.Effects.{can_pay, edits_in, has_room, is_within_limits}
 use Rattle.plain_exchange.specs.State.{Campaign, State, campaign_at, committed, forgotten, swept, with_campaign, with_campaigns, with_sales}
 use Rattle.plain_exchange.specs.Step.{at_campaign, effect_of, new_campaign, report_campaign, step, with_live, with_record}
 use Rattle.rtb_types.specs.declared.request.BidRequest.{BidRequest}
@@ -103,6 +104,24 @@ after_of d s = carried d.plan d.moment (swept d.moment s)
 abbrev pub reply_of : Draft → State → Reply
 reply_of d s = answered d.answer (after_of d s)
 
+-- how many edits of the table a plan makes
+abbrev pub edits_planned : Plan → ℕ
+edits_planned plan.Nothing = 0
+edits_planned (plan.Sell holdings) = 0
+edits_planned (plan.Add entry) = 1
+edits_planned (plan.Change n entry) = 1
+edits_planned (plan.Pause n) = 1
+edits_planned (plan.Resume n) = 1
+edits_planned (plan.Bill n) = 0
+edits_planned (plan.Lose n) = 0
+
+abbrev pub edits_made : Draft → ℕ
+edits_made d = edits_planned d.plan
+
+-- how many an effect is, where there is one
+abbrev pub effect_edits : Option Effect → ℕ
+effect_edits effect = option_map_or (λ (e : Effect). edits_in e.change) effect 0
+
 -- ---- when it can be carried out
 
 -- the sales can be paid, and there are not too many, one after the other
@@ -138,3 +157,5 @@ pub record IsDraftOf (ttl : ℕ) (s : State) (command : Command) (moment : ℕ) 
   pub reply : reply_of d s ≡ (step ttl moment s command).reply
   pub after : after_of d s ≡ (step ttl moment s command).after
   pub effect : d.effect ≡ effect_of ttl moment s command
+  -- and it makes just the edits of its effect
+  pub edits_are : edits_made d ≡ effect_edits d.effect

@@ -1,6 +1,6 @@
 // What was prepared is carried out.
 ghost use Rattle.std.specs.Prelude.{◌≡◌, ◌≤◌, ◌<◌, ◌+◌, ◌^◌, ℕ, IsTrue, is_some, length, map};
-ghost use Rattle.auction_core.specs.Draft.{CanCarry, CanHoldAll, IsDraftOf, IsReady, answered, after_of, carried, reply_of, row_of};
+ghost use Rattle.auction_core.specs.Draft.{CanCarry, CanHoldAll, IsDraftOf, IsReady, answered, after_of, carried, edits_made, edits_planned, reply_of, row_of};
 ghost use Rattle.plain_exchange.specs.declared.commands.Command.{Command};
 ghost use Rattle.plain_exchange.specs.State.{campaign_at, with_sales};
 ghost use Rattle.plain_exchange.specs.Step.{at_campaign, report_campaign, step};
@@ -20,7 +20,7 @@ impl Core {
         ensures reply { (command : Command) (moment : ℕ) → IsDraftOf self.old.ttl self.old.state command moment draft → result ≡ (step self.old.ttl moment self.old.state command).reply }
         ensures state { (command : Command) (moment : ℕ) → IsDraftOf self.old.ttl self.old.state command moment draft → self.new.state ≡ (step self.old.ttl moment self.old.state command).after }
         ensures ttl { self.new.ttl ≡ self.old.ttl }
-        ensures edits { self.new.edits ≤ self.old.edits + 1 }
+        ensures edits { self.new.edits ≡ self.old.edits + edits_made draft }
     {
         self.carry_draft(draft)
     }
@@ -32,7 +32,7 @@ impl Core {
         ensures reply { result ≡ reply_of draft self.old.state }
         ensures state { self.new.state ≡ after_of draft self.old.state }
         ensures ttl { self.new.ttl ≡ self.old.ttl }
-        ensures edits { self.new.edits ≤ self.old.edits + 1 }
+        ensures edits { self.new.edits ≡ self.old.edits + edits_made draft }
     {
         drop(draft.effect);
         self.sweep(draft.moment);
@@ -46,7 +46,7 @@ impl Core {
         requires few { self.old.edits < 2 ^ 63 }
         ensures state { self.new.state ≡ carried plan moment self.old.state }
         ensures ttl { self.new.ttl ≡ self.old.ttl }
-        ensures edits { self.new.edits ≤ self.old.edits + 1 }
+        ensures edits { self.new.edits ≡ self.old.edits + edits_planned plan }
     {
         match plan {
             Plan::Nothing => {}

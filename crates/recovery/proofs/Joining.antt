@@ -1,5 +1,5 @@
 -- Texts with one block more, and where their effects lead.
-use Rattle.std.proofs.Common.{◌≡◌, ℕ, ◌+◌, ◌<◌, List, [], ◌∷◌, ◌++◌, All, length, map, take, drop, get_or, refl, sym, ◌∙◌, ap, arith, Some, None, take-append-drop}
+use Rattle.std.proofs.Common.{◌≡◌, ℕ, ◌+◌, ◌<◌, ◌≤◌, ◌^◌, List, [], ◌∷◌, ◌++◌, All, length, map, take, drop, get_or, refl, sym, ◌∙◌, ap, arith, Some, None, take-append-drop}
 use Rattle.std.specs.List.{flat_map}
 use Rattle.std.specs.Prelude.{Ok, option_and_then}
 use Rattle.std.proofs.lemmas.List.{append-nil, drop_more, map-append, take_more}
@@ -11,6 +11,8 @@ use Rattle.plain_exchange.specs.declared.changes.Effect.{Effect}
 use Rattle.plain_exchange.specs.Effects.{all_applied, applied, edits, edits_in, state_of}
 use Rattle.plain_exchange.specs.State.{State, empty}
 use Rattle.plain_exchange.proofs.Applying.{all_applied_both}
+use Rattle.auction_core.specs.Core.{CoreState}
+use Rattle.recovery.specs.Openings.{IsLed}
 use Rattle.recovery.specs.Texts.{IsTextOf}
 
 pub no_text : IsTextOf [] []
@@ -54,3 +56,16 @@ pub edits_so_far : (effects : List Effect) (i : ℕ) (e : Effect) (first before 
 edits_so_far effects i e first before now lt is a b =
     let same : edits_in e.change ≡ edits_in (get_or effects i e).change = ap (λ (x : Effect). edits_in x.change) is in
     omega (arith, a, b, same, sum_by_more (λ (x : Effect). edits_in x.change) effects i e lt)
+
+-- ---- what some effects lead to
+
+pub led_more : (es : List Effect) (old new : CoreState) → all_applied es old.state ≡ Some new.state → new.edits ≡ old.edits + edits es → (old.edits ≤ 2 ^ 61 → new.edits ≤ 2 ^ 61) → IsLed old → IsLed new
+led_more es old new after more few led = record {
+  effects = led.effects ++ es;
+  leads = leads_more led.effects es old.state new.state led.leads after;
+  edits_are = more ∙ ap (λ n. n + edits es) led.edits_are ∙ sym (edits_more led.effects es);
+  few = few led.few;
+}
+
+pub led_empty : (core : CoreState) → core.state ≡ empty → core.edits ≡ 0 → IsLed core
+led_empty core state none = record { effects = []; leads = ap (λ (s : State). Some s) (sym state); edits_are = none; few = omega (arith, none) }

@@ -1,5 +1,5 @@
 -- What comes of opening a journal.
-use Rattle.std.specs.Prelude.{◌≡◌, ◌⊎◌, ℕ, List, [], ◌++◌, Some, Result, Ok, Err}
+use Rattle.std.specs.Prelude.{◌≡◌, ◌⊎◌, ℕ, ◌≤◌, ◌^◌, List, [], ◌++◌, Some, Result, Ok, Err}
 use Rattle.auction_core.specs.Core.{CoreState}
 use Rattle.journal_file.specs.Blocks.{StandsFor, journal_names}
 use Rattle.journal_file.specs.Standing.{Keeps}
@@ -38,6 +38,13 @@ pub record IsMadeBy (AreSuch : List (List ℕ) → Type 0) (core : CoreState) : 
   pub text : IsTextOf payloads effects
   pub leads : state_of effects ≡ Some core.state
   pub edits_are : core.edits ≡ edits effects
+
+-- effects lead to the exchange, and they are not too many edits
+pub record IsLed (core : CoreState) : Type 0 where
+  pub effects : List Effect
+  pub leads : state_of effects ≡ Some core.state
+  pub edits_are : core.edits ≡ edits effects
+  pub few : core.edits ≤ 2 ^ 61
 
 module _ {D : Type 0} {G : Ghosts D} where
   -- the disk is told, and nothing of the file was read yet

@@ -1,5 +1,6 @@
-ghost use Rattle.std.specs.Prelude.{◌≡◌, ◌+◌, Err, IfOk, None, OnOk, Some};
+ghost use Rattle.std.specs.Prelude.{◌≡◌, ◌≤◌, ◌+◌, ◌^◌, Err, IfOk, None, OnOk, Some};
 ghost use Rattle.plain_exchange.specs.Effects.{all_applied, applied, edits, edits_in};
+ghost use Rattle.recovery.specs.Openings.{IsLed};
 ghost use Rattle.recovery.specs.Turns.{Follows};
 
 use auction_core::{ApplyFault, Core};
@@ -9,7 +10,7 @@ use std::alloc::Global;
 
 // The most edits of a table. No journal comes to them: a disk has fewer than 2^63 bytes, and an effect, which is
 // at most two edits, has nine at least.
-const MOST_EDITS: u64 = 1 << 63;
+const MOST_EDITS: u64 = 1 << 61;
 
 // Carries out the effects of the block at the gate.
 pub(crate) fn apply_block(
@@ -19,6 +20,7 @@ pub(crate) fn apply_block(
     core: &mut Core,
 ) -> Result<(), JournalFault>
     ensures follows { Follows gate payload.now core.old core.new result }
+    ensures led { IsLed core.old → OnOk result (IsLed core.new) }
     ensures ttl { core.new.ttl ≡ core.old.ttl }
 {
     match decode(alloc, payload) {
@@ -40,6 +42,7 @@ pub(crate) fn apply_block(
 fn apply_all(alloc: Global, effects: &[Effect], core: &mut Core) -> Result<(), ApplyFault>
     ensures after { OnOk result (all_applied effects.now core.old.state ≡ Some core.new.state) }
     ensures edits { OnOk result (core.new.edits ≡ core.old.edits + edits effects.now) }
+    ensures few { core.old.edits ≤ 2 ^ 61 → core.new.edits ≤ 2 ^ 61 }
     ensures unfit { result ≡ Err ApplyFault.Unfit → all_applied effects.now core.old.state ≡ None }
     ensures ttl { core.new.ttl ≡ core.old.ttl }
 {
@@ -53,6 +56,7 @@ fn apply_all(alloc: Global, effects: &[Effect], core: &mut Core) -> Result<(), A
 fn apply_one(alloc: Global, effect: &Effect, core: &mut Core) -> Result<(), ApplyFault>
     ensures after { OnOk result (applied effect.now core.old.state ≡ Some core.new.state) }
     ensures edits { OnOk result (core.new.edits ≡ core.old.edits + edits_in effect.now.change) }
+    ensures few { core.old.edits ≤ 2 ^ 61 → core.new.edits ≤ 2 ^ 61 }
     ensures unfit { result ≡ Err ApplyFault.Unfit → applied effect.now core.old.state ≡ None }
     ensures ttl { core.new.ttl ≡ core.old.ttl }
 {

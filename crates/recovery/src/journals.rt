@@ -2,7 +2,7 @@ ghost use Rattle.std.specs.Prelude.{◌≡◌, ◌≢◌, ◌⊎◌, Err, IfErr,
 ghost use Rattle.journal_file.specs.Readings.{HasNotFailed, faults_read, reads_of, store_read};
 ghost use Rattle.journal_file.specs.Standing.{faults_of, is_broken, store_of};
 ghost use Rattle.plain_exchange.specs.declared.changes.Effect.{Effect};
-ghost use Rattle.recovery.specs.Openings.{AreKept, IsAtStart, IsMadeBy, Opens};
+ghost use Rattle.recovery.specs.Openings.{AreKept, IsAtStart, IsLed, IsMadeBy, Opens};
 ghost use Rattle.recovery.specs.Texts.{GivesState, HasText};
 ghost use Rattle.rtb_base.specs.Faults.{Rose};
 ghost use Rattle.rtb_disk.specs.Stores.{Always, settled};
@@ -39,14 +39,16 @@ pub fn open<D: Disk>(
     }
 }
 
-// The same, by a reading from which nothing was read yet.
-fn open_from<D: Disk>(
+/// The same, by a reading from which nothing was read yet.
+pub fn open_from<D: Disk>(
     alloc: Global,
     reading: Reading<D>,
     ttl: u64,
 ) -> Result<(Journal<D>, Core), (D, JournalFault)>
     ensures opened { IsAtStart reading → MatchResult result (λ r. IsMadeBy (AreKept (reads_of reading) r.0) r.1) (λ e. Opens (reads_of reading) (Err e.1)) }
     ensures state { IsAtStart reading → IfOk result (λ r. GivesState (reads_of reading) r.1.state) }
+    // Also where the disk is not told: some effects lead to the exchange, and they are not too many.
+    ensures led { IfOk result (λ r. IsLed r.1) }
     ensures ttl { IfOk result (λ r. r.1.ttl ≡ ttl) }
     ensures whole { IfOk result (λ r. is_broken r.0 ≡ false) }
     ensures any_moment { IsAtStart reading → (effects : List Effect) → HasText (reads_of reading) effects → MatchResult result

@@ -11,7 +11,7 @@ mod laws;
 mod opening;
 mod report;
 
-pub use journals::open;
+pub use journals::{open, open_from};
 pub use laws::images_give_one_state_or_are_damaged;
 pub use opening::replay;
 pub use report::recover;

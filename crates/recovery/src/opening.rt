@@ -1,6 +1,6 @@
 ghost use Rattle.std.specs.Prelude.{◌≡◌, Err, IfOk, MatchResult, Ok, OnOk, false, true};
 ghost use Rattle.journal_file.specs.Readings.{HasNotFailed, faults_read, has_ended, reads_of, store_read};
-ghost use Rattle.recovery.specs.Openings.{IsAtEnd, IsAtStart, IsMadeBy, Opens};
+ghost use Rattle.recovery.specs.Openings.{IsAtEnd, IsAtStart, IsLed, IsMadeBy, Opens};
 ghost use Rattle.recovery.specs.Turns.{IsWithin, Turns};
 ghost use Rattle.rtb_base.specs.Faults.{RisesOnlyWhere};
 
@@ -23,6 +23,7 @@ pub fn replay<D: Disk>(
     ensures opened { IsAtStart reading.old → Opens (reads_of reading.old) result }
     // And which effects these are, with the payloads that `finish` hands to the journal.
     ensures made { IsAtStart reading.old → IfOk result (IsMadeBy (IsAtEnd reading.new)) }
+    ensures led { IfOk result IsLed }
     ensures ended { OnOk result (has_ended reading.new ≡ true) }
     ensures ttl { IfOk result (λ core. core.ttl ≡ ttl) }
     ensures same { store_read reading.new ≡ store_read reading.old }
@@ -41,6 +42,7 @@ fn apply_blocks<D: Disk>(
 ) -> Result<(), JournalFault>
     ensures opened { IsMadeBy (IsWithin reading.old) core.old → MatchResult result (λ _. Opens (reads_of reading.old) (Ok core.new)) (λ e. Opens (reads_of reading.old) (Err e)) }
     ensures made { IsMadeBy (IsWithin reading.old) core.old → OnOk result (IsMadeBy (IsAtEnd reading.new) core.new) }
+    ensures led { IsLed core.old → OnOk result (IsLed core.new) }
     ensures ended { OnOk result (has_ended reading.new ≡ true) }
     ensures ttl { core.new.ttl ≡ core.old.ttl }
     ensures same { store_read reading.new ≡ store_read reading.old }
@@ -76,6 +78,7 @@ fn apply_next<D: Disk>(
     core: &mut Core,
 ) -> Result<bool, JournalFault>
     ensures turns { IsMadeBy (IsWithin reading.old) core.old → Turns reading.old reading.new core.new result }
+    ensures led { IsLed core.old → OnOk result (IsLed core.new) }
     ensures ended { result ≡ Ok false → has_ended reading.new ≡ true }
     ensures ttl { core.new.ttl ≡ core.old.ttl }
     ensures same { store_read reading.new ≡ store_read reading.old }

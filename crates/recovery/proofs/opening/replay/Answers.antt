@@ -1,7 +1,8 @@
 use Rattle.std.proofs.Common.{◌≡◌, ◌∙◌, ap, sym, Some}
 use Rattle.auction_core.specs.Core.{CoreState}
 use Rattle.journal_file.specs.Readings.{reads_of}
-use Rattle.recovery.specs.Openings.{IsAtEnd, IsMadeBy, Opens}
+use Rattle.recovery.specs.Openings.{IsAtEnd, IsLed, IsMadeBy, Opens}
+use Rattle.recovery.proofs.Joining.{led_empty}
 use Rattle.recovery.proofs.Walking.{always_ok, handed, handed_cause, handed_ended, handed_whole, made_empty}
 use Rattle.recovery.proofs.opening.replay.Goals as goal
 
@@ -25,3 +26,8 @@ returns-clause-ttl g c =
 
 pub returns-clause-cause : goal.returns-clause-cause
 returns-clause-cause g c = λ well. handed_cause c.apply_blocks-done.new.core c.apply_blocks-done.result c.unless_faulty.result _ _ c.unless_faulty.ensures (c.apply_blocks-done.ensures.cause well)
+
+pub returns-clause-led : goal.returns-clause-led
+returns-clause-led g c =
+    handed_whole c.apply_blocks-done.new.core IsLed c.apply_blocks-done.result c.unless_faulty.result c.unless_faulty.ensures
+    (c.apply_blocks-done.ensures.led (led_empty c.new-core.result (ap (λ (k : CoreState). k.state) c.new-core.ensures) (ap (λ (k : CoreState). k.edits) c.new-core.ensures)))

@@ -27,7 +27,7 @@ added_is facts expr s n (Ok o) within many is = λ m.
     let t = changing after (reply.Added (length s.campaigns + 1)) (change.Added facts expr) in
     let whole : add_campaign facts expr (swept m s) ≡ t = ap (λ l. option_map_or (λ limit. unchanged (swept m s) (reply.Full limit)) l t) within in
     let same : o ≡ addition facts expr (length s.campaigns) = is ∙ ap (addition facts expr) many in
-    subst (λ (u : Transition). IsOutcome m (swept m s) u o) (sym whole) (subst (λ (p : Outcome). IsOutcome m (swept m s) t p) (sym same) (record { reply = refl; after = refl; change = refl }))
+    subst (λ (u : Transition). IsOutcome m (swept m s) u o) (sym whole) (subst (λ (p : Outcome). IsOutcome m (swept m s) t p) (sym same) (record { reply = refl; after = refl; change = refl; edits_are = refl }))
 
 added_possible : {E : Type 0} → (facts : FactParts) (expr : List (List Pred)) (s : State) (n sales campaigns : ℕ) (res : Result Outcome E) → limit_passed (with_campaigns s (new_campaign facts expr ∷ [])) ≡ None → 1 ≤ campaigns
     → IfOk res (λ o. o ≡ addition facts expr n) → IfOk res (λ o. (m : ℕ) → IsPossible m (swept m s) sales campaigns o)
