@@ -1,5 +1,5 @@
 -- What comes of opening a journal.
-use Rattle.std.specs.Prelude.{◌≡◌, ◌⊎◌, ℕ, ◌≤◌, ◌^◌, List, [], ◌++◌, Some, Result, Ok, Err}
+use Rattle.std.specs.Prelude.{◌≡◌, ◌⊎◌, ℕ, ◌≤◌, ◌^◌, List, [], ◌++◌, true, Some, Result, Ok, Err}
 use Rattle.auction_core.specs.Core.{CoreState}
 use Rattle.journal_file.specs.Blocks.{StandsFor, journal_names}
 use Rattle.journal_file.specs.Standing.{Keeps}
@@ -14,7 +14,12 @@ use Rattle.plain_exchange.specs.State.{State}
 use Rattle.recovery.specs.Counts.{recover_text}
 use Rattle.recovery.specs.Damage.{IsDamagedAt}
 use Rattle.recovery.specs.Texts.{GivesState, IsTextOf}
+use Rattle.rtb_disk.specs.Stores.{Store, settled}
 use Rattle.rtb_disk.specs.declared.disk.Disk.{Ghosts}
+
+-- no byte was written to the disk; it may have been synced
+abbrev pub IsUnwritten : Store → Store → Type 0
+IsUnwritten store store' = store.told ≡ true → (store' ≡ store) ⊎ (store' ≡ settled store)
 
 -- the image gives the exchange's state, or is damaged at the place that is answered
 abbrev pub Opens : List ℕ → Result CoreState JournalFault → Type 0

@@ -2,7 +2,7 @@ ghost use Rattle.std.specs.Prelude.{◌≡◌, ◌≢◌, ◌⊎◌, Err, IfErr,
 ghost use Rattle.journal_file.specs.Readings.{HasNotFailed, faults_read, reads_of, store_read};
 ghost use Rattle.journal_file.specs.Standing.{faults_of, is_broken, store_of};
 ghost use Rattle.plain_exchange.specs.declared.changes.Effect.{Effect};
-ghost use Rattle.recovery.specs.Openings.{AreKept, IsAtStart, IsLed, IsMadeBy, Opens};
+ghost use Rattle.recovery.specs.Openings.{AreKept, IsAtStart, IsLed, IsMadeBy, IsUnwritten, Opens};
 ghost use Rattle.recovery.specs.Texts.{GivesState, HasText};
 ghost use Rattle.rtb_base.specs.Faults.{Rose};
 ghost use Rattle.rtb_disk.specs.Stores.{Always, settled};
@@ -15,6 +15,7 @@ use std::alloc::Global;
 
 /// Opens the journal on the disk: gives the journal behind its last block, and the exchange that it says, where
 /// a sale is held for `ttl` milliseconds. A creation that was not finished is completed; else nothing is written.
+/// A file that is refused, as one of another kind, is not changed: it is synced at most.
 pub fn open<D: Disk>(
     alloc: Global,
     disk: D,
@@ -30,6 +31,8 @@ pub fn open<D: Disk>(
     ensures any_moment { (D.store disk).told ≡ true → (effects : List Effect) → HasText (D.store disk).reads effects → MatchResult result
         (λ r. Always (λ image. HasText image effects) (settled (D.store disk)) (store_of r.0))
         (λ e. (D.store e.0 ≡ D.store disk) ⊎ Always (λ image. HasText image effects) (settled (D.store disk)) (D.store e.0)) }
+    // Whatever the file is: where no call of the disk failed, a refusal wrote nothing.
+    ensures unwritten { IfErr result (λ e. e.1 ≢ JournalFault.DiskFailed → IsUnwritten (D.store disk) (D.store e.0)) }
     ensures cause { IfErr result (λ e. e.1 ≡ JournalFault.DiskFailed → Rose (D.faults disk) (D.faults e.0)) }
     ensures quiet { MatchResult result (λ r. faults_of r.0 ≡ D.faults disk) (λ e. e.1 ≢ JournalFault.DiskFailed → D.faults e.0 ≡ D.faults disk) }
 {
@@ -54,6 +57,7 @@ pub fn open_from<D: Disk>(
     ensures any_moment { IsAtStart reading → (effects : List Effect) → HasText (reads_of reading) effects → MatchResult result
         (λ r. Always (λ image. HasText image effects) (store_read reading) (store_of r.0))
         (λ e. Always (λ image. HasText image effects) (store_read reading) (D.store e.0)) }
+    ensures unwritten { IfErr result (λ e. e.1 ≢ JournalFault.DiskFailed → D.store e.0 ≡ store_read reading) }
     ensures cause { HasNotFailed reading → IfErr result (λ e. e.1 ≡ JournalFault.DiskFailed → Rose (faults_read reading) (D.faults e.0)) }
     ensures quiet { HasNotFailed reading → MatchResult result (λ r. faults_of r.0 ≡ faults_read reading) (λ e. e.1 ≢ JournalFault.DiskFailed → D.faults e.0 ≡ faults_read reading) }
 {

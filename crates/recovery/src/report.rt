@@ -1,8 +1,7 @@
-ghost use Rattle.std.specs.Prelude.{◌≡◌, ◌⊎◌, Err, OnErr, true};
+ghost use Rattle.std.specs.Prelude.{◌≡◌, Err, OnErr, true};
 ghost use Rattle.journal_file.specs.Readings.{HasNotFailed, disk_read, faults_read, reads_of, store_read};
-ghost use Rattle.recovery.specs.Openings.{IsAtStart, Recovers};
+ghost use Rattle.recovery.specs.Openings.{IsAtStart, IsUnwritten, Recovers};
 ghost use Rattle.rtb_base.specs.Faults.{RisesOnlyWhere};
-ghost use Rattle.rtb_disk.specs.Stores.{settled};
 
 use crate::counts::Counts;
 use crate::opening::replay;
@@ -17,7 +16,7 @@ use std::alloc::Global;
 pub fn recover<D: Disk>(alloc: Global, disk: D, out: &mut Txt) -> (D, Result<(), JournalFault>)
     ensures recovers { (D.store disk).told ≡ true → Recovers (D.store disk).reads out.old out.new result.1 }
     ensures kept { OnErr result.1 (out.new ≡ out.old) }
-    ensures unwritten { (D.store disk).told ≡ true → (D.store result.0 ≡ D.store disk) ⊎ (D.store result.0 ≡ settled (D.store disk)) }
+    ensures unwritten { IsUnwritten (D.store disk) (D.store result.0) }
     ensures cause { RisesOnlyWhere (result.1 ≡ Err JournalFault.DiskFailed) (D.faults disk) (D.faults result.0) }
 {
     match Reading::start(disk) {

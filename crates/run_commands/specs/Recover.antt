@@ -1,12 +1,13 @@
 -- The command `recover`.
-use Rattle.std.specs.Prelude.{◌≡◌, ◌⊎◌, ℕ, List, [], ◌∷◌, Option, None, Some, true}
+use Rattle.std.specs.Prelude.{◌≡◌, ℕ, List, [], ◌∷◌, Option, None, Some, true}
 use Rattle.journal_file.specs.declared.faults.JournalFault.{JournalFault}
 use Rattle.link_door.specs.Worlds.{HandsOut}
 use Rattle.plain_exchange.specs.State.{State}
 use Rattle.recovery.specs.Counts.{recover_text}
+use Rattle.recovery.specs.Openings.{IsUnwritten}
 use Rattle.recovery.specs.Texts.{GivesState}
 use Rattle.rtb_base.specs.Faults.{Rose}
-use Rattle.rtb_disk.specs.Stores.{Store, settled}
+use Rattle.rtb_disk.specs.Stores.{Store}
 use Rattle.rtb_disk.specs.declared.disk.Disk.{Ghosts}
 use Rattle.rtb_io.specs.declared.status.Status.TheVariants as status
 use Rattle.run_commands.specs.Endings.{Ends, EndsBy}
@@ -15,10 +16,6 @@ use Rattle.run_commands.specs.Journals.{EndsAt, HasCause}
 -- the line is that of the state that the disk as it reads gives
 abbrev pub TellsState : Store → List ℕ → Type 0
 TellsState store line = store.told ≡ true → (state : State) × GivesState store.reads state × (line ≡ recover_text state)
-
--- no byte was written to the disk; it may have been synced
-abbrev pub IsUnwritten : Store → Store → Type 0
-IsUnwritten store store' = store.told ≡ true → (store' ≡ store) ⊎ (store' ≡ settled store)
 
 -- What is told of the journal on a disk, with the disk's count of faults before and after: the counts of its
 -- exchange, or its fault.

@@ -4,7 +4,7 @@ ghost use Rattle.rtb_io.specs.Statuses.{code_of};
 ghost use Rattle.rtb_io.specs.declared.status.Status.TheVariants.{Done, NotWritten};
 ghost use Rattle.run_commands.specs.Endings.{Ends};
 ghost use Rattle.run_commands.specs.Journals.{EndsAt};
-ghost use Rattle.run_commands.specs.Recover.{IsUnwritten, Recovers, Tells};
+ghost use Rattle.run_commands.specs.Recover.{Recovers, Tells};
 
 use crate::journals::end_at;
 use crate::outcome::Outcome;
