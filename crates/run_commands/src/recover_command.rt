@@ -1,4 +1,5 @@
 ghost use Rattle.std.specs.Prelude.{◌≡◌, [], MatchResult};
+ghost use Rattle.recovery.specs.Openings.{IsUnwritten};
 ghost use Rattle.rtb_base.specs.Faults.{RisesOnlyWhere};
 ghost use Rattle.rtb_io.specs.Statuses.{code_of};
 ghost use Rattle.rtb_io.specs.declared.status.Status.TheVariants.{Done, NotWritten};
