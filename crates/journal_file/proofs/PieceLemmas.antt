@@ -50,7 +50,8 @@ payload_whole bytes size start gate begins lt =
 block_long : (payload bytes : List ℕ) → HasBlock payload bytes → 10 + length payload ≤ length bytes
 unfolding block_bytes
 block_long payload bytes has =
-    omega (arith, ap length has.there, length-append (eight_bytes (length payload) ++ payload) (has.gate ∷ has.rest), length-append (eight_bytes (length payload)) payload, length-eight (length payload))
+    let size = length-append (eight_bytes (length payload)) payload in
+    omega (arith, ap length has.there, length-append (eight_bytes (length payload) ++ payload) (has.gate ∷ has.rest), size, length-eight (length payload))
 
 pub next_small : (gate : ℕ) (payload front : List ℕ) → gate + length front ≤ 2 ^ 63 → HasBlock payload front → gate + 9 + length payload < 2 ^ 63
 next_small gate payload front le has = omega (arith, le, block_long payload front has)
