@@ -66,8 +66,9 @@ module _ {S O E : Type 0} (stands : O → S → List E → Type 0) (worker : E �
   abbrev first_auxiliary : O → F
   first_auxiliary o = record { origin = o; log = []; drawn = 0; served = 0; made = 1; out = 0; ended = []; seat_of_ticket = λ _. 0; seat_of_worker = λ _. 0 }
 
-  begins_with : (slots id : ℕ) (o : O) (x : S) → stands o x [] → Allows Rule slots id (staged Filling fresh, (0, Some x) ∷ []) 2 (λ y. y) (begun o (step slots 2 0 0 none) (staged Filling fresh, (0, Some x) ∷ []))
-  begins_with slots id o x means s k _ at _ =
+  begins_with : (starts : O → Type 0) (slots id : ℕ) (o : O) (x : S) → starts o → stands o x []
+      → Allows Rule slots id (staged Filling fresh, (0, Some x) ∷ []) 2 (λ y. y) (begun starts (step slots 2 0 0 none) (staged Filling fresh, (0, Some x) ∷ []))
+  begins_with starts slots id o x said means s k _ at _ =
       let v : V = staged Filling fresh in
       let b = starting s k id v at (inr refl) in
       let at' = subst (λ (vs : List V). get_elem? vs id ≡ some v) b.2 at in
@@ -81,7 +82,7 @@ module _ {S O E : Type 0} (stands : O → S → List E → Type 0) (worker : E �
         gives,
         tt,
         subst Rule (λ i. record { words = sym words i; homes = sym homes i; views = sym views i }) (inr (begun_run o x means)),
-        refl,
+        (o, said, refl),
       )
     where
       one_seat : (o : O) (homes : H) (i : ℕ) (v : V) → get_elem? (first_view o ∷ []) i ≡ some v → Agrees worker (first_auxiliary o) homes i v v.stage
@@ -104,5 +105,7 @@ module _ {S O E : Type 0} (stands : O → S → List E → Type 0) (worker : E �
         once = λ i j d e at at' same. absurd (some-ne-none d (sym at));
       }
 
-  pub begins : (slots id : ℕ) (me : M) (o : O) (x : S) → me ≡ (staged Filling fresh, (0, Some x) ∷ []) → stands o x [] → Allows Rule slots id me 2 (λ y. y) (begun o (step slots 2 0 0 none) me)
-  begins slots id me o x is means = subst (λ (m : M). Allows Rule slots id m 2 (λ y. y) (begun o (step slots 2 0 0 none) m)) (sym is) (begins_with slots id o x means)
+  pub begins : (starts : O → Type 0) (slots id : ℕ) (me : M) (x : S) → me ≡ (staged Filling fresh, (0, Some x) ∷ []) → (o : O) × starts o × stands o x []
+      → Allows Rule slots id me 2 (λ y. y) (begun starts (step slots 2 0 0 none) me)
+  begins starts slots id me x is held =
+      subst (λ (m : M). Allows Rule slots id m 2 (λ y. y) (begun starts (step slots 2 0 0 none) m)) (sym is) (begins_with starts slots id held.0 x held.1 held.2)

@@ -65,9 +65,9 @@ module _ {S O E : Type 0} where
   abbrev pub filling : Step (Option S) → Sat S O E → ℕ → Sat S O E → Type 0
   filling st m n m' = m' ≡ (staged Filling m.0, (0, None) ∷ [])
 
-  -- the first value is put in, and the lock has its origin
-  abbrev pub begun : O → Step (Option S) → Sat S O E → ℕ → Sat S O E → Type 0
-  begun o st m n m' = m' ≡ (first_view o, [])
+  -- the first value is put in, and the lock has its origin, of which this holds
+  abbrev pub begun : (O → Type 0) → Step (Option S) → Sat S O E → ℕ → Sat S O E → Type 0
+  begun starts st m n m' = (o : O) × starts o × (m' ≡ (first_view o, []))
 
   -- Draw: where the word had the number that was expected, the seat has it as its ticket, and else it is as before.
   abbrev pub drawing : Step (Option S) → Sat S O E → ℕ → Sat S O E → Type 0

@@ -87,15 +87,17 @@ impl<S: Stands> Model for Past<S> {
 }
 
 impl<S: Stands> HistLock<S> {
-    /// Puts the value under a new lock, of which the first seat is worker 0's.
+    /// Puts the value under a new lock, of which the first seat is worker 0's. The lock's origin is one from
+    /// which the value stands, and of which the caller's words hold.
     ///
     /// The value comes back where memory is short.
     pub fn make<O: Starts<S>>(
         alloc: Global,
         value: S,
     ) -> Result<(HistLock<S>, Seat<S>), (S, AllocError)>
-        requires { S.stands O.origin value [] }
-        ensures ok { IfOk result (λ r. r.1 ≡ first_seat r.0 O.origin) }
+        requires { (o : S.Origin) × O.starts o × S.stands o value [] }
+        ensures ok { IfOk result (λ r. r.1 ≡ first_seat r.0 r.1.origin) }
+        ensures origin { IfOk result (λ r. O.starts r.1.origin) }
         ensures err { IfErr result (λ e. e.0 ≡ value) }
     {
         let made = Table::vacant(alloc, &[0, 0, 0], 1, &());

@@ -16,13 +16,13 @@ impl<S, O, E> Play<Option<S>, View<O, E>> for Fill {
     ghost then = { filling };
 }
 
-/// The first value is in its slot, and the lock has its origin.
+/// The first value is in its slot, and the lock has its origin, of which this holds.
 pub struct Begin<N> {
     origin: PhantomData<N>,
 }
 
 impl<S: Stands, N: Starts<S>> Play<Option<S>, View<S::Origin, S::Entry>> for Begin<N> {
-    ghost then = { begun N.origin };
+    ghost then = { begun N.starts };
 }
 
 /// Draw.

@@ -21,9 +21,9 @@ pub trait Stands {
     ghost worker: { Self.Entry → ℕ };
 }
 
-/// The origin that a call of `HistLock::make` picks.
+/// What a call of `HistLock::make` says of the origin, from which its caller shows that the value stands.
 pub trait Starts<S: Stands> {
-    ghost origin: { S.Origin };
+    ghost starts: { S.Origin → Type 0 };
 }
 
 /// The entry that a call of `HistLock::leave_with` picks.

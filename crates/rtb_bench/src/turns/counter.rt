@@ -47,7 +47,9 @@ impl<N: Adds> Names<Counter> for Entry<N> {
 pub struct Zero;
 
 impl Starts<Counter> for Zero {
-    ghost origin = { 0 };
+    ghost use Rattle.std.specs.Prelude.{◌≡◌};
+
+    ghost starts = { λ o. o ≡ 0 };
 }
 
 /// Adds one so many times.
