@@ -7,8 +7,8 @@ import subprocess
 from contextlib import suppress
 
 from serving.checks import CHECKS, LIMIT
-from serving.messages import get
-from serving.program import counts, ended, free_port, recovered, running, serve_words
+from serving.messages import A, get, new, post, report, request
+from serving.program import FIRST_LINE, Link, counts, ended, free_port, read_line, recovered, running, serve_words
 from serving.journals import HEAD
 
 
@@ -32,6 +32,7 @@ def try_usage(program, folder):
         ["recover", "--listen", "127.0.0.1:1"],
         ["recover", "--journal", b"\xff"],
         ["Serve", *full],
+        ["serve", *full[:1], "127.0.0.1:0", *full[2:]],
         ["try", "x"],
         ["--help", "x"],
     ]
@@ -43,10 +44,10 @@ def try_usage(program, folder):
     CHECKS.holds("no file was made", not (folder / "j").exists())
     with running(program, folder / "year", ttl=31536000000):
         CHECKS.same("a year is no wrong time", recovered(program, folder / "year"), counts())
-    for words in [["--help"], ["--version"], ["serve", "--help"], ["recover", "--help"], ["serve", "--version"]]:
+    for words in [["--help"], ["--version"], ["serve", "--help"], ["recover", "--help"], ["try", "--help"], ["serve", "--version"]]:
         status, out, errors = ended([program, *words])
         CHECKS.same(f"rtbx {' '.join(words)}", (status, out.startswith(b"rtbx") or b"Usage" in out, errors), (0, True, b""))
-    named = {"serve": [b"--listen", b"--journal", b"--public", b"--ttl"], "recover": [b"--journal"]}
+    named = {"serve": [b"--listen", b"--journal", b"--public", b"--ttl"], "recover": [b"--journal"], "try": [b"BID@DOMAIN"]}
     for command, options in named.items():
         out = ended([program, command, "--help"])[1]
         CHECKS.same(f"rtbx {command} --help names its options", [it for it in options if it not in out], [])
@@ -91,6 +92,51 @@ def no_descriptors(program, journal):
         except subprocess.TimeoutExpired:
             status = None
         CHECKS.same("no descriptor is left", (status, server.process.stdout.read() if status else b""), (8, b"rtbx: accept failed\n"))
+
+
+CLOSED = ["<&-", ">&-", "2>&-", "<&- >&-", ">&- 2>&-", "<&- >&- 2>&-"]
+
+
+def closed(way, words):
+    """The words of a command that a shell starts with these descriptors closed."""
+    return ["sh", "-c", f'exec "$@" {way}', "sh", *words]
+
+
+def try_closed(program, folder):
+    """Standard input, output and error closed, alone and together: a journal never gets the number of one of them."""
+    journal = folder / "closed"
+    with running(program, journal) as server, server.link() as link:
+        link.send(post("/campaign", A))
+        CHECKS.same("a campaign", link.answer(), new(1))
+    before = journal.read_bytes()
+    for way in CLOSED:
+        told = ">&-" not in way.split()
+        status, out = ended(closed(way, [program, "recover", "--journal", journal]))[:2]
+        CHECKS.same(f"recover {way}", (status, out), counts(campaigns=1, live=1)[:2] if told else (7, b""))
+        CHECKS.same(f"recover {way}: the file", journal.read_bytes(), before)
+        given = {"stdin": subprocess.DEVNULL} if "<&-" in way else {"stdin": None, "input": request().encode()}
+        status, out = ended(closed(way, [program, "try", "1.00"]), **given)[:2]
+        empty = (1, b'{"error":"json-ended","at":0}\n') if "<&-" in way else (0, out)
+        CHECKS.same(f"try {way}", (status, out), empty if told else (7, b""))
+        if told:
+            serve_closed(way, program, journal)
+        else:
+            CHECKS.same(f"serve {way}", ended(closed(way, serve_words(program, journal, free_port())))[0], 7)
+        CHECKS.same(f"serve {way}: the file", journal.read_bytes(), before)
+
+
+def serve_closed(way, program, journal):
+    """A server that can say that it serves, with others of its descriptors closed, answers."""
+    port = free_port()
+    words = closed(way, serve_words(program, journal, port))
+    with subprocess.Popen(words, stdin=subprocess.DEVNULL, stdout=subprocess.PIPE, stderr=subprocess.DEVNULL) as process:
+        try:
+            CHECKS.same(f"serve {way}", read_line(process.stdout), FIRST_LINE)
+            with Link(port) as link:
+                link.send(get("/campaign/1"))
+                CHECKS.same(f"serve {way}: a report", link.answer(), report(1))
+        finally:
+            process.kill()
 
 
 PARTS = {name.removeprefix("part_"): part for name, part in globals().items() if name.startswith("part_")}

@@ -2,6 +2,7 @@
 ghost use Rattle.std.specs.Prelude.{◌≡◌, ◌≤◌, ◌<◌, ◌+◌, ◌^◌, IfErr, None, OnErr, OnOk, Option, Some, [], ◌∷◌};
 ghost use Rattle.std.specs.Option.{option_copied};
 ghost use Rattle.auction_core.specs.Applying.{Applies, Explains};
+ghost use Rattle.auction_core.specs.Frames.{OnlyRooms};
 ghost use Rattle.budget_book.specs.declared.sales.SaleState.{SaleState};
 ghost use Rattle.plain_exchange.specs.Effects.{applied, change_applied, edits_in, on_campaign, on_sale, only_if, with_added, with_changed, with_items, with_paused, with_resumed, with_settled};
 ghost use Rattle.plain_exchange.specs.State.{is_any_due, limit_passed, swept, with_campaigns};
@@ -196,11 +197,7 @@ impl Core {
     // Room for so many more sales.
     pub(crate) fn reserve_sales(&mut self, sales: u32) -> Result<(), AllocError>
         ensures room { OnOk result (sales ≤ self.new.sale_room) }
-        ensures state { self.new.state ≡ self.old.state }
-        ensures ttl { self.new.ttl ≡ self.old.ttl }
-        ensures edits { self.new.edits ≡ self.old.edits }
-        ensures sale_room { self.old.sale_room ≤ self.new.sale_room }
-        ensures campaign_room { self.old.campaign_room ≤ self.new.campaign_room }
+        ensures rooms { OnlyRooms self.old self.new }
     {
         self.book.reserve_room(sales, 0)
     }

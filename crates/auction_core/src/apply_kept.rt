@@ -2,6 +2,7 @@
 ghost use Rattle.std.specs.Prelude.{◌≡◌, ◌≤◌, ◌<◌, ◌+◌, ◌-◌, ◌^◌, ◌==◌, ◌&&◌, if◌then◌else◌, false, true, [], ◌∷◌, IfOk, IsTrue, None, Some, length, min, nat_le};
 ghost use Rattle.std.specs.Option.{option_copied, option_map_or};
 ghost use Rattle.auction_core.specs.Applying.{Applies};
+ghost use Rattle.auction_core.specs.Frames.{OnlyState};
 ghost use Rattle.plain_exchange.specs.Effects.{campaign_of, can_keep, can_keep_sale, charge_of, edits_of_kept, with_kept, with_kept_sale};
 ghost use Rattle.budget_book.specs.Sales.{gone_count, most_forgotten};
 ghost use Rattle.plain_exchange.specs.State.{Campaign, campaign_at, forgotten, free, with_campaigns, with_sales};
@@ -64,8 +65,7 @@ impl Core {
         requires room { 1 ≤ self.old.campaign_room }
         requires few { self.old.edits + edits_of_kept (record { live = live; facts = entry.facts; expr = entry.expr; gone = gone }) ≤ 2 ^ 63 }
         ensures state { self.new.state ≡ with_campaigns self.old.state (campaign_of (record { live = live; facts = entry.facts; expr = entry.expr; gone = gone }) ∷ []) }
-        ensures ttl { self.new.ttl ≡ self.old.ttl }
-        ensures edits { self.new.edits ≡ self.old.edits + edits_of_kept (record { live = live; facts = entry.facts; expr = entry.expr; gone = gone }) }
+        ensures rest { OnlyState (edits_of_kept (record { live = live; facts = entry.facts; expr = entry.expr; gone = gone })) 0 1 self.old self.new }
     {
         if live {
             let _number = self.keep_live(entry, gone);
@@ -80,8 +80,7 @@ impl Core {
         requires room { 1 ≤ self.old.campaign_room }
         requires few { self.old.edits + 2 ≤ 2 ^ 63 }
         ensures state { self.new.state ≡ with_campaigns self.old.state (campaign_of (record { live = false; facts = entry.facts; expr = entry.expr; gone = gone }) ∷ []) }
-        ensures ttl { self.new.ttl ≡ self.old.ttl }
-        ensures edits { self.new.edits ≡ self.old.edits + 2 }
+        ensures rest { OnlyState 2 0 1 self.old self.new }
     {
         let n = self.keep_live(entry, gone);
         self.pause(n);
@@ -94,8 +93,7 @@ impl Core {
         requires few { self.old.edits < 2 ^ 63 }
         ensures number { result ≡ length self.old.state.campaigns + 1 }
         ensures state { self.new.state ≡ with_campaigns self.old.state (campaign_of (record { live = true; facts = entry.facts; expr = entry.expr; gone = gone }) ∷ []) }
-        ensures ttl { self.new.ttl ≡ self.old.ttl }
-        ensures edits { self.new.edits ≡ self.old.edits + 1 }
+        ensures rest { OnlyState 1 0 1 self.old self.new }
     {
         self.book.add_kept(entry.record().facts.budget(), gone);
         self.table.add(entry)
@@ -161,8 +159,7 @@ impl Core {
         requires user { key ≡ row.user }
         requires room { 1 ≤ self.old.sale_room }
         ensures state { self.new.state ≡ with_sales self.old.state (row ∷ []) }
-        ensures ttl { self.new.ttl ≡ self.old.ttl }
-        ensures edits { self.new.edits ≡ self.old.edits }
+        ensures rest { OnlyState 0 1 0 self.old self.new }
     {
         self.book.add_sale(row, key);
     }

@@ -1,6 +1,7 @@
 // What was prepared is carried out.
 ghost use Rattle.std.specs.Prelude.{◌≡◌, ◌≤◌, ◌<◌, ◌+◌, ◌^◌, ℕ, IsTrue, is_some, length, map};
 ghost use Rattle.auction_core.specs.Draft.{CanCarry, CanHoldAll, IsDraftOf, IsReady, answered, after_of, carried, edits_made, edits_planned, reply_of, row_of};
+ghost use Rattle.auction_core.specs.Frames.{OnlyState};
 ghost use Rattle.plain_exchange.specs.declared.commands.Command.{Command};
 ghost use Rattle.plain_exchange.specs.State.{campaign_at, with_sales};
 ghost use Rattle.plain_exchange.specs.Step.{at_campaign, report_campaign, step};
@@ -65,10 +66,7 @@ impl Core {
         requires payable { CanHoldAll moment self.old.state holdings }
         requires room { length holdings ≤ self.old.sale_room }
         ensures state { self.new.state ≡ with_sales self.old.state (map (row_of moment) holdings) }
-        ensures ttl { self.new.ttl ≡ self.old.ttl }
-        ensures edits { self.new.edits ≡ self.old.edits }
-        ensures sale_room { self.old.sale_room ≤ self.new.sale_room + length holdings }
-        ensures campaign_room { self.old.campaign_room ≤ self.new.campaign_room }
+        ensures rest { OnlyState 0 (length holdings) 0 self.old self.new }
     {
         let mut rest = holdings.into_vec();
         rest.reverse();

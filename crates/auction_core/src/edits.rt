@@ -2,6 +2,7 @@
 ghost use Rattle.std.proofs.Common.{get_or, set};
 ghost use Rattle.std.specs.Prelude.{◌≡◌, ◌-◌, length, ◌+◌, ◌<◌, ◌≤◌, ◌^◌, [], ◌∷◌, false, true, IsTrue, not};
 ghost use Rattle.auction_core.specs.Draft.{IsAt, can_change, changed_at, row_of, settled};
+ghost use Rattle.auction_core.specs.Frames.{OnlyState};
 ghost use Rattle.budget_book.specs.Book.{Funds};
 ghost use Rattle.budget_book.specs.declared.sales.SaleState.{SaleState};
 ghost use Rattle.budget_book.specs.Sales.{committed_of};
@@ -19,10 +20,7 @@ impl Core {
     // Held sales that are due by the moment expire.
     pub(crate) fn sweep(&mut self, moment: u64)
         ensures state { self.new.state ≡ swept moment self.old.state }
-        ensures ttl { self.new.ttl ≡ self.old.ttl }
-        ensures edits { self.new.edits ≡ self.old.edits }
-        ensures sale_room { self.old.sale_room ≤ self.new.sale_room }
-        ensures campaign_room { self.old.campaign_room ≤ self.new.campaign_room }
+        ensures rest { OnlyState 0 0 0 self.old self.new }
     {
         self.book.sweep(moment);
     }
@@ -33,10 +31,7 @@ impl Core {
         requires few { IsTrue (has_room self.old.state) }
         requires room { 1 ≤ self.old.sale_room }
         ensures state { self.new.state ≡ with_sales self.old.state (row_of moment holding ∷ []) }
-        ensures ttl { self.new.ttl ≡ self.old.ttl }
-        ensures edits { self.new.edits ≡ self.old.edits }
-        ensures sale_room { self.old.sale_room ≤ self.new.sale_room + 1 }
-        ensures campaign_room { self.old.campaign_room ≤ self.new.campaign_room }
+        ensures rest { OnlyState 0 1 0 self.old self.new }
     {
         self.book.sell(
             holding.campaign,
@@ -53,9 +48,7 @@ impl Core {
         requires room { 1 ≤ self.old.campaign_room }
         requires few { self.old.edits < 2 ^ 63 }
         ensures state { self.new.state ≡ with_campaigns self.old.state (new_campaign entry.facts entry.expr ∷ []) }
-        ensures ttl { self.new.ttl ≡ self.old.ttl }
-        ensures edits { self.new.edits ≡ self.old.edits + 1 }
-        ensures sale_room { self.old.sale_room ≤ self.new.sale_room }
+        ensures rest { OnlyState 1 0 1 self.old self.new }
     {
         self.book.add_campaign(entry.record().facts.budget());
         self.table.add(entry);
@@ -66,10 +59,7 @@ impl Core {
         requires fits { IsAt self.old.state n (can_change self.old.state n entry) }
         requires few { self.old.edits < 2 ^ 63 }
         ensures state { self.new.state ≡ changed_at n (with_record entry.facts entry.expr) self.old.state }
-        ensures ttl { self.new.ttl ≡ self.old.ttl }
-        ensures edits { self.new.edits ≡ self.old.edits + 1 }
-        ensures sale_room { self.old.sale_room ≤ self.new.sale_room }
-        ensures campaign_room { self.old.campaign_room ≤ self.new.campaign_room }
+        ensures rest { OnlyState 1 0 0 self.old self.new }
     {
         set_budget(&mut self.book, n, entry.record().facts.budget());
         self.table.change(n, entry);
@@ -80,10 +70,7 @@ impl Core {
         requires live { IsAt self.old.state n (λ c. c.live) }
         requires few { self.old.edits < 2 ^ 63 }
         ensures state { self.new.state ≡ changed_at n (with_live false) self.old.state }
-        ensures ttl { self.new.ttl ≡ self.old.ttl }
-        ensures edits { self.new.edits ≡ self.old.edits + 1 }
-        ensures sale_room { self.old.sale_room ≤ self.new.sale_room }
-        ensures campaign_room { self.old.campaign_room ≤ self.new.campaign_room }
+        ensures rest { OnlyState 1 0 0 self.old self.new }
     {
         self.table.pause(n);
     }
@@ -93,10 +80,7 @@ impl Core {
         requires paused { IsAt self.old.state n (λ c. not c.live) }
         requires few { self.old.edits < 2 ^ 63 }
         ensures state { self.new.state ≡ changed_at n (with_live true) self.old.state }
-        ensures ttl { self.new.ttl ≡ self.old.ttl }
-        ensures edits { self.new.edits ≡ self.old.edits + 1 }
-        ensures sale_room { self.old.sale_room ≤ self.new.sale_room }
-        ensures campaign_room { self.old.campaign_room ≤ self.new.campaign_room }
+        ensures rest { OnlyState 1 0 0 self.old self.new }
     {
         self.table.resume(n);
     }
@@ -104,10 +88,7 @@ impl Core {
     // The sale is billed, where it is held.
     pub(crate) fn bill(&mut self, sale: u64)
         ensures state { self.new.state ≡ settled SaleState.Billed sale self.old.state }
-        ensures ttl { self.new.ttl ≡ self.old.ttl }
-        ensures edits { self.new.edits ≡ self.old.edits }
-        ensures sale_room { self.old.sale_room ≤ self.new.sale_room }
-        ensures campaign_room { self.old.campaign_room ≤ self.new.campaign_room }
+        ensures rest { OnlyState 0 0 0 self.old self.new }
     {
         let _answer = self.book.bill(sale);
     }
@@ -115,10 +96,7 @@ impl Core {
     // The sale is lost, where it is held.
     pub(crate) fn lose(&mut self, sale: u64)
         ensures state { self.new.state ≡ settled SaleState.Lost sale self.old.state }
-        ensures ttl { self.new.ttl ≡ self.old.ttl }
-        ensures edits { self.new.edits ≡ self.old.edits }
-        ensures sale_room { self.old.sale_room ≤ self.new.sale_room }
-        ensures campaign_room { self.old.campaign_room ≤ self.new.campaign_room }
+        ensures rest { OnlyState 0 0 0 self.old self.new }
     {
         let _answer = self.book.lose(sale);
     }

@@ -2,6 +2,7 @@
 ghost use Rattle.std.specs.Prelude.{◌≡◌, ◌≤◌, ℕ, IfOk, IsTrue, None, Option, Some, if◌then◌else◌, option_map};
 ghost use Rattle.std.specs.Option.{option_or};
 ghost use Rattle.auction_core.specs.Draft.{IsDraftOf, IsReady, found_of, is_simple, is_valid_command};
+ghost use Rattle.auction_core.specs.Frames.{OnlyRooms};
 ghost use Rattle.auction_core.specs.Outcomes.{IsOutcome, IsPossible};
 ghost use Rattle.plain_exchange.specs.declared.changes.Change.{Change as AChange};
 ghost use Rattle.plain_exchange.specs.declared.changes.Change.TheVariants.{Swept};
@@ -74,11 +75,7 @@ impl Core {
         requires simple { IsTrue (is_simple command.now) }
         ensures outcome { IfOk result (λ o. IsOutcome moment (swept moment self.old.state) (step self.old.ttl moment self.old.state command.now) o) }
         ensures possible { IfOk result (λ o. IsPossible moment (swept moment self.old.state) self.new.sale_room self.new.campaign_room o) }
-        ensures state { self.new.state ≡ self.old.state }
-        ensures ttl { self.new.ttl ≡ self.old.ttl }
-        ensures edits { self.new.edits ≡ self.old.edits }
-        ensures sale_room { self.old.sale_room ≤ self.new.sale_room }
-        ensures campaign_room { self.old.campaign_room ≤ self.new.campaign_room }
+        ensures rooms { OnlyRooms self.old self.new }
     {
         match command {
             Command::Auction(_) => unreachable!(),

@@ -2,6 +2,7 @@
 ghost use Rattle.std.specs.Prelude.{◌≡◌, ◌≤◌, ◌+◌, IfOk, IsTrue, OnOk, length, map, nat_lt};
 ghost use Rattle.auction_core.specs.Auctions.{award_outcome, selling};
 ghost use Rattle.auction_core.specs.Draft.{IsDraftOf, IsReady, found_for};
+ghost use Rattle.auction_core.specs.Frames.{OnlyRooms};
 ghost use Rattle.auction_core.specs.Outcomes.{IsOutcome, IsPossible};
 ghost use Rattle.plain_exchange.specs.declared.commands.Command.TheVariants as command;
 ghost use Rattle.plain_exchange.specs.State.{most_sales, swept};
@@ -33,11 +34,7 @@ impl Core {
         requires found { found.now ≡ map (found_for self.old.state request.now) request.now.imps }
         ensures draft { IfOk result (λ d. IsDraftOf self.old.ttl self.old.state (command.Auction request.now) moment d) }
         ensures ready { IfOk result (λ d. IsReady d self.new) }
-        ensures state { self.new.state ≡ self.old.state }
-        ensures ttl { self.new.ttl ≡ self.old.ttl }
-        ensures edits { self.new.edits ≡ self.old.edits }
-        ensures sale_room { self.old.sale_room ≤ self.new.sale_room }
-        ensures campaign_room { self.old.campaign_room ≤ self.new.campaign_room }
+        ensures rooms { OnlyRooms self.old self.new }
     {
         let outcome = self.auction_outcome(alloc, request, moment, found)?;
         Ok(self.draft(outcome, moment))
@@ -55,11 +52,7 @@ impl Core {
         requires found { found.now ≡ map (found_for self.old.state request.now) request.now.imps }
         ensures outcome { IfOk result (λ o. IsOutcome moment (swept moment self.old.state) (step self.old.ttl moment self.old.state (command.Auction request.now)) o) }
         ensures possible { IfOk result (λ o. IsPossible moment (swept moment self.old.state) self.new.sale_room self.new.campaign_room o) }
-        ensures state { self.new.state ≡ self.old.state }
-        ensures ttl { self.new.ttl ≡ self.old.ttl }
-        ensures edits { self.new.edits ≡ self.old.edits }
-        ensures sale_room { self.old.sale_room ≤ self.new.sale_room }
-        ensures campaign_room { self.old.campaign_room ≤ self.new.campaign_room }
+        ensures rooms { OnlyRooms self.old self.new }
     {
         let awards = self.awards(alloc, request, moment, found)?;
         self.award_with_room(alloc, request, moment, awards.as_slice())
@@ -76,11 +69,7 @@ impl Core {
         requires few { length awards.now ≤ 64 }
         ensures outcome { IfOk result (λ o. o ≡ award_outcome self.old.ttl moment request.now self.old.state awards.now) }
         ensures room { OnOk result (length awards.now ≤ self.new.sale_room) }
-        ensures state { self.new.state ≡ self.old.state }
-        ensures ttl { self.new.ttl ≡ self.old.ttl }
-        ensures edits { self.new.edits ≡ self.old.edits }
-        ensures sale_room { self.old.sale_room ≤ self.new.sale_room }
-        ensures campaign_room { self.old.campaign_room ≤ self.new.campaign_room }
+        ensures rooms { OnlyRooms self.old self.new }
     {
         self.reserve_sales(awards.len() as u32)?;
         self.award_outcome(alloc, request, moment, awards)

@@ -1,6 +1,7 @@
 // Commands that give a campaign its record, prepared.
 ghost use Rattle.std.specs.Prelude.{◌≡◌, ◌≤◌, ◌+◌, ◌^◌, ℕ, [], ◌∷◌, IfOk, IsTrue, None, OnOk, Some, is_some, option_map};
 ghost use Rattle.std.specs.Result.{result_err};
+ghost use Rattle.auction_core.specs.Frames.{OnlyRooms};
 ghost use Rattle.auction_core.specs.Outcomes.{IsOutcome, IsPossible, does};
 ghost use Rattle.auction_core.specs.declared.draft.Plan.TheVariants as plan;
 ghost use Rattle.plain_exchange.specs.declared.changes.Change.TheVariants as change;
@@ -28,11 +29,7 @@ impl Core {
     ) -> Result<Outcome, AllocError>
         ensures outcome { IfOk result (λ o. (m : ℕ) → IsOutcome m (swept m self.old.state) (add_campaign facts.now expr.now (swept m self.old.state)) o) }
         ensures possible { IfOk result (λ o. (m : ℕ) → IsPossible m (swept m self.old.state) self.new.sale_room self.new.campaign_room o) }
-        ensures state { self.new.state ≡ self.old.state }
-        ensures ttl { self.new.ttl ≡ self.old.ttl }
-        ensures edits { self.new.edits ≡ self.old.edits }
-        ensures sale_room { self.old.sale_room ≤ self.new.sale_room }
-        ensures campaign_room { self.old.campaign_room ≤ self.new.campaign_room }
+        ensures rooms { OnlyRooms self.old self.new }
     {
         match self.limit_with(facts, expr) {
             Some(limit) => Ok(reply_alone(Reply::Full { limit })),
@@ -49,11 +46,7 @@ impl Core {
         requires within { limit_passed (with_campaigns self.old.state (new_campaign facts.now expr.now ∷ [])) ≡ None }
         ensures outcome { IfOk result (λ o. (m : ℕ) → IsOutcome m (swept m self.old.state) (add_campaign facts.now expr.now (swept m self.old.state)) o) }
         ensures possible { IfOk result (λ o. (m : ℕ) → IsPossible m (swept m self.old.state) self.new.sale_room self.new.campaign_room o) }
-        ensures state { self.new.state ≡ self.old.state }
-        ensures ttl { self.new.ttl ≡ self.old.ttl }
-        ensures edits { self.new.edits ≡ self.old.edits }
-        ensures sale_room { self.old.sale_room ≤ self.new.sale_room }
-        ensures campaign_room { self.old.campaign_room ≤ self.new.campaign_room }
+        ensures rooms { OnlyRooms self.old self.new }
     {
         self.reserve_campaign()?;
         added(alloc, self.table.count() + 1, facts, expr)
@@ -117,11 +110,7 @@ impl Core {
 
     pub(crate) fn reserve_campaign(&mut self) -> Result<(), AllocError>
         ensures room { OnOk result (1 ≤ self.new.campaign_room) }
-        ensures state { self.new.state ≡ self.old.state }
-        ensures ttl { self.new.ttl ≡ self.old.ttl }
-        ensures edits { self.new.edits ≡ self.old.edits }
-        ensures sale_room { self.old.sale_room ≤ self.new.sale_room }
-        ensures campaign_room { self.old.campaign_room ≤ self.new.campaign_room }
+        ensures rooms { OnlyRooms self.old self.new }
     {
         self.table.reserve()?;
         self.book.reserve_room(0, 1)

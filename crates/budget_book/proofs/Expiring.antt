@@ -1,6 +1,7 @@
 -- Sales expire one after the other.
 use Rattle.std.proofs.Common.{◌≡◌, ℕ, ◌+◌, ◌<◌, ◌≤◌, ◌&&◌, inl, inr, cond, true, false, List, ◌∷◌, length, get_or, set, refl, sym, ◌∙◌, ap, subst, arith}
-use Rattle.std.specs.Prelude.{nat_le, MatchOption}
+use Rattle.std.specs.Prelude.{nat_le, IsPermutation, MatchOption}
+use Rattle.std.specs.BinaryHeap.{IsHeap}
 use Rattle.std.specs.Option.{option_map_or}
 use Rattle.std.proofs.lemmas.Bool.{cases_eq, le-leb, false≢true}
 use Rattle.std.proofs.lemmas.List.{get_or-set_same, get_or-set_other, length-set, map-set, set-get_or, get_or-map}
@@ -9,7 +10,7 @@ use Rattle.budget_book.specs.declared.sales.SaleRow.{SaleRow}
 use Rattle.budget_book.specs.declared.sales.SaleState.{SaleState}
 use Rattle.budget_book.specs.declared.sales.SaleState.TheVariants.{Held, Billed, Lost, Expired}
 use Rattle.budget_book.specs.Book.{AreKnown}
-use Rattle.budget_book.specs.Dues.{IsDueOf, AreDues}
+use Rattle.budget_book.specs.Dues.{IsDueOf, AreDues, due_cmp}
 use Rattle.budget_book.specs.Expiry.{IsExpiry}
 use Rattle.budget_book.specs.Sales.{is_held, is_due, in_state}
 use Rattle.budget_book.specs.Users.{pair_of, pairs_of}
@@ -65,28 +66,30 @@ expiry_one m rows i x l at due = record {
 }
 
 -- the sale of an entry that is due is due, where it is held
-pub entry_due : (f m : ℕ) (rows : List SaleRow) (e : Due) (i : ℕ) (x : SaleRow) → e.number ≡ f + i + 1 → i < length rows → get_or rows i x ≡ x → x.state ≡ Held → e.due ≤ m → IsDueOf f rows e → is_due m x ≡ true
+pub entry_due : (f m : ℕ) (rows : List SaleRow) (e : Due) (i : ℕ) (x : SaleRow) → e.number ≡ f + i + 1 → i < length rows → get_or rows i x ≡ x → x.state ≡ Held → e.due.0 ≤ m → IsDueOf f rows e → is_due m x ≡ true
 entry_due f m rows e i x number l at held before (some, few, is) =
-    let due : (get_or rows i x).due ≡ e.due = subst (λ o. MatchOption o (Unit {0}) (λ (s : SaleRow). s.due ≡ e.due)) (sale_in f rows e.number i x number l) is in
-    let same : x.due ≡ e.due = sym (ap (λ (s : SaleRow). s.due) at) ∙ due in
+    let due : (get_or rows i x).due ≡ e.due.0 = subst (λ o. MatchOption o (Unit {0}) (λ (s : SaleRow). s.due ≡ e.due.0)) (sale_in f rows e.number i x number l) is in
+    let same : x.due ≡ e.due.0 = sym (ap (λ (s : SaleRow). s.due) at) ∙ due in
     ap (λ st. is_held st && nat_le x.due m) held ∙ le-leb x.due m (omega (arith, same))
 
 -- an entry goes whose sale is forgotten, or not held
-pub popped_forgotten : (f : ℕ) (rows : List SaleRow) (e : Due) (dues : List Due) → e.number ≤ f → AreDues f rows (e ∷ dues) → AreDues f rows dues
-popped_forgotten f rows e dues old h =
-    dues_popped f rows e dues (λ w. ap (λ o. option_map_or (λ (s : SaleRow). cond (is_held s.state) (w e.number s) 0) o 0) (sale_forgotten f rows e.number old)) h
+pub popped_forgotten : (f : ℕ) (rows : List SaleRow) (e : Due) (old dues : List Due) → e.number ≤ f → IsPermutation old (e ∷ dues) → IsHeap due_cmp dues → AreDues f rows old → AreDues f rows dues
+popped_forgotten f rows e old dues gone moved ordered h =
+    dues_popped f rows e old dues moved ordered (λ w. ap (λ o. option_map_or (λ (s : SaleRow). cond (is_held s.state) (w e.number s) 0) o 0) (sale_forgotten f rows e.number gone)) h
 
-pub popped_other : (f : ℕ) (rows : List SaleRow) (e : Due) (dues : List Due) (i : ℕ) (d : SaleRow) → e.number ≡ f + i + 1 → i < length rows → is_held (get_or rows i d).state ≡ false → AreDues f rows (e ∷ dues) → AreDues f rows dues
-popped_other f rows e dues i d number l q h =
-    dues_popped f rows e dues (λ w. ap (λ o. option_map_or (λ (s : SaleRow). cond (is_held s.state) (w e.number s) 0) o 0) (sale_in f rows e.number i d number l)
+pub popped_other : (f : ℕ) (rows : List SaleRow) (e : Due) (old dues : List Due) (i : ℕ) (d : SaleRow) → e.number ≡ f + i + 1 → i < length rows → is_held (get_or rows i d).state ≡ false
+    → IsPermutation old (e ∷ dues) → IsHeap due_cmp dues → AreDues f rows old → AreDues f rows dues
+popped_other f rows e old dues i d number l q moved ordered h =
+    dues_popped f rows e old dues moved ordered (λ w. ap (λ o. option_map_or (λ (s : SaleRow). cond (is_held s.state) (w e.number s) 0) o 0) (sale_in f rows e.number i d number l)
     ∙ ap (λ b. cond b (w e.number (get_or rows i d)) 0) q) h
 
 -- an entry goes whose sale expired
-pub popped_expired : (f : ℕ) (rows : List SaleRow) (e : Due) (dues : List Due) (i : ℕ) (x : SaleRow) → e.number ≡ f + i + 1 → i < length rows → get_or rows i x ≡ x → AreDues f rows (e ∷ dues) → AreDues f (set rows i (in_state Expired x)) dues
-popped_expired f rows e dues i x number l at h =
+pub popped_expired : (f : ℕ) (rows : List SaleRow) (e : Due) (old dues : List Due) (i : ℕ) (x : SaleRow) → e.number ≡ f + i + 1 → i < length rows → get_or rows i x ≡ x
+    → IsPermutation old (e ∷ dues) → IsHeap due_cmp dues → AreDues f rows old → AreDues f (set rows i (in_state Expired x)) dues
+popped_expired f rows e old dues i x number l at moved ordered h =
     let y = in_state Expired x in
     let same : y.due ≡ (get_or rows i x).due = sym (ap (λ (s : SaleRow). s.due) at) in
     let here : get_or (set rows i y) i x ≡ y = get_or-set_same rows i y x l in
     let gone : is_held (get_or (set rows i y) i x).state ≡ false = ap (λ (s : SaleRow). is_held s.state) here in
     let inside : i < length (set rows i y) = omega (arith, length-set rows i y) in
-    popped_other f (set rows i y) e dues i x number inside gone (dues_moved f rows (e ∷ dues) i y x l refl same h)
+    popped_other f (set rows i y) e old dues i x number inside gone moved ordered (dues_moved f rows old i y x l refl same h)

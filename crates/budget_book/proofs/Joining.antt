@@ -79,12 +79,12 @@ book_new_campaign f accounts rows links dues lasts b h high =
 
 no_sales_forgotten : (f n : ℕ) (dues : List Due) → AreDues f [] dues → AreDues (f + n) [] dues
 no_sales_forgotten f n dues h = record {
-  rising = h.rising;
+  ordered = h.ordered;
   of_sales = λ k d w.
       let (some, few, is) = h.of_sales k d w in (
         some,
         omega (arith, few),
-        subst (λ o. MatchOption o (Unit {0}) (λ (s : SaleRow). s.due ≡ (get_or dues k d).due)) (sym (sale_forgotten (f + n) [] (get_or dues k d).number (omega (arith, few)))) tt,
+        subst (λ o. MatchOption o (Unit {0}) (λ (s : SaleRow). s.due ≡ (get_or dues k d).due.0)) (sym (sale_forgotten (f + n) [] (get_or dues k d).number (omega (arith, few)))) tt,
       );
   each_held = λ w. sum_none_at (λ (e : Due). weight_at w (f + n) [] e.number) dues (λ k d l. let (some, few, is) = h.of_sales k d l in weight_forgotten w (f + n) [] (get_or dues k d).number (omega (arith, few)));
 }

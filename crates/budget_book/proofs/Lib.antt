@@ -1,5 +1,6 @@
 pub mod Chained
 pub mod Expiring
+pub mod Heaped
 pub mod Joining
 pub mod Looking
 pub mod Moving

@@ -1,18 +1,18 @@
 -- What expires by a moment, added up over the entries.
-use Rattle.std.proofs.Common.{◌≡◌, ℕ, ◌+◌, ◌<◌, ◌≤◌, ◌&&◌, ◌||◌, eqb, cond, Bool, true, false, List, [], ◌∷◌, length, get_or, take, drop, refl, ◌∙◌, ap, arith, length-drop, Option, Some, None}
-use Rattle.std.specs.Prelude.{nat_le, sum_by, MatchOption}
+use Rattle.std.proofs.Common.{◌≡◌, ℕ, ◌+◌, ◌<◌, ◌≤◌, ◌&&◌, ◌||◌, eqb, cond, Bool, true, false, List, [], ◌∷◌, length, get_or, refl, ◌∙◌, ap, arith, Option, Some, None}
+use Rattle.std.specs.Prelude.{nat_le, MatchOption}
 use Rattle.std.specs.Option.{option_map_or}
 use Rattle.std.proofs.lemmas.Bool.{lt-leb}
-use Rattle.std.proofs.lemmas.List.{get_or-drop}
-use Rattle.std.proofs.lemmas.List.Sums.{count_by-le-length, sum_by-cons, sum_by-take-drop, sum_by-take-le}
+use Rattle.std.proofs.lemmas.List.Sums.{count_by-le-length, sum_by-cons}
 use Rattle.budget_book.specs.declared.dues.Due.{Due}
 use Rattle.budget_book.specs.declared.sales.Gone.{Gone}
 use Rattle.budget_book.specs.declared.sales.SaleRow.{SaleRow}
 use Rattle.budget_book.specs.declared.sales.SaleState.{SaleState}
 use Rattle.budget_book.specs.declared.sales.SaleState.TheVariants.{Held, Billed, Lost, Expired}
-use Rattle.budget_book.specs.Dues.{AreDues, IsDueOf, due_weight, held_weight, release_weight, weight_at}
+use Rattle.budget_book.specs.Dues.{AreDues, IsDueOf, due_weight, entry_weight, held_weight, release_weight, sum_below, weight_at}
 use Rattle.budget_book.specs.Sales.{committed_of, due_count, expired, expired_at, is_billed, is_billed_of, is_due, is_held, is_held_of, prices, sale_at}
-use Rattle.budget_book.proofs.Waiting.{held_weight_counts, pick, sum_none_at}
+use Rattle.budget_book.proofs.Heaped.{all_below, later_below}
+use Rattle.budget_book.proofs.Waiting.{held_weight_counts, pick}
 
 -- a weight that is nothing for sales that are due later
 abbrev pub IsLight : (ℕ → SaleRow → ℕ) → ℕ → Type 0
@@ -28,31 +28,26 @@ release_light c m n s l = ap (λ t. pick (eqb s.campaign c && t) s.price 0) (lt-
     nothing true p = refl
     nothing false p = refl
 
-light_entry : (v : ℕ → SaleRow → ℕ) (f m : ℕ) (rows : List SaleRow) (e : Due) → IsLight v m → IsDueOf f rows e → m < e.due → weight_at v f rows e.number ≡ 0
+light_entry : (v : ℕ → SaleRow → ℕ) (f m : ℕ) (rows : List SaleRow) (e : Due) → IsLight v m → IsDueOf f rows e → m < e.due.0 → weight_at v f rows e.number ≡ 0
 light_entry v f m rows e light (some, few, is) l = at_sale (sale_at f rows e.number) is
   where
     empty : (b : Bool) (n : ℕ) → n ≡ 0 → pick b n 0 ≡ 0
     empty true n h = h
     empty false n h = refl
 
-    at_sale : (o : Option SaleRow) → MatchOption o (Unit {0}) (λ (s : SaleRow). s.due ≡ e.due) → option_map_or (λ (s : SaleRow). pick (is_held s.state) (v e.number s) 0) o 0 ≡ 0
+    at_sale : (o : Option SaleRow) → MatchOption o (Unit {0}) (λ (s : SaleRow). s.due ≡ e.due.0) → option_map_or (λ (s : SaleRow). pick (is_held s.state) (v e.number s) 0) o 0 ≡ 0
     at_sale None h = refl
     at_sale (Some s) h = empty (is_held s.state) (v e.number s) (light e.number s (omega (arith, l, h)))
 
--- the entries in front have it all
-pub front_sum : (v : ℕ → SaleRow → ℕ) (f m : ℕ) (rows : List SaleRow) (dues : List Due) (n : ℕ) → IsLight v m → AreDues f rows dues
-    → ((k : ℕ) (d : Due) → n ≤ k → k < length dues → m < (get_or dues k d).due) → sum_by (λ (e : Due). weight_at v f rows e.number) (take n dues) ≡ held_weight v (f + 1) rows
-front_sum v f m rows dues n light h later =
-    let w : Due → ℕ = λ e. weight_at v f rows e.number in
-    let rest : sum_by w (drop n dues) ≡ 0 =
-    sum_none_at w (drop n dues) (λ k d l.
-    let inside : n + k < length dues = omega (arith, l, length-drop n dues) in
-    let there : get_or (drop n dues) k d ≡ get_or dues (n + k) d = get_or-drop n dues k d in
-    ap w there ∙ light_entry v f m rows (get_or dues (n + k) d) light (h.of_sales (n + k) d inside) (later (n + k) d (omega arith) inside)) in
-    omega (arith, sum_by-take-drop w dues n, rest, h.each_held v)
+-- all entries together have it all
+pub all_sum : (v : ℕ → SaleRow → ℕ) (f : ℕ) (rows : List SaleRow) (dues : List Due) → AreDues f rows dues → sum_below (entry_weight v f rows) dues 0 ≡ held_weight v (f + 1) rows
+all_sum v f rows dues h = all_below (entry_weight v f rows) dues ∙ h.each_held v
 
-pub front_bound : (v : ℕ → SaleRow → ℕ) (f : ℕ) (rows : List SaleRow) (dues : List Due) (n : ℕ) → AreDues f rows dues → sum_by (λ (e : Due). weight_at v f rows e.number) (take n dues) ≤ held_weight v (f + 1) rows
-front_bound v f rows dues n h = let w : Due → ℕ = λ e. weight_at v f rows e.number in omega (arith, sum_by-take-le w dues n, h.each_held v)
+-- where an entry is not due, those below it weigh nothing
+pub not_due : (v : ℕ → SaleRow → ℕ) (f m : ℕ) (rows : List SaleRow) (dues : List Due) (p : ℕ) → IsLight v m → AreDues f rows dues
+    → ((d : Due) → p < length dues → m < (get_or dues p d).due.0) → sum_below (entry_weight v f rows) dues p ≡ 0
+not_due v f m rows dues p light h later =
+    later_below (entry_weight v f rows) m dues h.ordered (λ k d l past. light_entry v f m rows (get_or dues k d) light (h.of_sales k d l) past) (length dues) p later
 
 -- how many are due
 pub due_weight_is : (m n : ℕ) (rows : List SaleRow) → held_weight (due_weight m) n rows ≡ due_count m rows

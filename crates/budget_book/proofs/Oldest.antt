@@ -60,21 +60,21 @@ due_dropped f d rows e x short (some, few, is) = (
   some,
   omega (arith, length-drop d rows),
   elim (cases_lt (f + d) e.number) [
-    | inr old ↦ subst (λ o. MatchOption o (Unit {0}) (λ (s : SaleRow). s.due ≡ e.due)) (sym (sale_forgotten (f + d) (drop d rows) e.number old)) tt
+    | inr old ↦ subst (λ o. MatchOption o (Unit {0}) (λ (s : SaleRow). s.due ≡ e.due.0)) (sym (sale_forgotten (f + d) (drop d rows) e.number old)) tt
     | inl new ↦
         let there : e.number ≡ (f + d) + (e.number - (f + d) - 1) + 1 = omega arith in
         let there2 : e.number ≡ f + (d + (e.number - (f + d) - 1)) + 1 = omega arith in
         let left = sale_in (f + d) (drop d rows) e.number (e.number - (f + d) - 1) x there (omega (arith, length-drop d rows)) in
         let right = sale_in f rows e.number (d + (e.number - (f + d) - 1)) x there2 (omega arith) in
-        let was = subst (λ o. MatchOption o (Unit {0}) (λ (s : SaleRow). s.due ≡ e.due)) right is in
-        subst (λ o. MatchOption o (Unit {0}) (λ (s : SaleRow). s.due ≡ e.due)) (sym left) (ap (λ (s : SaleRow). s.due) (get_or-drop d rows (e.number - (f + d) - 1) x) ∙ was)
+        let was = subst (λ o. MatchOption o (Unit {0}) (λ (s : SaleRow). s.due ≡ e.due.0)) right is in
+        subst (λ o. MatchOption o (Unit {0}) (λ (s : SaleRow). s.due ≡ e.due.0)) (sym left) (ap (λ (s : SaleRow). s.due) (get_or-drop d rows (e.number - (f + d) - 1) x) ∙ was)
   ],
 )
 
 -- no entry goes, and no number changes
 pub dues_forgotten : (f d : ℕ) (rows : List SaleRow) (dues : List Due) (x : SaleRow) → d ≤ length rows → NoneHeld d rows → AreDues f rows dues → AreDues (f + d) (drop d rows) dues
 dues_forgotten f d rows dues x short none h = record {
-  rising = h.rising;
+  ordered = h.ordered;
   of_sales = λ k e w. due_dropped f d rows (get_or dues k e) x short (h.of_sales k e w);
   each_held = λ w.
       let e : (f + 1) + d ≡ f + d + 1 = omega arith in

@@ -1,17 +1,19 @@
 -- The entries of the sales that are still to expire, as sales are made, change and are forgotten.
 use Rattle.std.proofs.Common.{◌≡◌, ℕ, zero, suc, ◌+◌, ◌-◌, ◌<◌, ◌≤◌, ◌&&◌, inl, inr, eqb, cond, Bool, true, false, List, [], ◌∷◌, ◌++◌, length, get_or, set, refl, sym, ◌∙◌, ap, subst, arith, Option, Some, None}
-use Rattle.std.specs.Prelude.{sum_by, nat_le, slice_get, MatchOption}
+use Rattle.std.specs.Prelude.{sum_by, nat_le, slice_get, IsPermutation, MatchOption}
 use Rattle.std.specs.Option.{option_map_or}
-use Rattle.std.specs.List.{insert}
+use Rattle.std.specs.BinaryHeap.{IsHeap}
 use Rattle.std.proofs.lemmas.Bool.{cases_eq, cases_Bool, eq-eqb, ne_eqb, le-leb, lt-leb, cases_lt}
 use Rattle.std.proofs.lemmas.List.{get_or-set_same, get_or-set_other, length-set, get_or_append_left, get_or_push, length_push}
-use Rattle.std.proofs.lemmas.List.Sums.{sum_by-cons, sum_by-insert, sum_by-set}
+use Rattle.std.proofs.lemmas.List.Sums.{sum_by-cons, sum_by-set}
+use Rattle.std.proofs.lemmas.List.Elements.{All-cons, All-head, All-tail}
+use Rattle.std.proofs.lemmas.List.Sorted.{All-permutation, sum_by_popped, sum_by_pushed}
 use Rattle.std.proofs.lemmas.Option.{slice_get-get_or}
 use Rattle.budget_book.specs.declared.dues.Due.{Due}
 use Rattle.budget_book.specs.declared.sales.SaleRow.{SaleRow}
 use Rattle.budget_book.specs.declared.sales.SaleState.TheVariants.{Expired}
 use Rattle.budget_book.specs.Sales.{is_held, is_due, in_state, expired_at, expired, due_count, sale_at}
-use Rattle.budget_book.specs.Dues.{weight_at, held_weight, IsDueOf, AreDues}
+use Rattle.budget_book.specs.Dues.{weight_at, held_weight, IsDueOf, AreDues, due_cmp, entry_weight}
 
 -- `cond` of numbers
 abbrev pub pick : Bool → ℕ → ℕ → ℕ
@@ -148,25 +150,25 @@ due_of_moved f rows i y e d l same (some, few, is) = (
   some,
   omega (arith, length-set rows i y),
   elim (cases_lt f e.number) [
-    | inr old ↦ subst (λ o. MatchOption o (Unit {0}) (λ (s : SaleRow). s.due ≡ e.due)) (sym (sale_forgotten f (set rows i y) e.number old)) tt
+    | inr old ↦ subst (λ o. MatchOption o (Unit {0}) (λ (s : SaleRow). s.due ≡ e.due.0)) (sym (sale_forgotten f (set rows i y) e.number old)) tt
     | inl new ↦
         let place : e.number ≡ f + (e.number - f - 1) + 1 = omega arith in
         let inside : e.number - f - 1 < length rows = omega arith in
         let inside2 : e.number - f - 1 < length (set rows i y) = omega (arith, length-set rows i y) in
-        let was : (get_or rows (e.number - f - 1) d).due ≡ e.due = subst (λ o. MatchOption o (Unit {0}) (λ (s : SaleRow). s.due ≡ e.due)) (sale_in f rows e.number (e.number - f - 1) d place inside) is in
-        let now : (get_or (set rows i y) (e.number - f - 1) d).due ≡ e.due =
+        let was : (get_or rows (e.number - f - 1) d).due ≡ e.due.0 = subst (λ o. MatchOption o (Unit {0}) (λ (s : SaleRow). s.due ≡ e.due.0)) (sale_in f rows e.number (e.number - f - 1) d place inside) is in
+        let now : (get_or (set rows i y) (e.number - f - 1) d).due ≡ e.due.0 =
         elim (cases_eq (e.number - f - 1) i) [
           | inl at ↦ ap (λ (s : SaleRow). s.due) (ap (λ j. get_or (set rows i y) j d) at ∙ get_or-set_same rows i y d l) ∙ same ∙ ap (λ j. (get_or rows j d).due) (sym at) ∙ was
           | inr other ↦ ap (λ (s : SaleRow). s.due) (get_or-set_other rows i (e.number - f - 1) y d other) ∙ was
         ] in
-        subst (λ o. MatchOption o (Unit {0}) (λ (s : SaleRow). s.due ≡ e.due)) (sym (sale_in f (set rows i y) e.number (e.number - f - 1) d place inside2)) now
+        subst (λ o. MatchOption o (Unit {0}) (λ (s : SaleRow). s.due ≡ e.due.0)) (sym (sale_in f (set rows i y) e.number (e.number - f - 1) d place inside2)) now
   ],
 )
 
 -- a sale changes to a state that is not held; its entry stays
 pub dues_moved : (f : ℕ) (rows : List SaleRow) (dues : List Due) (i : ℕ) (y : SaleRow) (d : SaleRow) → i < length rows → is_held y.state ≡ false → y.due ≡ (get_or rows i d).due → AreDues f rows dues → AreDues f (set rows i y) dues
 dues_moved f rows dues i y d l q same h = record {
-  rising = h.rising;
+  ordered = h.ordered;
   of_sales = λ k e w. due_of_moved f rows i y (get_or dues k e) d l same (h.of_sales k e w);
   each_held = λ w.
       sum_same_at (λ (e : Due). weight_at w f (set rows i y) e.number) (λ (e : Due). weight_at (without (f + 1 + i) w) f rows e.number) dues
@@ -175,16 +177,20 @@ dues_moved f rows dues i y d l q same h = record {
       ∙ sym (held_weight_moved w (f + 1) rows i y l q);
 }
 
--- the first entry goes, where its sale is not held or not there
-pub dues_popped : (f : ℕ) (rows : List SaleRow) (e : Due) (dues : List Due) → ((w : ℕ → SaleRow → ℕ) → weight_at w f rows e.number ≡ 0) → AreDues f rows (e ∷ dues) → AreDues f rows dues
-dues_popped f rows e dues none h = record {
-  rising = λ i j d l w. h.rising (suc i) (suc j) d (omega arith) (omega arith);
-  of_sales = λ k d w. h.of_sales (suc k) d (omega arith);
-  each_held = λ w. omega (arith, sum_by-cons (λ (e : Due). weight_at w f rows e.number) e dues, none w, h.each_held w);
+-- an entry that goes is of a sale that was made
+pub popped_due : (f : ℕ) (rows : List SaleRow) (e : Due) (old dues : List Due) → IsPermutation old (e ∷ dues) → AreDues f rows old → IsDueOf f rows e
+popped_due f rows e old dues moved h = All-head (IsDueOf f rows) e dues (All-permutation (IsDueOf f rows) old (e ∷ dues) moved h.of_sales)
+
+-- an entry goes, where its sale is not held or not there
+pub dues_popped : (f : ℕ) (rows : List SaleRow) (e : Due) (old dues : List Due) → IsPermutation old (e ∷ dues) → IsHeap due_cmp dues → ((w : ℕ → SaleRow → ℕ) → weight_at w f rows e.number ≡ 0) → AreDues f rows old → AreDues f rows dues
+dues_popped f rows e old dues moved ordered none h = record {
+  ordered = ordered;
+  of_sales = All-tail (IsDueOf f rows) e dues (All-permutation (IsDueOf f rows) old (e ∷ dues) moved h.of_sales);
+  each_held = λ w. omega (arith, sum_by_popped (entry_weight w f rows) e old dues moved, none w, h.each_held w);
 }
 
 -- where the first entry is not due, nothing is
-pub none_due : (f m : ℕ) (rows : List SaleRow) (dues : List Due) → ((k : ℕ) (d : Due) → k < length dues → m < (get_or dues k d).due) → AreDues f rows dues → due_count m rows ≡ 0
+pub none_due : (f m : ℕ) (rows : List SaleRow) (dues : List Due) → ((k : ℕ) (d : Due) → k < length dues → m < (get_or dues k d).due.0) → AreDues f rows dues → due_count m rows ≡ 0
 none_due f m rows dues later h =
     let v : ℕ → SaleRow → ℕ = λ k s. cond (nat_le s.due m) 1 0 in
     let nothing : sum_by (λ (e : Due). weight_at v f rows e.number) dues ≡ 0 =
@@ -195,12 +201,12 @@ none_due f m rows dues later h =
     empty s m due true e l = ap (λ t. pick t 1 0) (lt-leb s.due m (omega arith))
     empty s m due false e l = refl
 
-    light_in : (f m : ℕ) (rows : List SaleRow) (e : Due) (o : Option SaleRow) → MatchOption o (Unit {0}) (λ (s : SaleRow). s.due ≡ e.due) → m < e.due
+    light_in : (f m : ℕ) (rows : List SaleRow) (e : Due) (o : Option SaleRow) → MatchOption o (Unit {0}) (λ (s : SaleRow). s.due ≡ e.due.0) → m < e.due.0
         → option_map_or (λ (s : SaleRow). pick (is_held s.state) (pick (nat_le s.due m) 1 0) 0) o 0 ≡ 0
     light_in f m rows e None is l = refl
-    light_in f m rows e (Some s) is l = empty s m e.due (is_held s.state) is l
+    light_in f m rows e (Some s) is l = empty s m e.due.0 (is_held s.state) is l
 
-    light : (f m : ℕ) (rows : List SaleRow) (e : Due) → IsDueOf f rows e → m < e.due → weight_at (λ k s. pick (nat_le s.due m) 1 0) f rows e.number ≡ 0
+    light : (f m : ℕ) (rows : List SaleRow) (e : Due) → IsDueOf f rows e → m < e.due.0 → weight_at (λ k s. pick (nat_le s.due m) 1 0) f rows e.number ≡ 0
     light f m rows e (some, few, is) l = light_in f m rows e (sale_at f rows e.number) is l
 
 -- ---- expiry
@@ -236,21 +242,21 @@ due_kept f rows y e (some, few, is) = (
   some,
   omega (arith, few, length_push rows y),
   elim (cases_lt f e.number) [
-    | inr old ↦ subst (λ o. MatchOption o (Unit {0}) (λ (s : SaleRow). s.due ≡ e.due)) (sym (sale_forgotten f (rows ++ y ∷ []) e.number old)) tt
+    | inr old ↦ subst (λ o. MatchOption o (Unit {0}) (λ (s : SaleRow). s.due ≡ e.due.0)) (sym (sale_forgotten f (rows ++ y ∷ []) e.number old)) tt
     | inl new ↦
         let place : e.number ≡ f + (e.number - f - 1) + 1 = omega arith in
         let inside : e.number - f - 1 < length rows = omega arith in
-        let was : (get_or rows (e.number - f - 1) y).due ≡ e.due = subst (λ o. MatchOption o (Unit {0}) (λ (s : SaleRow). s.due ≡ e.due)) (sale_in f rows e.number (e.number - f - 1) y place inside) is in
-        let now : (get_or (rows ++ y ∷ []) (e.number - f - 1) y).due ≡ e.due = ap (λ (s : SaleRow). s.due) (get_or_append_left rows (y ∷ []) y (e.number - f - 1) inside) ∙ was in
-        subst (λ o. MatchOption o (Unit {0}) (λ (s : SaleRow). s.due ≡ e.due)) (sym (sale_in f (rows ++ y ∷ []) e.number (e.number - f - 1) y place (omega (arith, inside, length_push rows y)))) now
+        let was : (get_or rows (e.number - f - 1) y).due ≡ e.due.0 = subst (λ o. MatchOption o (Unit {0}) (λ (s : SaleRow). s.due ≡ e.due.0)) (sale_in f rows e.number (e.number - f - 1) y place inside) is in
+        let now : (get_or (rows ++ y ∷ []) (e.number - f - 1) y).due ≡ e.due.0 = ap (λ (s : SaleRow). s.due) (get_or_append_left rows (y ∷ []) y (e.number - f - 1) inside) ∙ was in
+        subst (λ o. MatchOption o (Unit {0}) (λ (s : SaleRow). s.due ≡ e.due.0)) (sym (sale_in f (rows ++ y ∷ []) e.number (e.number - f - 1) y place (omega (arith, inside, length_push rows y)))) now
   ],
 )
 
-due_new : (f : ℕ) (rows : List SaleRow) (y : SaleRow) (e : Due) → e.number ≡ f + length rows + 1 → e.due ≡ y.due → IsDueOf f (rows ++ y ∷ []) e
+due_new : (f : ℕ) (rows : List SaleRow) (y : SaleRow) (e : Due) → e.number ≡ f + length rows + 1 → e.due.0 ≡ y.due → IsDueOf f (rows ++ y ∷ []) e
 due_new f rows y e number due = (
   omega arith,
   omega (arith, length_push rows y),
-  subst (λ o. MatchOption o (Unit {0}) (λ (s : SaleRow). s.due ≡ e.due)) (sym (sale_in f (rows ++ y ∷ []) e.number (length rows) y number (omega (arith, length_push rows y))))
+  subst (λ o. MatchOption o (Unit {0}) (λ (s : SaleRow). s.due ≡ e.due.0)) (sym (sale_in f (rows ++ y ∷ []) e.number (length rows) y number (omega (arith, length_push rows y))))
       (ap (λ (s : SaleRow). s.due) (get_or_push rows y y (length rows) refl) ∙ sym due),
 )
 
@@ -266,27 +272,17 @@ weight_kept w f rows y n some few =
           ∙ sym (weight_in w f rows n (n - f - 1) y place inside)
     ]
 
--- what holds of all items and of one more holds after it was put in
-all_inserted : {X : Type 0} (P : X → Type 0) (xs : List X) (i : ℕ) (y : X) → i ≤ length xs → ((k : ℕ) (d : X) → k < length xs → P (get_or xs k d)) → P y → (k : ℕ) (d : X) → k < length (insert xs i y) → P (get_or (insert xs i y) k d)
-all_inserted P [] zero y l h p zero d w = p
-all_inserted P [] zero y l h p (suc k) d w = absurd (omega arith)
-all_inserted P [] (suc i) y l h p k d w = absurd (omega arith)
-all_inserted P (x ∷ xs) zero y l h p zero d w = p
-all_inserted P (x ∷ xs) zero y l h p (suc k) d w = h k d (omega arith)
-all_inserted P (x ∷ xs) (suc i) y l h p zero d w = h zero d (omega arith)
-all_inserted P (x ∷ xs) (suc i) y l h p (suc k) d w = all_inserted P xs i y (omega arith) (λ j e v. h (suc j) e (omega arith)) p k d (omega arith)
-
-pub dues_added : (f : ℕ) (rows : List SaleRow) (dues : List Due) (y : SaleRow) (e : Due) (place : ℕ) → e.number ≡ f + length rows + 1 → e.due ≡ y.due → is_held y.state ≡ true → place ≤ length dues
-    → ((i j : ℕ) (d : Due) → i ≤ j → j < length (insert dues place e) → (get_or (insert dues place e) i d).due ≤ (get_or (insert dues place e) j d).due)
-    → AreDues f rows dues → AreDues f (rows ++ y ∷ []) (insert dues place e)
-dues_added f rows dues y e place number due held l rising h = record {
-  rising = rising;
-  of_sales = all_inserted (IsDueOf f (rows ++ y ∷ [])) dues place e l (λ k d w. due_kept f rows y (get_or dues k d) (h.of_sales k d w)) (due_new f rows y e number due);
+pub dues_added : (f : ℕ) (rows : List SaleRow) (old dues : List Due) (y : SaleRow) (e : Due) → e.number ≡ f + length rows + 1 → e.due.0 ≡ y.due → is_held y.state ≡ true
+    → IsPermutation (e ∷ old) dues → IsHeap due_cmp dues → AreDues f rows old → AreDues f (rows ++ y ∷ []) dues
+dues_added f rows old dues y e number due held moved ordered h = record {
+  ordered = ordered;
+  of_sales = All-permutation (IsDueOf f (rows ++ y ∷ [])) (e ∷ old) dues moved
+      (All-cons (IsDueOf f (rows ++ y ∷ [])) e old (due_new f rows y e number due) (λ k d w. due_kept f rows y (get_or old k d) (h.of_sales k d w)));
   each_held = λ w.
       let v : Due → ℕ = λ e. weight_at w f (rows ++ y ∷ []) e.number in
-      let split : sum_by v (insert dues place e) ≡ sum_by v dues + v e = sum_by-insert v dues place e in
-      let same : sum_by v dues ≡ sum_by (λ (e : Due). weight_at w f rows e.number) dues =
-      sum_same_at v (λ (e : Due). weight_at w f rows e.number) dues (λ k d b. let (some, few, _) = h.of_sales k d b in weight_kept w f rows y (get_or dues k d).number some few) in
+      let split : sum_by v dues ≡ v e + sum_by v old = sum_by_pushed v e old dues moved in
+      let same : sum_by v old ≡ sum_by (λ (e : Due). weight_at w f rows e.number) old =
+      sum_same_at v (λ (e : Due). weight_at w f rows e.number) old (λ k d b. let (some, few, _) = h.of_sales k d b in weight_kept w f rows y (get_or old k d).number some few) in
       let here : v e ≡ pick (is_held y.state) (w e.number y) 0 =
       weight_in w f (rows ++ y ∷ []) e.number (length rows) y number (omega (arith, length_push rows y)) ∙ ap (λ (s : SaleRow). cond (is_held s.state) (w e.number s) 0) (get_or_push rows y y (length rows) refl) in
       let n : e.number ≡ f + 1 + length rows = omega (arith, number) in
@@ -297,7 +293,7 @@ dues_added f rows dues y e place number due held l rising h = record {
 -- a sale that is not held has no entry
 pub dues_unheld : (f : ℕ) (rows : List SaleRow) (dues : List Due) (y : SaleRow) → is_held y.state ≡ false → AreDues f rows dues → AreDues f (rows ++ y ∷ []) dues
 dues_unheld f rows dues y out h = record {
-  rising = h.rising;
+  ordered = h.ordered;
   of_sales = λ k d w. due_kept f rows y (get_or dues k d) (h.of_sales k d w);
   each_held = λ w.
       let same : sum_by (λ (e : Due). weight_at w f (rows ++ y ∷ []) e.number) dues ≡ sum_by (λ (e : Due). weight_at w f rows e.number) dues =

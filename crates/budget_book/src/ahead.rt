@@ -1,61 +1,90 @@
-// What would expire by a moment.
-ghost use Rattle.std.specs.Prelude.{◌≡◌, ℕ, ◌+◌, ◌<◌, ◌≤◌, ◌^◌, length};
+// What would expire by a moment. A look ahead goes down the heap of entries only where they are due, so it costs
+// what is due, however many are held.
+ghost use Rattle.std.specs.Prelude.{◌≡◌, ◌+◌, ◌<◌, ◌≤◌, ◌^◌, length, MatchOption, OnSome};
+ghost use Rattle.std.specs.BinaryHeap.{heap_items};
 ghost use Rattle.std.proofs.Common.{get_or};
 ghost use Rattle.budget_book.specs.declared.dues.Due.{Due};
 ghost use Rattle.budget_book.specs.declared.sales.Gone.{Gone};
-ghost use Rattle.budget_book.specs.Dues.{AreDues, due_weight, release_weight, weight_at};
+ghost use Rattle.budget_book.specs.Dues.{AreDues, due_weight, entry_weight, release_weight, sum_below, weight_at};
 ghost use Rattle.budget_book.specs.Sales.{committed_of, due_count, expired, is_held_of, prices};
 
 use crate::dues::Due;
 use crate::sales::{SaleRow, row_at};
-use std::collections::VecDeque;
+use std::collections::BinaryHeap;
 
 // How many sales would expire.
-pub(crate) fn count_due(dues: &VecDeque<Due>, rows: &[SaleRow], forgotten: u64, moment: u64) -> u64
-    requires dues { AreDues forgotten rows.now dues.now.items }
+pub(crate) fn count_due(
+    dues: &BinaryHeap<Due>,
+    rows: &[SaleRow],
+    forgotten: u64,
+    moment: u64,
+) -> u64
+    requires dues { AreDues forgotten rows.now (heap_items dues.now) }
     requires few { length rows.now ≤ 4194304 }
     ensures { result ≡ due_count moment rows.now }
 {
-    let mut count = 0;
-    for place in 0..front_len(dues, moment) {
-        count += count_one(rows, forgotten, dues[place].number, moment);
-    }
-    count
+    count_below(dues.as_slice(), 0, rows, forgotten, moment)
+}
+
+// How many sales would expire of the entry at the place and of those below it.
+fn count_below(dues: &[Due], place: usize, rows: &[SaleRow], forgotten: u64, moment: u64) -> u64
+    requires dues { AreDues forgotten rows.now dues.now }
+    requires few { sum_below (entry_weight (due_weight moment) forgotten rows.now) dues.now place ≤ 4194304 }
+    ensures { result ≡ sum_below (entry_weight (due_weight moment) forgotten rows.now) dues.now place }
+{
+    let Some(entry) = due_at(dues, place, moment) else {
+        return 0;
+    };
+    count_one(rows, forgotten, entry.number, moment)
+        + count_below(dues, 2 * place + 1, rows, forgotten, moment)
+        + count_below(dues, 2 * place + 2, rows, forgotten, moment)
 }
 
 // What would no longer be reserved for the campaign.
 pub(crate) fn release(
-    dues: &VecDeque<Due>,
+    dues: &BinaryHeap<Due>,
     rows: &[SaleRow],
     forgotten: u64,
     campaign: u32,
     moment: u64,
 ) -> u64
-    requires dues { AreDues forgotten rows.now dues.now.items }
+    requires dues { AreDues forgotten rows.now (heap_items dues.now) }
     requires range { prices (is_held_of campaign) rows.now ≤ 10 ^ 15 }
     ensures { (gone : Gone) → result + committed_of campaign gone (expired moment rows.now) ≡ committed_of campaign gone rows.now }
 {
-    let mut amount = 0;
-    for place in 0..front_len(dues, moment) {
-        amount += release_one(rows, forgotten, dues[place].number, campaign, moment);
-    }
-    amount
+    release_below(dues.as_slice(), 0, rows, forgotten, campaign, moment)
 }
 
-// How many entries are due by the moment.
-fn front_len(dues: &VecDeque<Due>, moment: u64) -> usize
-    requires { (i j : ℕ) (d : Due) → i ≤ j → j < length dues.now.items → (get_or dues.now.items i d).due ≤ (get_or dues.now.items j d).due }
-    ensures bound { result ≤ length dues.now.items }
-    ensures behind { (k : ℕ) (d : Due) → result ≤ k → k < length dues.now.items → moment < (get_or dues.now.items k d).due }
+// What of it is of the entry at the place and of those below it.
+fn release_below(
+    dues: &[Due],
+    place: usize,
+    rows: &[SaleRow],
+    forgotten: u64,
+    campaign: u32,
+    moment: u64,
+) -> u64
+    requires dues { AreDues forgotten rows.now dues.now }
+    requires range { sum_below (entry_weight (release_weight campaign moment) forgotten rows.now) dues.now place ≤ 10 ^ 15 }
+    ensures { result ≡ sum_below (entry_weight (release_weight campaign moment) forgotten rows.now) dues.now place }
 {
-    let mut place = 0;
-    while place < dues.len() {
-        if moment < dues[place].due {
-            return place;
-        }
-        place += 1;
+    let Some(entry) = due_at(dues, place, moment) else {
+        return 0;
+    };
+    release_one(rows, forgotten, entry.number, campaign, moment)
+        + release_below(dues, 2 * place + 1, rows, forgotten, campaign, moment)
+        + release_below(dues, 2 * place + 2, rows, forgotten, campaign, moment)
+}
+
+// The entry at the place, where one is there and due by the moment. Where it is not due, none below it is.
+fn due_at(dues: &[Due], place: usize, moment: u64) -> Option<Due>
+    ensures due { MatchOption result ((d : Due) → place < length dues.now → moment < (get_or dues.now place d).due.0) (λ e. (place < length dues.now) × (e ≡ get_or dues.now place e)) }
+    ensures few { OnSome result (length dues.now < 2 ^ 60) }
+{
+    if place >= dues.len() || moment < dues[place].due.0 {
+        return None;
     }
-    place
+    Some(dues[place])
 }
 
 // One, where the sale of that number is in the list, held, and due by the moment.

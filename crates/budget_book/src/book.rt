@@ -13,7 +13,7 @@ use crate::forgetting::{add_gone, drop_front, forgettable};
 use crate::last_sales::LastSales;
 use crate::sales::{MOST_SALES, SaleRow, row_at};
 use std::alloc::{AllocError, Global};
-use std::collections::VecDeque;
+use std::collections::BinaryHeap;
 use std::marker::Model;
 
 /// Budgets and sales. Contracts see the campaigns' budgets with what is gone of each, the list of sales,
@@ -22,8 +22,8 @@ use std::marker::Model;
 /// Campaigns and sales are numbered from 1 on, and keep their numbers. Moments are in milliseconds.
 ///
 /// Nobody goes over all sales: an account for each campaign has what its sales add up to, the sales that
-/// are to expire stand in the order in which they are due, and the sales of a campaign to a user are
-/// chained, from the last one back.
+/// are to expire stand in a heap with the one that is due first on top, and the sales of a campaign to a user
+/// are chained, from the last one back.
 #[derive(Drop)]
 pub struct Book {
     pub(crate) forgotten: u64,
@@ -31,19 +31,20 @@ pub struct Book {
     pub(crate) rows: Vec<SaleRow>,
     // For each sale to a user, the number of the one before it of the same campaign to the same user.
     pub(crate) links: Vec<u64>,
-    pub(crate) dues: VecDeque<Due>,
+    pub(crate) dues: BinaryHeap<Due>,
     pub(crate) lasts: LastSales,
 }
 
 impl Model for Book {
     ghost use Rattle.std.specs.Prelude.{◌-◌, min};
+    ghost use Rattle.std.specs.BinaryHeap.{heap_capacity, heap_items, heap_len};
     ghost use Rattle.budget_book.specs.Book.{BookState, IsBook, funds_of_all, user_room};
 
     ghost Value = { BookState };
 
-    ghost view = { λ b. record { campaigns = funds_of_all b.accounts.items; sales = b.rows.items; sale_room = min (b.rows.cap - b.rows.len) (min (b.links.cap - b.links.len) (min (b.dues.cap - b.dues.len) (user_room b.lasts))); campaign_room = b.accounts.cap - b.accounts.len } };
+    ghost view = { λ b. record { campaigns = funds_of_all b.accounts.items; sales = b.rows.items; sale_room = min (b.rows.cap - b.rows.len) (min (b.links.cap - b.links.len) (min (heap_capacity b.dues - heap_len b.dues) (user_room b.lasts))); campaign_room = b.accounts.cap - b.accounts.len } };
 
-    ghost invariant = { λ b. IsBook b.forgotten b.accounts.items b.rows.items b.links.items b.dues.items b.lasts };
+    ghost invariant = { λ b. IsBook b.forgotten b.accounts.items b.rows.items b.links.items (heap_items b.dues) b.lasts };
 }
 
 impl Book {
@@ -56,7 +57,7 @@ impl Book {
             accounts: Vec::new(alloc),
             rows: Vec::new(alloc),
             links: Vec::new(alloc),
-            dues: VecDeque::new(alloc),
+            dues: BinaryHeap::new(alloc),
             lasts: LastSales::new(alloc),
         }
     }

@@ -1,6 +1,7 @@
 -- What the words of `rtbx` ask for, and what a run of them comes to.
-use Rattle.std.specs.Prelude.{◌≡◌, ◌≢◌, ◌⊎◌, ℕ, List, [], ◌∷◌, Bool, true, false, Option, None, Some, if◌then◌else◌, option_map, codes}
+use Rattle.std.specs.Prelude.{◌≡◌, ◌≢◌, ◌⊎◌, ◌&&◌, not, ℕ, List, [], ◌∷◌, Bool, true, false, Option, None, Some, if◌then◌else◌, option_map, codes}
 use Rattle.std.specs.Str.{bytes_eq}
+use Rattle.link_door.specs.declared.asked.Asked.{Asked as WorldCall}
 use Rattle.link_door.specs.declared.door.Door.{Ghosts as DoorGhosts}
 use Rattle.link_door.specs.declared.link.Link.{Ghosts as LinkGhosts}
 use Rattle.rtb_disk.specs.declared.disk.Disk.{Ghosts as DiskGhosts}
@@ -9,7 +10,7 @@ use Rattle.rtb_io.specs.declared.status.Status.TheVariants as status
 use Rattle.run_commands.specs.Endings.{Ends, EndsBy}
 use Rattle.run_commands.specs.Recover.{Recovers}
 use Rattle.run_commands.specs.Serve.{Serves}
-use Rattle.run_words.specs.CommandLines.{command_line}
+use Rattle.run_words.specs.CommandLines.{command_line, is_question}
 use Rattle.run_words.specs.declared.commands.CommandLine.{CommandLine}
 use Rattle.run_words.specs.declared.commands.CommandLine.TheVariants as line
 use Rattle.run_words.specs.declared.recover.RecoverOptions.{RecoverOptions}
@@ -24,9 +25,10 @@ pub data Asked : Type 0 where
   sale : List Campaign → Asked
   other : CommandLine → Asked
 
+-- `try` with its campaigns: nothing is asked about it
 abbrev pub names_try : List (List ℕ) → Bool
 names_try [] = false
-names_try (name ∷ words) = bytes_eq name (codes "try")
+names_try (name ∷ words) = bytes_eq name (codes "try") && not (is_question words)
 
 -- what the words ask for, where they are of a command
 abbrev pub words_of : List (List ℕ) → Option Asked
@@ -51,26 +53,28 @@ IsQuestion (line.Help topic) = Unit {0}
 IsQuestion line.Version = Unit {0}
 
 -- nothing was asked of the world
-pub record IsApart {Disk Door : Type 0} (disks disks' : Option (List Disk)) (left left' : Option (List Door)) (count count' : ℕ) (given : List Door) (back : Option Disk) : Type 0 where
+pub record IsApart {Disk Door : Type 0} (calls calls' : List WorldCall) (disks disks' : Option (List Disk)) (left left' : Option (List Door)) (count count' : ℕ) (given : List Door) (back : Option Disk) : Type 0 where
+  pub calls_are : calls' ≡ calls
   pub disks_are : disks' ≡ disks
   pub doors_are : left' ≡ left
   pub count_is : count' ≡ count
   pub no_door : given ≡ []
   pub no_disk : back ≡ None
 
--- What the run comes to by its words. `disks` and `left` are the disks and the doors that the world has, `count`
--- is its count of faults, and `given` and `back` are the doors and the disk that are given back.
+-- What the run comes to by its words. `calls` is what the world was asked for so far, `disks` and `left` are the disks
+-- and the doors that it has, `count` is its count of faults, and `given` and `back` are the doors and the disk that are
+-- given back.
 pub data Runs {Disk Door Link : Type 0} (G : DiskGhosts Disk) (H : DoorGhosts Door Link) (K : LinkGhosts Link) (words : List (List ℕ))
-    (disks disks' : Option (List Disk)) (left left' : Option (List Door)) (count count' : ℕ) (written written' : Option (List ℕ)) (code : ℕ) (given : List Door) (back : Option Disk) : Type 0 where
-  tries : names_try words ≡ true → IsApart disks disks' left left' count count' given back
-      → Runs G H K words disks disks' left left' count count' written written' code given back
-  serves : (options : ServeOptions) → words_of words ≡ Some (other (line.Serve options)) → Serves G H K options disks disks' left left' count count' written written' code given back
-      → Runs G H K words disks disks' left left' count count' written written' code given back
-  recovers : (options : RecoverOptions) → words_of words ≡ Some (other (line.Recover options)) → left' ≡ left → given ≡ [] → Recovers G disks disks' count count' written written' code back
-      → Runs G H K words disks disks' left left' count count' written written' code given back
-  shows : (asked : CommandLine) → IsQuestion asked → words_of words ≡ Some (other asked) → IsApart disks disks' left left' count count' given back → Shows written written' code
-      → Runs G H K words disks disks' left left' count count' written written' code given back
-  unnamed : words_of words ≡ None → IsApart disks disks' left left' count count' given back → EndsBy status.Usage written written' code
-      → Runs G H K words disks disks' left left' count count' written written' code given back
-  starved : IsApart disks disks' left left' count count' given back → EndsBy status.Memory written written' code
-      → Runs G H K words disks disks' left left' count count' written written' code given back
+    (calls calls' : List WorldCall) (disks disks' : Option (List Disk)) (left left' : Option (List Door)) (count count' : ℕ) (written written' : Option (List ℕ)) (code : ℕ) (given : List Door) (back : Option Disk) : Type 0 where
+  tries : names_try words ≡ true → IsApart calls calls' disks disks' left left' count count' given back
+      → Runs G H K words calls calls' disks disks' left left' count count' written written' code given back
+  serves : (options : ServeOptions) → words_of words ≡ Some (other (line.Serve options)) → Serves G H K options calls calls' disks disks' left left' count count' written written' code given back
+      → Runs G H K words calls calls' disks disks' left left' count count' written written' code given back
+  recovers : (options : RecoverOptions) → words_of words ≡ Some (other (line.Recover options)) → left' ≡ left → given ≡ [] → Recovers G options.journal calls calls' disks disks' count count' written written' code back
+      → Runs G H K words calls calls' disks disks' left left' count count' written written' code given back
+  shows : (asked : CommandLine) → IsQuestion asked → words_of words ≡ Some (other asked) → IsApart calls calls' disks disks' left left' count count' given back → Shows written written' code
+      → Runs G H K words calls calls' disks disks' left left' count count' written written' code given back
+  unnamed : words_of words ≡ None → IsApart calls calls' disks disks' left left' count count' given back → EndsBy status.Usage written written' code
+      → Runs G H K words calls calls' disks disks' left left' count count' written written' code given back
+  starved : IsApart calls calls' disks disks' left left' count count' given back → EndsBy status.Memory written written' code
+      → Runs G H K words calls calls' disks disks' left left' count count' written written' code given back

@@ -2,6 +2,7 @@ pub mod Writing
 mod Reaching
 pub mod Stopping
 pub mod PayloadLemmas
+mod PieceLemmas
 pub mod GateLemmas
 pub mod CreationLemmas
 pub mod CompactLemmas

@@ -4,6 +4,7 @@ pub mod Creations
 pub mod Damage
 pub mod Gates
 pub mod Openings
+pub mod Pieces
 pub mod Readings
 pub mod Sizes
 pub mod Standing

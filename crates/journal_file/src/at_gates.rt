@@ -49,7 +49,7 @@ fn is_open<D: Disk>(disk: &mut D, gate: u64) -> Result<bool, Failed>
     Ok(is_one(&byte[..n]))
 }
 
-fn is_one(bytes: &[u8]) -> bool
+pub(crate) fn is_one(bytes: &[u8]) -> bool
     ensures { result ≡ begins_open bytes.now }
 {
     match bytes.split_first() {

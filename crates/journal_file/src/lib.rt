@@ -5,6 +5,7 @@
 //! `specs/Compaction.antt` what is known of a journal, a reading and a file that is written whole.
 #![tactic(auto)]
 
+mod ahead;
 mod at_gates;
 mod blocks;
 mod compaction;
@@ -15,6 +16,7 @@ mod journal;
 mod laws;
 mod opening;
 mod payloads;
+mod piece;
 mod reading;
 mod steps;
 

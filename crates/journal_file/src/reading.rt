@@ -1,11 +1,13 @@
-ghost use Rattle.std.specs.Prelude.{◌≡◌, ◌<◌, ◌^◌, length, true};
+ghost use Rattle.std.specs.Prelude.{◌≡◌, ◌<◌, ◌^◌, length, take, true};
 ghost use Rattle.journal_file.specs.Gates.{has_gate};
+ghost use Rattle.journal_file.specs.Pieces.{BeginsFrom};
 
-use crate::at_gates::block_at;
+use crate::ahead::block_ahead;
 use crate::faults::JournalFault;
 use crate::finishing::create_journal;
 use crate::journal::{Journal, Stage};
 use crate::opening::{Opening, begin};
+use crate::piece::Piece;
 use rtb_disk::Disk;
 use rtb_num::Txt;
 
@@ -19,16 +21,18 @@ pub(crate) enum Found {
     Damaged,
 }
 
-/// A journal that is read block by block.
+/// A journal that is read block by block, from the disk in pieces of 65536 bytes.
 #[derive(Drop)]
 pub struct Reading<D: Disk> {
     pub(crate) disk: D,
     pub(crate) size: u64,
     pub(crate) gate: u64,
     pub(crate) found: Found,
+    pub(crate) piece: Piece,
     ghost known: { (D.store disk).told ≡ true → size ≡ length (D.store disk).reads },
     ghost small: { size < 2 ^ 63 },
     ghost low: { gate < 2 ^ 63 },
+    ghost held: { (D.store disk).told ≡ true → BeginsFrom piece.place (take piece.count piece.bytes) (D.store disk).reads },
     ghost inside: { has_gate found ≡ true → (D.store disk).told ≡ true → gate < length (D.store disk).reads },
 }
 
@@ -56,12 +60,14 @@ impl<D: Disk> Reading<D> {
                 size,
                 gate: 8,
                 found: Found::Blocks,
+                piece: Piece::empty(),
             }),
             Ok((size, Opening::Creation)) => Ok(Reading {
                 disk,
                 size,
                 gate: 0,
                 found: Found::Creation,
+                piece: Piece::empty(),
             }),
             Ok((_, Opening::Foreign)) => Err((disk, JournalFault::Damaged { at: 0 })),
         }
@@ -131,7 +137,7 @@ impl<D: Disk> Reading<D> {
         ensures none { result ≡ Ok None → has_ended self.new ≡ true }
     {
         let gate = self.gate;
-        match block_at(&mut self.disk, gate, out) {
+        match block_ahead(&mut self.disk, &mut self.piece, gate, out) {
             Ok(Some(next)) => {
                 self.gate = next;
                 Ok(Some(gate))

@@ -3,13 +3,15 @@ use Rattle.std.specs.Prelude.{ℕ, List, Bool, length, nat_lt, ◌||◌}
 use Rattle.rtb_base.specs.Calls.{Calls, next_fails}
 use Rattle.rtb_disk.specs.Memory.{DiskState}
 use Rattle.link_door.specs.Memory.{DoorState}
+use Rattle.link_door.specs.declared.asked.Asked.{Asked}
 
--- the doors and the disks that are left, and the calls
+-- the doors and the disks that are left, what was asked for, and the calls
 pub record WorldState : Type 0 where
   pub doors : List DoorState
   pub disks : List DiskState
+  pub asked : List Asked
   pub calls : Calls
 
--- a call for so many of these fails: it is told to, or there are too few
+-- a call for so many of these has to fail: it is told to, or there are too few
 abbrev pub lacks : {Item : Type 0} → Calls → List Item → ℕ → Bool
 lacks calls items n = next_fails calls || nat_lt (length items) n

@@ -5,6 +5,7 @@
 //! of which they tell the count of faults alone.
 #![tactic(auto)]
 
+mod asked;
 mod door;
 mod link;
 mod memory_door;
@@ -15,6 +16,7 @@ mod pause;
 mod tcp;
 mod world;
 
+pub use asked::Asked;
 pub use door::Door;
 pub use link::Link;
 pub use memory_door::MemDoor;

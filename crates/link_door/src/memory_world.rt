@@ -3,9 +3,11 @@ ghost use Rattle.rtb_base.specs.Calls.{no_calls, one_call_later};
 ghost use Rattle.std.specs.Result.{is_err};
 ghost use Rattle.link_door.specs.MemoryWorld.{lacks};
 ghost use Rattle.rtb_base.specs.Faults.{CountsErrors, RisesOnlyWhere, RoseAtMost};
-ghost use Rattle.link_door.specs.Worlds.{HandsOut};
+ghost use Rattle.link_door.specs.Worlds.{Asks, HandsOut};
+ghost use Rattle.link_door.specs.declared.asked.Asked.TheVariants as asked_for;
 ghost use Rattle.link_door.specs.declared.world.WorldFault.TheVariants.{Memory as memory};
 
+use crate::asked::{Asked, note_disk, note_doors};
 use crate::memory_door::MemDoor;
 use crate::world::{World, WorldFault};
 use rtb_disk::MemDisk;
@@ -16,12 +18,14 @@ use std::mem;
 
 /// A world in memory, where the calls whose numbers are listed fail.
 ///
-/// Calls of `doors` and `disk` are numbered together. Addresses and names are passed over: doors and
-/// disks are handed out in their order. A call that asks for more than are left fails too.
+/// Calls of `doors` and `disk` are numbered together. Addresses and names are kept and else passed over:
+/// doors and disks are handed out in their order. A call that asks for more than are left fails too, and so
+/// does one of `disk` that finds no memory to keep the name.
 #[derive(Drop)]
 pub struct MemWorld {
     doors: Vec<MemDoor>,
     disks: Vec<MemDisk>,
+    asked: List<Asked>,
     calls: Calls,
 }
 
@@ -30,19 +34,32 @@ impl Model for MemWorld {
 
     ghost Value = { WorldState };
 
-    ghost view = { λ w. record { doors = w.doors.items; disks = w.disks.items; calls = w.calls } };
+    ghost view = { λ w. record { doors = w.doors.items; disks = w.disks.items; asked = w.asked; calls = w.calls } };
 }
 
 impl MemWorld {
     /// A world that has these left, and was not called yet. It takes no memory.
-    pub fn new(_: Global, doors: List<MemDoor>, disks: List<MemDisk>, fails: List<u64>) -> MemWorld
-        ensures { result ≡ record { doors = doors; disks = disks; calls = no_calls fails } }
+    pub fn new(
+        alloc: Global,
+        doors: List<MemDoor>,
+        disks: List<MemDisk>,
+        fails: List<u64>,
+    ) -> MemWorld
+        ensures { result ≡ record { doors = doors; disks = disks; asked = []; calls = no_calls fails } }
     {
         MemWorld {
             doors: doors.into_vec(),
             disks: disks.into_vec(),
+            asked: List::new(alloc),
             calls: Calls::new(fails),
         }
+    }
+
+    /// What it was asked for so far, in order.
+    pub fn asked(&self) -> &List<Asked>
+        ensures { result.now ≡ self.now.asked }
+    {
+        &self.asked
     }
 
     /// Its calls so far.
@@ -62,26 +79,33 @@ impl World for MemWorld {
 
     ghost disks_left = { λ w. Some w.disks };
 
+    ghost asked = { λ w. w.asked };
+
     ghost faults = { λ w. w.calls.faults };
 
-    fn doors(&mut self, _: Global, _: &Txt, n: u32) -> Result<List<MemDoor>, WorldFault> {
+    fn doors(&mut self, _: Global, address: &Txt, n: u32) -> Result<List<MemDoor>, WorldFault> {
         if self.calls.begin() || self.doors.len() < n as usize {
             self.calls.count_fault();
             return Err(WorldFault::Failed);
         }
+        note_doors(&mut self.asked, address, n)?;
         take_front(&mut self.doors, n as usize)
     }
 
-    fn disk(&mut self, _: &Txt) -> Result<MemDisk, Failed>
+    fn disk(&mut self, path: &Txt) -> Result<MemDisk, Failed>
         ensures disks { MatchResult result (λ disk. HandsOut (Some self.old.disks) (Some self.new.disks) (disk ∷ [])) (λ _. self.new.disks ≡ self.old.disks) }
         ensures doors { self.new.doors ≡ self.old.doors }
+        ensures asks { Asks self.old.asked self.new.asked (asked_for.Disk path.now) result }
         ensures cause { CountsErrors self.old.calls.faults self.new.calls.faults result }
 
-        // A call fails exactly where it is told to, or where none is left.
-        ensures told { is_err result ≡ lacks self.old.calls self.old.disks 1 }
+        // A call fails where it is told to, and where none is left.
+        ensures told { OnOk result (lacks self.old.calls self.old.disks 1 ≡ false) }
         ensures calls { self.new.calls ≡ one_call_later self.old.calls (is_err result) }
     {
-        if self.calls.begin() || self.disks.is_empty() {
+        if self.calls.begin()
+            || self.disks.is_empty()
+            || note_disk(&mut self.asked, path).is_err()
+        {
             self.calls.count_fault();
             return Err(Failed);
         }

@@ -1,6 +1,7 @@
-ghost use Rattle.std.specs.Prelude.{◌≡◌, ◌≤◌, None, length, IfOk};
+ghost use Rattle.std.specs.Prelude.{◌≡◌, ◌≤◌, [], None, length, IfOk};
 ghost use Rattle.rtb_base.specs.Faults.{one_more};
 
+use crate::asked::{Asked, note_disk, note_doors};
 use crate::tcp::TcpDoor;
 use crate::world::{World, WorldFault};
 use rtb_disk::FileDisk;
@@ -12,21 +13,28 @@ use std::net::TcpListener;
 #[derive(Drop)]
 pub struct OsWorld<'r> {
     rt: &'r HostRuntime,
+    asked: List<Asked>,
     faults: u64,
 }
 
 impl<'r> OsWorld<'r> {
-    /// The world that the runtime gives. It has met no fault.
+    /// The world that the runtime gives. It was asked for nothing, and has met no fault.
     pub fn new(rt: &'r HostRuntime) -> OsWorld<'r>
-        ensures { ⟦<OsWorld<'r> as World>⟧.faults result ≡ 0 }
+        ensures asked { ⟦<OsWorld<'r> as World>⟧.asked result ≡ [] }
+        ensures faults { ⟦<OsWorld<'r> as World>⟧.faults result ≡ 0 }
     {
-        OsWorld { rt, faults: 0 }
+        OsWorld {
+            rt,
+            asked: List::new(rt.alloc()),
+            faults: 0,
+        }
     }
 
     // Counts a fault.
     fn count_fault(&mut self)
         ensures counted { self.new.faults ≡ one_more self.old.faults }
         ensures kept { self.old.faults ≤ self.new.faults }
+        ensures asked { self.new.asked ≡ self.old.asked }
     {
         self.faults = self.faults.saturating_add(1);
     }
@@ -41,6 +49,8 @@ impl<'r> World for OsWorld<'r> {
 
     ghost disks_left = { λ _. None };
 
+    ghost asked = { λ w. w.asked };
+
     ghost faults = { λ w. w.faults };
 
     fn doors(
@@ -49,6 +59,7 @@ impl<'r> World for OsWorld<'r> {
         address: &Txt,
         n: u32,
     ) -> Result<List<TcpDoor<&'r HostRuntime>>, WorldFault> {
+        note_doors(&mut self.asked, address, n)?;
         let Some(listener) = listen(self.rt, address) else {
             self.count_fault();
             return Err(WorldFault::Failed);
@@ -63,13 +74,13 @@ impl<'r> World for OsWorld<'r> {
     }
 
     fn disk(&mut self, path: &Txt) -> Result<FileDisk, Failed> {
-        match open(self.rt, path) {
-            Some(disk) => Ok(disk),
-            None => {
-                self.count_fault();
-                Err(Failed)
+        if note_disk(&mut self.asked, path).is_ok() {
+            if let Some(disk) = open(self.rt, path) {
+                return Ok(disk);
             }
         }
+        self.count_fault();
+        Err(Failed)
     }
 }
 

@@ -1,6 +1,8 @@
 ghost use Rattle.std.specs.Prelude.{◌≡◌, ℕ, ◌∷◌, [], Err, length, List, Option, IfOk, MatchResult};
 ghost use Rattle.rtb_base.specs.Faults.{CountsErrors, RisesOnlyWhere, RoseAtMost};
-ghost use Rattle.link_door.specs.Worlds.{HandsOut};
+ghost use Rattle.link_door.specs.Worlds.{Asks, HandsOut};
+ghost use Rattle.link_door.specs.declared.asked.Asked.{Asked};
+ghost use Rattle.link_door.specs.declared.asked.Asked.TheVariants as asked_for;
 ghost use Rattle.link_door.specs.declared.world.WorldFault.TheVariants.{Memory as memory};
 
 use crate::door::Door;
@@ -39,6 +41,9 @@ pub trait World {
 
     ghost disks_left: { Self → Option (List Self.Disk) };
 
+    // What it was asked for so far, in order.
+    ghost asked: { Self → List Asked };
+
     // How many calls failed so far, up to the greatest number of 64 bits.
     ghost faults: { Self → ℕ };
 
@@ -53,6 +58,7 @@ pub trait World {
         ensures count { IfOk result (λ doors. length doors ≡ n) }
         ensures doors { MatchResult result (HandsOut (doors_left self.old) (doors_left self.new)) (λ _. doors_left self.new ≡ doors_left self.old) }
         ensures disks { disks_left self.new ≡ disks_left self.old }
+        ensures asks { Asks (asked self.old) (asked self.new) (asked_for.Doors address.now n) result }
         ensures cause { RisesOnlyWhere (result ≡ Err WorldFault.Failed) (faults self.old) (faults self.new) }
         ensures once { RoseAtMost 1 (faults self.old) (faults self.new) };
 
@@ -60,5 +66,6 @@ pub trait World {
     fn disk(&mut self, path: &Txt) -> Result<Self::Disk, Failed>
         ensures disks { MatchResult result (λ disk. HandsOut (disks_left self.old) (disks_left self.new) (disk ∷ [])) (λ _. disks_left self.new ≡ disks_left self.old) }
         ensures doors { doors_left self.new ≡ doors_left self.old }
+        ensures asks { Asks (asked self.old) (asked self.new) (asked_for.Disk path.now) result }
         ensures cause { CountsErrors (faults self.old) (faults self.new) result };
 }

@@ -1,5 +1,5 @@
 -- What is given for a message.
-use Rattle.std.proofs.Common.{◌≡◌, ◌⊎◌, inl, inr, ℕ, true, false, List, refl, sym, ◌∙◌, ap, subst, arith, Option, Some, Result, Ok, Err}
+use Rattle.std.proofs.Common.{◌≡◌, ◌⊎◌, inl, inr, ℕ, true, false, List, [], refl, sym, ◌∙◌, ap, subst, arith, Option, Some, Result, Ok, Err}
 use Rattle.std.specs.Prelude.{IsTrue}
 use Rattle.auction_core.specs.Draft.{is_valid_command}
 use Rattle.command_read.specs.Commands.{IsCommandOf}
@@ -12,10 +12,11 @@ use Rattle.one_worker.specs.declared.exchange.Exchange.{Exchange}
 use Rattle.one_worker.specs.declared.exchange.Fault.{Fault}
 use Rattle.one_worker.specs.declared.exchange.Fault.TheVariants as fault
 use Rattle.auction_core.specs.Core.{CoreState}
-use Rattle.one_worker.specs.Answering.{Answers, IsCarriedOut, answer_to, reply_to, request_of, state_after}
+use Rattle.one_worker.specs.Answering.{AnswersAt, Does, Enters, Stays, answer_to, reply_to, request_of}
 use Rattle.one_worker.specs.Plain.{CarriesOut, IsGivenFor, IsGivenUnread}
-use Rattle.one_worker.specs.Standing.{core_in, faults_in}
+use Rattle.one_worker.specs.Standing.{GoesOn, faults_in}
 use Rattle.one_worker.proofs.Entering.{by_same}
+use Rattle.one_worker.proofs.Moving.{goes_by, goes_same}
 use Rattle.plain_exchange.specs.declared.commands.Command.{Command}
 use Rattle.plain_exchange.specs.declared.commands.Command.TheVariants as command
 use Rattle.plain_exchange.specs.declared.commands.Reply.{Reply}
@@ -49,46 +50,54 @@ still F H a b never r other = (r.0, (λ f. absurd (never f)), (λ x. r.2 other))
 module _ {D : Type 0} {G : Ghosts D} where
   -- a command that was carried out, and what is given for its reply
   pub answers_reply : (public : List ℕ) (old new : Exchange D G) (message : Message) (c : Command) (moment : ℕ) (reply : Reply) (request : Option BidRequest) (gave : Given) → IsCommandOf message (Ok c) → request ≡ request_of c
-      → CarriesOut c moment old new (Ok reply) → IsGivenFor request public reply gave → Answers public old message gave new
+      → CarriesOut c moment old new (Ok reply) → IsGivenFor request public reply gave → AnswersAt public moment old message gave new
   answers_reply public old new message c moment reply request (given.Text a true) read r out (entered, is) = record {
-    given_is = (c, moment, record { read = read; after = out.carried.1 }, answer_is public old.core moment c reply request a r out.carried.0 is, out.carried.2);
-    moves = out.moves;
+    given_is = (record { command = c; read = read; does = out.carried.1 }, answer_is public old.core moment c reply request a r out.carried.0 is, out.carried.2);
     ttl = out.ttl;
     cause = still (given.Text a true ≡ given.StoreFailed) (◌≡◌ {A = Result Reply Fault} (Ok reply) (Err fault.StoreFailed)) (faults_in old) (faults_in new) (λ e. cc e) out.cause (λ e. cc e);
   }
   answers_reply public old new message c moment reply request (given.Text a false) read r out (entered, is) = absurd (cc entered)
   answers_reply public old new message c moment reply request given.MemoryLate read r out h = record {
-    given_is = ((c, moment, record { read = read; after = out.carried.1 }), out.carried.2);
-    moves = out.moves;
+    given_is = (record { command = c; read = read; does = out.carried.1 }, out.carried.2);
     ttl = out.ttl;
     cause = still (given.MemoryLate ≡ given.StoreFailed) (◌≡◌ {A = Result Reply Fault} (Ok reply) (Err fault.StoreFailed)) (faults_in old) (faults_in new) (λ e. cc e) out.cause (λ e. cc e);
   }
   answers_reply public old new message c moment reply request given.StoreFailed read r out h = absurd h
   answers_reply public old new message c moment reply request given.Memory read r out h = absurd h
 
-  pub answers_failed : (public : List ℕ) (old new : Exchange D G) (message : Message) (c : Command) (moment : ℕ) → IsCommandOf message (Ok c) → CarriesOut c moment old new (Err fault.StoreFailed) → Answers public old message given.StoreFailed new
+  pub answers_failed : (public : List ℕ) (old new : Exchange D G) (message : Message) (c : Command) (moment : ℕ) → IsCommandOf message (Ok c) → CarriesOut c moment old new (Err fault.StoreFailed) → AnswersAt public moment old message given.StoreFailed new
   answers_failed public old new message c moment read out = record {
     given_is = by_cases out.carried;
-    moves = out.moves;
     ttl = out.ttl;
     cause = (out.cause.0, (λ e. out.cause.1 refl), (λ other. absurd (other refl)));
   }
     where
-      by_cases : ((core_in new).state ≡ (core_in old).state) ⊎ ((core_in new).state ≡ state_after (core_in old) moment c) → ((core_in new).state ≡ (core_in old).state) ⊎ IsCarriedOut message (core_in old) (core_in new)
-      by_cases (inl same) = inl same
-      by_cases (inr after) = inr (c, moment, record { read = read; after = after })
+      by_cases : Stays old new ⊎ Does c moment old new → Stays old new ⊎ Enters message moment old new
+      by_cases (inl stays) = inl stays
+      by_cases (inr does) = inr (record { command = c; read = read; does = does })
 
-  pub answers_memory : (public : List ℕ) (old new : Exchange D G) (message : Message) (c : Command) (moment : ℕ) → CarriesOut c moment old new (Err fault.Memory) → Answers public old message given.Memory new
+  pub answers_memory : (public : List ℕ) (old new : Exchange D G) (message : Message) (c : Command) (moment : ℕ) → CarriesOut c moment old new (Err fault.Memory) → AnswersAt public moment old message given.Memory new
   answers_memory public old new message c moment out = record {
     given_is = out.carried;
-    moves = out.moves;
     ttl = out.ttl;
     cause = still (given.Memory ≡ given.StoreFailed) (◌≡◌ {A = Result Reply Fault} (Err fault.Memory) (Err fault.StoreFailed)) (faults_in old) (faults_in new) (λ e. cc e) out.cause (λ e. cc e);
   }
 
   -- the message is no command, and the exchange was not touched
-  pub answers_unread : (public : List ℕ) (x : Exchange D G) (message : Message) (f : CommandFault) (gave : Given) → UnlessMemory (IsCommandOf message) (Err f) → IsGivenUnread f gave → Answers public x message gave x
-  answers_unread public x message (unread.Refused a) gave read is = subst (λ y. Answers public x message y x) (sym is)
-      (record { given_is = (read, refl); moves = by_same 0 x; ttl = refl; cause = (omega arith, (λ e. absurd (cc e)), (λ other. refl)) })
-  answers_unread public x message unread.Memory gave read is = subst (λ y. Answers public x message y x) (sym is)
-      (record { given_is = refl; moves = by_same 0 x; ttl = refl; cause = (omega arith, (λ e. absurd (cc e)), (λ other. refl)) })
+  pub answers_unread : (public : List ℕ) (x : Exchange D G) (message : Message) (moment : ℕ) (f : CommandFault) (gave : Given) → UnlessMemory (IsCommandOf message) (Err f) → IsGivenUnread f gave → AnswersAt public moment x message gave x
+  answers_unread public x message moment (unread.Refused a) gave read is = subst (λ y. AnswersAt public moment x message y x) (sym is)
+      (record { given_is = (read, refl); ttl = refl; cause = (omega arith, (λ e. absurd (cc e)), (λ other. refl)) })
+  answers_unread public x message moment unread.Memory gave read is = subst (λ y. AnswersAt public moment x message y x) (sym is)
+      (record { given_is = record { same = refl; moves = by_same x }; ttl = refl; cause = (omega arith, (λ e. absurd (cc e)), (λ other. refl)) })
+
+  -- whatever is given, the exchange goes on
+  pub goes_answered : (public : List ℕ) (moment : ℕ) (old new : Exchange D G) (message : Message) (gave : Given) → AnswersAt public moment old message gave new → GoesOn old new
+  goes_answered public moment old new message (given.Text a true) out = goes_by _ old new out.given_is.0.does.moves
+  goes_answered public moment old new message (given.Text a false) out = subst (GoesOn old) (sym out.given_is.1) (goes_same old)
+  goes_answered public moment old new message given.StoreFailed out = by_cases out.given_is
+    where
+      by_cases : Stays old new ⊎ Enters message moment old new → GoesOn old new
+      by_cases (inl stays) = goes_by [] old new stays.moves
+      by_cases (inr enters) = goes_by _ old new enters.does.moves
+  goes_answered public moment old new message given.Memory out = goes_by [] old new out.given_is.moves
+  goes_answered public moment old new message given.MemoryLate out = goes_by _ old new out.given_is.0.does.moves

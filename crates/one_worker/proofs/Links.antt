@@ -1,20 +1,22 @@
 -- Messages in a row, and links in a row.
-use Rattle.std.proofs.Common.{◌≡◌, ℕ, ◌+◌, ◌-◌, ◌<◌, cond, List, [], ◌∷◌, ◌++◌, drop, length, refl, sym, ◌∙◌, ap, subst, arith, append_assoc, Option, Some, None, Ok, Err}
-use Rattle.std.specs.Prelude.{option_map}
+use Rattle.std.proofs.Common.{◌≡◌, ℕ, ◌+◌, ◌-◌, ◌<◌, cond, Bool, true, false, List, [], ◌∷◌, ◌++◌, drop, length, refl, sym, ◌∙◌, ap, subst, arith, append_assoc, Option, Some, None, Ok, Err}
+use Rattle.std.specs.Prelude.{IfSome, nat_lt, option_map, slice_get}
 use Rattle.std.proofs.lemmas.Bool.{le-leb}
 use Rattle.std.proofs.lemmas.List.{append-nil}
 use Rattle.http_wire.specs.declared.message.Message.{Message}
-use Rattle.link_door.specs.Doors.{GivesLink, Held, with_later, with_served}
+use Rattle.link_door.specs.Doors.{GivesLink, Held, later, with_later, with_served}
 use Rattle.one_worker.specs.declared.exchange.Exchange.{Exchange}
-use Rattle.one_worker.specs.Answering.{Answers, most_effects}
-use Rattle.one_worker.specs.Serving.{HasGiven, LeavesNone, ServesDoor, ServesHeld, ServesLink, ServesLinks}
+use Rattle.one_worker.specs.Answering.{Answers, IsNow, Post}
+use Rattle.one_worker.specs.Serving.{HasGiven, LeavesNone, ServesDoor, ServesHeld, ServesLink, ServesLinks, post_of}
 use Rattle.one_worker.specs.Standing.{GoesOn}
 use Rattle.one_worker.specs.Working.{HasBack, KeepsLinks, SameLinks, TakesBack, Works}
-use Rattle.one_worker.proofs.Moving.{goes_by, goes_same, goes_then}
+use Rattle.one_worker.proofs.Giving.{goes_answered}
+use Rattle.one_worker.proofs.Moving.{goes_same, goes_then}
 use Rattle.plain_exchange.proofs.Each.{some_same}
 use Rattle.rtb_base.specs.Faults.{RisesOnlyWhere}
 use Rattle.rtb_disk.specs.declared.disk.Disk.{Ghosts}
 use Rattle.session.specs.declared.link_end.LinkEnd.{LinkEnd}
+use Rattle.session.specs.declared.link_end.LinkEnd.TheVariants.{LinkFailed}
 use Rattle.session.specs.declared.service.Given.{Given}
 use Rattle.session.specs.Talk.{IsServed, Talks, Turn}
 
@@ -47,6 +49,23 @@ taken_back {L} link (Some h) b c (k, is, s) e = λ lt.
       now ∙ ap (λ (m : Held L). Some m) (with_back link k some),
       record { left = s.left; served = ap (λ l. l ++ link ∷ []) s.served; out = omega (arith, some, s.out) },
     )
+
+-- a link that comes back leaves the moments
+pub moments_back : {L : Type 0} (link : L) (b c : Option (Held L)) → c ≡ option_map (with_served link) b → option_map (λ (h : Held L). h.moments) c ≡ option_map (λ (h : Held L). h.moments) b
+moments_back {L} link None c e = ap (option_map (λ (h : Held L). h.moments)) e
+moments_back {L} link (Some h) c e = ap (option_map (λ (h : Held L). h.moments)) e ∙ ap (λ m. Some m) (by_room (nat_lt 0 h.out))
+  where
+    by_room : (b : Bool) → (cond b (record h { served = h.served ++ link ∷ []; out = h.out - 1 }) h).moments ≡ h.moments
+    by_room true = refl
+    by_room false = refl
+
+pub moments_later : {L : Type 0} (a b : Option (Held L)) → b ≡ option_map with_later a → option_map (λ (h : Held L). h.moments) b ≡ option_map later (option_map (λ (h : Held L). h.moments) a)
+moments_later {L} None b e = ap (option_map (λ (h : Held L). h.moments)) e
+moments_later {L} (Some h) b e = ap (option_map (λ (h : Held L). h.moments)) e
+
+pub moment_now : {L : Type 0} (a : Option (Held L)) (moment : ℕ) → IfSome a (λ h. slice_get h.moments 0 ≡ Some moment) → IsNow (option_map (λ (h : Held L). h.moments) a) moment
+moment_now None moment is = tt
+moment_now (Some h) moment is = is
 
 pub none_left : {L : Type 0} (E : Type 0) (a b : Option (Held L)) → GivesLink {E = E} a b (Ok None) → LeavesNone a b
 none_left E None b gives = tt
@@ -98,23 +117,23 @@ module _ {S D L : Type 0} {G : Ghosts D} (A : S → Message → Given → S → 
   kept_one : (s : S) (m : Message) (g : Given) (t : S) → A s m g t → Kept s t
   kept_one s m g t a =
       let w = works s m g t a in
-      record { public = w.same_public; links = w.links; faults = w.same_faults; goes = goes_by (most_effects g) (x s) (x t) w.answers.moves }
+      record { public = w.same_public; links = w.links; faults = w.same_faults; goes = goes_answered (p s) w.answers.moment (x s) (x t) m g w.answers.answers }
 
   talks_kept : (turns : List Turn) (k : ℕ) (s : S) (bytes : List ℕ) (t : S) (rest : List ℕ) → Talks A k s bytes turns t rest → Kept s t
   talks_kept [] k s bytes t rest talk = subst (Kept s) (sym talk.0) (kept_same s)
   talks_kept (turn ∷ turns) k s bytes t rest (mid, used, decides, answers, text, more) =
       kept_then s mid t (kept_one s turn.message turn.given mid answers) (talks_kept turns (k + 1) mid (drop used bytes) t rest more)
 
-  talks_mapped : (public : List ℕ) (turns : List Turn) (k : ℕ) (s : S) (bytes : List ℕ) (t : S) (rest : List ℕ) → p s ≡ public → Talks A k s bytes turns t rest → Talks (Answers public) k (x s) bytes turns (x t) rest
-  talks_mapped public [] k s bytes t rest e talk = (ap x talk.0, talk.1)
+  talks_mapped : (public : List ℕ) (turns : List Turn) (k : ℕ) (s : S) (bytes : List ℕ) (t : S) (rest : List ℕ) → p s ≡ public → Talks A k s bytes turns t rest → Talks (Answers public) k (post_of (x s) (h s)) bytes turns (post_of (x t) (h t)) rest
+  talks_mapped public [] k s bytes t rest e talk = (ap (λ u. post_of (x u) (h u)) talk.0, talk.1)
   talks_mapped public (turn ∷ turns) k s bytes t rest e (mid, used, decides, answers, text, more) =
       let w = works s turn.message turn.given mid answers in
-      (x mid, used, decides, subst (λ q. Answers q (x s) turn.message turn.given (x mid)) e w.answers, text, talks_mapped public turns (k + 1) mid (drop used bytes) t rest (w.same_public ∙ e) more)
+      (post_of (x mid) (h mid), used, decides, subst (λ q. Answers q (post_of (x s) (h s)) turn.message turn.given (post_of (x mid) (h mid))) e w.answers, text, talks_mapped public turns (k + 1) mid (drop used bytes) t rest (w.same_public ∙ e) more)
 
   pub served_kept : (s t : S) (left left' sent sent' : Option (List ℕ)) (steps : ℕ) (end : LinkEnd) → IsServed A s t left left' sent sent' steps end → Kept s t
   served_kept s t left left' sent sent' steps end i = talks_kept i.turns 0 s (i.came ++ []) t (i.rest ++ []) (i.talks [])
 
-  pub served_mapped : (s t : S) (left left' sent sent' : Option (List ℕ)) (steps : ℕ) (end : LinkEnd) → IsServed A s t left left' sent sent' steps end → IsServed (Answers (p s)) (x s) (x t) left left' sent sent' steps end
+  pub served_mapped : (s t : S) (left left' sent sent' : Option (List ℕ)) (steps : ℕ) (end : LinkEnd) → IsServed A s t left left' sent sent' steps end → IsServed (Answers (p s)) (post_of (x s) (h s)) (post_of (x t) (h t)) left left' sent sent' steps end
   served_mapped s t left left' sent sent' steps end i = record {
     came = i.came;
     turns = i.turns;
@@ -131,7 +150,7 @@ module _ {S D L : Type 0} {G : Ghosts D} (A : S → Message → Given → S → 
 -- both of a conversation
 pub worker_served : {S D L : Type 0} {G : Ghosts D} {A : S → Message → Given → S → Type 0} {s t : S} {left left' sent sent' : Option (List ℕ)} {steps : ℕ} {end : LinkEnd} → IsServed A s t left left' sent sent' steps end
     → (p : S → List ℕ) (x : S → Exchange D G) (h : S → Option (Held L)) (n : S → ℕ) (works : (s : S) (m : Message) (g : Given) (t : S) → A s m g t → Works (p s) (x s) (h s) (n s) m g (p t) (x t) (h t) (n t))
-    → IsServed (Answers (p s)) (x s) (x t) left left' sent sent' steps end × (p t ≡ p s) × KeepsLinks (h s) (h t) × (n t ≡ n s) × GoesOn (x s) (x t)
+    → IsServed (Answers (p s)) (post_of (x s) (h s)) (post_of (x t) (h t)) left left' sent sent' steps end × (p t ≡ p s) × KeepsLinks (h s) (h t) × (n t ≡ n s) × GoesOn (x s) (x t)
 worker_served {S} {D} {L} {G} {A} {s} {t} {left} {left'} {sent} {sent'} {steps} {end} i p x h n works =
     let k = served_kept A p x h n works s t left left' sent sent' steps end i in
     (served_mapped A p x h n works s t left left' sent sent' steps end i, k.public, k.links, k.faults, k.goes)
@@ -139,7 +158,18 @@ worker_served {S} {D} {L} {G} {A} {s} {t} {left} {left'} {sent} {sent'} {steps} 
 -- ---- links
 
 module _ {D L : Type 0} {G : Ghosts D} (left_of sent_of : L → Option (List ℕ)) (faults_of : L → ℕ) (public : List ℕ) where
-  links_both : (given back more further : List L) (x y z : Exchange D G) → ServesLinks left_of sent_of faults_of public x given back y → ServesLinks left_of sent_of faults_of public y more further z → ServesLinks left_of sent_of faults_of public x (given ++ more) (back ++ further) z
+  -- the link came back, and the door told of it
+  pub served_back : (old : Post G) (y : Exchange D G) (m c : Option (Held L)) (link back : L) (steps : ℕ) (end : LinkEnd) → c ≡ option_map (with_served back) m
+      → IsServed (Answers public) old (post_of y m) (left_of link) (left_of back) (sent_of link) (sent_of back) steps end → RisesOnlyWhere (end ≡ LinkFailed) (faults_of link) (faults_of back)
+      → ServesLink left_of sent_of faults_of public old link back (post_of y c)
+  served_back old y m c link back steps end is served cause = record {
+    steps = steps;
+    end = end;
+    served = subst (λ n. IsServed (Answers public) old n (left_of link) (left_of back) (sent_of link) (sent_of back) steps end) (sym (ap (λ n. record { exchange = y; moments = n }) (moments_back back m c is))) served;
+    cause = cause;
+  }
+
+  links_both : (given back more further : List L) (x y z : Post G) → ServesLinks left_of sent_of faults_of public x given back y → ServesLinks left_of sent_of faults_of public y more further z → ServesLinks left_of sent_of faults_of public x (given ++ more) (back ++ further) z
   links_both [] [] more further x y z a b = subst (λ w. ServesLinks left_of sent_of faults_of public w more further z) a b
   links_both (link ∷ given) (link' ∷ back) more further x y z (mid, one, a) b = (mid, one, links_both given back more further mid y z a b)
   links_both [] (link' ∷ back) more further x y z a b = absurd a
@@ -151,7 +181,7 @@ module _ {D L : Type 0} {G : Ghosts D} (left_of sent_of : L → Option (List ℕ
     back = a.back ++ b.back;
     left = a.left ∙ ap (λ l. a.given ++ l) b.left ∙ sym (append_assoc a.given b.given m.left);
     came_back = b.came_back ∙ ap (λ l. l ++ b.back) a.came_back ∙ append_assoc h.served a.back b.back;
-    links = links_both a.given a.back b.given b.back x y z a.links b.links;
+    links = links_both a.given a.back b.given b.back (post_of x (Some h)) (post_of y (Some k)) (post_of z (Some m)) a.links b.links;
   }
 
   pub door_same : (x : Exchange D G) (o : Option (Held L)) → ServesDoor left_of sent_of faults_of public x o x o
@@ -166,7 +196,8 @@ module _ {D L : Type 0} {G : Ghosts D} (left_of sent_of : L → Option (List ℕ
       behind (m, f, t) = (m, f, held_then x y z h k m s t)
 
   -- a link was given, served and taken back
-  pub one_served : (E : Type 0) (x y : Exchange D G) (a b c : Option (Held L)) (link back : L) → GivesLink {E = E} a b (Ok (Some link)) → ServesLink left_of sent_of faults_of public x link back y → TakesBack back b c → ServesDoor left_of sent_of faults_of public x a y c
+  pub one_served : (E : Type 0) (x y : Exchange D G) (a b c : Option (Held L)) (link back : L) → GivesLink {E = E} a b (Ok (Some link)) → ServesLink left_of sent_of faults_of public (post_of x b) link back (post_of y c)
+      → TakesBack back b c → ServesDoor left_of sent_of faults_of public x a y c
   one_served E x y None b c link back gives served takes = tt
   one_served E x y (Some h) b c link back (rest, first, is) served takes = behind (subst (λ o. TakesBack back o c) is takes (omega arith))
     where
@@ -179,7 +210,12 @@ module _ {D L : Type 0} {G : Ghosts D} (left_of sent_of : L → Option (List ℕ
           back = back ∷ [];
           left = first.0 ∙ ap (λ l. link ∷ l) (sym t.left);
           came_back = t.served;
-          links = (y, served, refl);
+          links = (
+            post_of y (Some held),
+            subst (λ o. ServesLink left_of sent_of faults_of public (post_of x (Some h)) link back (post_of y o)) e
+                (subst (λ o. ServesLink left_of sent_of faults_of public (post_of x o) link back (post_of y c)) is served),
+            refl,
+          );
         },
       )
 

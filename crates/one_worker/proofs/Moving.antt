@@ -258,8 +258,8 @@ module _ {D : Type 0} {G : Ghosts D} where
       let second = b (kept ++ first.1.written) first.1.left first.1.stands in
       (first.0 ++ second.0, moves_then old mid new kept waiting first.0 second.0 first.1 second.1)
 
-  pub goes_by : (most : ℕ) (old new : Exchange D G) → MovesBy most old new → GoesOn old new
-  goes_by most old new m kept waiting s = let (more, few, moves) = m kept waiting s in (more, moves)
+  pub goes_by : (more : List Effect) (old new : Exchange D G) → MovesBy more old new → GoesOn old new
+  goes_by more old new m kept waiting s = (more, m kept waiting s)
 
   -- what was opened
   pub opened_is : (image : List ℕ) (x : Exchange D G) → is_behind x ≡ false → IsMadeBy (AreKept image x.journal) x.core → IsOpened image x

@@ -6,8 +6,8 @@ use Rattle.effects.specs.Bytes.{HasLengths, IsEncodable, effect_bytes, is_kept}
 use Rattle.one_worker.specs.declared.exchange.Fault.{Fault}
 use Rattle.one_worker.specs.declared.exchange.Fault.TheVariants as fault
 use Rattle.one_worker.specs.declared.exchange.Exchange.{Exchange}
-use Rattle.one_worker.specs.Answering.{reply_to, state_after}
-use Rattle.one_worker.specs.Standing.{MovesBy, core_in, faults_in, is_behind}
+use Rattle.one_worker.specs.Answering.{Does, Stays, reply_to}
+use Rattle.one_worker.specs.Standing.{core_in, faults_in, is_behind}
 use Rattle.plain_exchange.specs.declared.changes.Change.{Change}
 use Rattle.plain_exchange.specs.declared.changes.Effect.{Effect}
 use Rattle.plain_exchange.specs.declared.commands.Command.{Command}
@@ -44,21 +44,14 @@ abbrev pub IsGivenUnread : CommandFault → Given → Type 0
 IsGivenUnread (unread.Refused answer) gave = gave ≡ given.Text answer false
 IsGivenUnread unread.Memory gave = gave ≡ given.Memory
 
--- how many effects come with what was carried out, at most
-abbrev pub most_entered : Result Reply Fault → ℕ
-most_entered (Ok reply) = 1
-most_entered (Err fault.StoreFailed) = 1
-most_entered (Err fault.Memory) = 0
-
 module _ {D : Type 0} {G : Ghosts D} where
   -- what the exchange is once the command was carried out, or was not
   abbrev pub IsCarried : Command → ℕ → Exchange D G → Exchange D G → Result Reply Fault → Type 0
-  IsCarried command moment old new (Ok reply) = (reply ≡ reply_to (core_in old) moment command) × ((core_in new).state ≡ state_after (core_in old) moment command) × (is_behind new ≡ false)
-  IsCarried command moment old new (Err fault.StoreFailed) = ((core_in new).state ≡ (core_in old).state) ⊎ ((core_in new).state ≡ state_after (core_in old) moment command)
-  IsCarried command moment old new (Err fault.Memory) = (core_in new).state ≡ (core_in old).state
+  IsCarried command moment old new (Ok reply) = (reply ≡ reply_to (core_in old) moment command) × Does command moment old new × (is_behind new ≡ false)
+  IsCarried command moment old new (Err fault.StoreFailed) = Stays old new ⊎ Does command moment old new
+  IsCarried command moment old new (Err fault.Memory) = Stays old new
 
   pub record CarriesOut (command : Command) (moment : ℕ) (old new : Exchange D G) (r : Result Reply Fault) : Type 0 where
     pub carried : IsCarried command moment old new r
-    pub moves : MovesBy (most_entered r) old new
     pub ttl : (core_in new).ttl ≡ (core_in old).ttl
     pub cause : RisesOnlyWhere (r ≡ Err fault.StoreFailed) (faults_in old) (faults_in new)

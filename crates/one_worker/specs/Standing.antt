@@ -1,5 +1,5 @@
 -- How an exchange and its journal stand together, and what a call may make of them.
-use Rattle.std.specs.Prelude.{◌≡◌, ℕ, ◌≤◌, List, [], ◌∷◌, ◌++◌, length, Bool, true, false, Some}
+use Rattle.std.specs.Prelude.{◌≡◌, ℕ, List, [], ◌∷◌, ◌++◌, Bool, true, false, Some}
 use Rattle.auction_core.specs.Core.{CoreState}
 use Rattle.effects.specs.Bytes.{IsEncodable, effect_bytes}
 use Rattle.journal_file.specs.Blocks.{journal_names}
@@ -63,9 +63,9 @@ module _ {D : Type 0} {G : Ghosts D} where
     pub all : waiting ++ more ≡ written ++ left
     pub any_moment : Always (SaysUpTo kept (waiting ++ more)) (store_in old) (store_in new)
 
-  -- whatever the effects were, so many more came at most
-  abbrev pub MovesBy : ℕ → Exchange D G → Exchange D G → Type 0
-  MovesBy most old new = (kept waiting : List Effect) → Stands old kept waiting → (more : List Effect) × (length more ≤ most) × Moves old new kept waiting more
+  -- whatever the effects were, these came behind them, and none else
+  abbrev pub MovesBy : List Effect → Exchange D G → Exchange D G → Type 0
+  MovesBy more old new = (kept waiting : List Effect) → Stands old kept waiting → Moves old new kept waiting more
 
   -- whatever the effects were, more came, or none
   abbrev pub GoesOn : Exchange D G → Exchange D G → Type 0

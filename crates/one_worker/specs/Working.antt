@@ -4,6 +4,7 @@ use Rattle.http_wire.specs.declared.message.Message.{Message}
 use Rattle.link_door.specs.Doors.{Held}
 use Rattle.one_worker.specs.declared.exchange.Exchange.{Exchange}
 use Rattle.one_worker.specs.Answering.{Answers}
+use Rattle.one_worker.specs.Serving.{post_of}
 use Rattle.rtb_disk.specs.declared.disk.Disk.{Ghosts}
 use Rattle.session.specs.declared.service.Given.{Given}
 
@@ -27,9 +28,9 @@ abbrev pub TakesBack : {L : Type 0} → L → Option (Held L) → Option (Held L
 TakesBack link None new = ⊤
 TakesBack {L} link (Some old) new = 0 < old.out → (held : Held L) × (new ≡ Some held) × HasBack link old held
 
--- the message was answered, and of the door a moment was taken
+-- the message was answered at the door's next moment, which was taken
 pub record Works {D L : Type 0} {G : Ghosts D} (public : List ℕ) (old : Exchange D G) (held : Option (Held L)) (faults : ℕ) (message : Message) (given : Given) (public' : List ℕ) (new : Exchange D G) (held' : Option (Held L)) (faults' : ℕ) : Type 0 where
-  pub answers : Answers public old message given new
+  pub answers : Answers public (post_of old held) message given (post_of new held')
   pub same_public : public' ≡ public
   pub links : KeepsLinks held held'
   pub same_faults : faults' ≡ faults

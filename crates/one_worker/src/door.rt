@@ -1,5 +1,5 @@
 ghost use Rattle.std.specs.Prelude.{◌≡◌, ◌≢◌, ◌-◌, ◌<◌, ◌^◌, None, Some};
-ghost use Rattle.one_worker.specs.Serving.{HasGiven, LeavesNone, ServesDoor, ServesLink};
+ghost use Rattle.one_worker.specs.Serving.{HasGiven, LeavesNone, ServesDoor, ServesLink, post_of};
 ghost use Rattle.one_worker.specs.Standing.{GoesOn};
 ghost use Rattle.one_worker.specs.Working.{TakesBack};
 ghost use Rattle.rtb_base.specs.Faults.{RisesOnlyWhere};
@@ -113,7 +113,7 @@ fn serve_one<D: Disk, G: Door, P: Pause, L: Ledger>(
     requires name { blank.name ≡ L.name }
     requires parts { blank.parts ≡ L.parts }
     requires some { 0 < blank.parts }
-    ensures served { (back : G.Link) × ServesLink G.Link.left G.Link.sent G.Link.faults worker.old.public.now worker.old.exchange link back worker.new.exchange × TakesBack back (G.held worker.old.door) (G.held worker.new.door) }
+    ensures served { (back : G.Link) × ServesLink G.Link.left G.Link.sent G.Link.faults worker.old.public.now (post_of worker.old.exchange (G.held worker.old.door)) link back (post_of worker.new.exchange (G.held worker.new.door)) × TakesBack back (G.held worker.old.door) (G.held worker.new.door) }
     ensures journal { GoesOn worker.old.exchange worker.new.exchange }
     ensures public { worker.new.public.now ≡ worker.old.public.now }
     ensures faults { G.faults worker.new.door ≡ G.faults worker.old.door }

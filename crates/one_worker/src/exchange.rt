@@ -25,12 +25,12 @@ pub(crate) enum Fault {
 impl<D: Disk> Exchange<D> {
     ghost use Rattle.std.specs.Prelude.{◌≡◌, ◌≢◌, ◌⊎◌, ◌<◌, ◌^◌, ℕ, List, [], Some, true, false, Err, IfErr, IfOk, MatchResult, OnOk};
     ghost use Rattle.auction_core.specs.Draft.{IsDraftOf, IsReady};
-    ghost use Rattle.one_worker.specs.Answering.{reply_to, state_after};
-    ghost use Rattle.one_worker.specs.Plain.{HasPlain, IsBlockOf, most_entered};
-    ghost use Rattle.one_worker.specs.Standing.{IsOpened, Moves, MovesBy, Stands, core_in, disk_in, faults_in, is_behind, store_in};
+    ghost use Rattle.one_worker.specs.Answering.{effects_of, reply_to, state_after};
+    ghost use Rattle.one_worker.specs.Plain.{HasPlain, IsBlockOf};
+    ghost use Rattle.one_worker.specs.Standing.{IsOpened, MovesBy, core_in, disk_in, faults_in, is_behind, store_in};
     ghost use Rattle.plain_exchange.specs.declared.changes.Effect.{Effect};
     ghost use Rattle.plain_exchange.specs.declared.commands.Command.{Command as ACommand};
-    ghost use Rattle.recovery.specs.Openings.{Opens};
+    ghost use Rattle.recovery.specs.Openings.{IsUnwritten, Opens};
     ghost use Rattle.recovery.specs.Texts.{HasText};
     ghost use Rattle.rtb_base.specs.Faults.{CountsErrors, RisesOnlyWhere, Rose};
     ghost use Rattle.rtb_disk.specs.Stores.{Always, settled};
@@ -45,6 +45,8 @@ impl<D: Disk> Exchange<D> {
         ensures any_moment { (D.store disk).told ≡ true → (effects : List Effect) → HasText (D.store disk).reads effects → MatchResult result
             (λ x. Always (λ image. HasText image effects) (settled (D.store disk)) (store_in x))
             (λ e. (D.store e.0 ≡ D.store disk) ⊎ Always (λ image. HasText image effects) (settled (D.store disk)) (D.store e.0)) }
+        // Whatever the file is: where no call of the disk failed, a refusal wrote nothing.
+        ensures unwritten { IfErr result (λ e. e.1 ≢ JournalFault.DiskFailed → IsUnwritten (D.store disk) (D.store e.0)) }
         ensures cause { IfErr result (λ e. e.1 ≡ JournalFault.DiskFailed → Rose (D.faults disk) (D.faults e.0)) }
         ensures quiet { MatchResult result (λ x. faults_in x ≡ D.faults disk) (λ e. e.1 ≢ JournalFault.DiskFailed → D.faults e.0 ≡ D.faults disk) }
     {
@@ -69,7 +71,7 @@ impl<D: Disk> Exchange<D> {
     // Writes the block again that broke the journal, where one did.
     pub(crate) fn repair(&mut self) -> Result<(), DiskFailed>
         ensures whole { OnOk result (is_behind self.new ≡ false) }
-        ensures moves { (kept waiting : List Effect) → Stands self.old kept waiting → Moves self.old self.new kept waiting [] }
+        ensures moves { MovesBy [] self.old self.new }
         ensures core { core_in self.new ≡ core_in self.old }
         ensures cause { CountsErrors (faults_in self.old) (faults_in self.new) result }
     {
@@ -82,7 +84,7 @@ impl<D: Disk> Exchange<D> {
     fn rewrite(&mut self) -> Result<(), DiskFailed>
         requires behind { is_behind self.old ≡ true }
         ensures whole { OnOk result (is_behind self.new ≡ false) }
-        ensures moves { (kept waiting : List Effect) → Stands self.old kept waiting → Moves self.old self.new kept waiting [] }
+        ensures moves { MovesBy [] self.old self.new }
         ensures core { core_in self.new ≡ core_in self.old }
         ensures cause { CountsErrors (faults_in self.old) (faults_in self.new) result }
     {
@@ -97,7 +99,8 @@ impl<D: Disk> Exchange<D> {
         requires plain { HasPlain draft.effect }
         ensures reply { (command : ACommand) (moment : ℕ) → IsDraftOf (core_in self.old).ttl (core_in self.old).state command moment draft → IfOk result (λ r. r ≡ reply_to (core_in self.old) moment command) }
         ensures state { (command : ACommand) (moment : ℕ) → IsDraftOf (core_in self.old).ttl (core_in self.old).state command moment draft → result ≢ Err Fault.Memory → (core_in self.new).state ≡ state_after (core_in self.old) moment command }
-        ensures moves { (command : ACommand) (moment : ℕ) → IsDraftOf (core_in self.old).ttl (core_in self.old).state command moment draft → MovesBy (most_entered result) self.old self.new }
+        ensures moves { (command : ACommand) (moment : ℕ) → IsDraftOf (core_in self.old).ttl (core_in self.old).state command moment draft → result ≢ Err Fault.Memory → MovesBy (effects_of (core_in self.old) moment command) self.old self.new }
+        ensures stays { result ≡ Err Fault.Memory → MovesBy [] self.old self.new }
         ensures memory { result ≡ Err Fault.Memory → core_in self.new ≡ core_in self.old }
         ensures ttl { (core_in self.new).ttl ≡ (core_in self.old).ttl }
         ensures written { OnOk result (is_behind self.new ≡ false) }
@@ -121,7 +124,7 @@ impl<D: Disk> Exchange<D> {
         requires block { (e : Effect) × (draft.effect ≡ Some e) × IsBlockOf self.old.block e }
         ensures reply { (command : ACommand) (moment : ℕ) → IsDraftOf (core_in self.old).ttl (core_in self.old).state command moment draft → IfOk result (λ r. r ≡ reply_to (core_in self.old) moment command) }
         ensures state { (command : ACommand) (moment : ℕ) → IsDraftOf (core_in self.old).ttl (core_in self.old).state command moment draft → (core_in self.new).state ≡ state_after (core_in self.old) moment command }
-        ensures moves { (command : ACommand) (moment : ℕ) → IsDraftOf (core_in self.old).ttl (core_in self.old).state command moment draft → MovesBy 1 self.old self.new }
+        ensures moves { (command : ACommand) (moment : ℕ) → IsDraftOf (core_in self.old).ttl (core_in self.old).state command moment draft → MovesBy (effects_of (core_in self.old) moment command) self.old self.new }
         ensures ttl { (core_in self.new).ttl ≡ (core_in self.old).ttl }
         ensures written { MatchResult result (λ _. is_behind self.new ≡ false) (λ e. e ≡ Fault.StoreFailed) }
         ensures cause { CountsErrors (faults_in self.old) (faults_in self.new) result }

@@ -26,7 +26,7 @@ impl<D: Disk> Exchange<D> {
     ghost use Rattle.auction_core.specs.Draft.{is_valid_command};
     ghost use Rattle.command_read.specs.Commands.{IsCommandOf};
     ghost use Rattle.http_wire.specs.declared.message.Message.{Message as AMessage};
-    ghost use Rattle.one_worker.specs.Answering.{Answers};
+    ghost use Rattle.one_worker.specs.Answering.{AnswersAt};
     ghost use Rattle.one_worker.specs.Plain.{CarriesOut};
     ghost use Rattle.one_worker.specs.Standing.{is_behind};
     ghost use Rattle.session.specs.Talk.{IsGivable};
@@ -41,7 +41,7 @@ impl<D: Disk> Exchange<D> {
         pause: &P,
         public: &Txt,
     ) -> Given
-        ensures answers { Answers public.now self.old message.now result self.new }
+        ensures answers { AnswersAt public.now moment self.old message.now result self.new }
         ensures writable { IsGivable result }
     {
         match read_command(alloc, message) {
@@ -63,7 +63,7 @@ impl<D: Disk> Exchange<D> {
         public: &Txt,
     ) -> Given
         requires valid { IsTrue (is_valid_command command.now) }
-        ensures answers { (message : AMessage) → IsCommandOf message (Ok command.now) → Answers public.now self.old message result self.new }
+        ensures answers { (message : AMessage) → IsCommandOf message (Ok command.now) → AnswersAt public.now moment self.old message result self.new }
         ensures writable { IsGivable result }
     {
         match self.carry_out(alloc, command, moment, pause) {

@@ -3,6 +3,8 @@
 //! - `make`: each sale's user is made, of 16 bytes, and dropped;
 //! - `sell`: the sales are made, one user each, the campaigns in turn, one a millisecond and each due after a
 //!   second;
+//! - `fall`: the same, each due before all that are held;
+//! - `mixed`: the same, the dues as good as drawn at random;
 //! - `count`: each user is counted for the user's campaign;
 //! - `bill`: every second sale is billed;
 //! - `sweep`: the book is swept at each millisecond.
@@ -56,6 +58,20 @@ fn user_of(i: u32) -> [u8; 16] {
     user
 }
 
+// A number of 32 bits for each place, as good as drawn at random.
+fn drawn(i: u32) -> u64 {
+    let word = (u64::from(i) + 1).wrapping_mul(0x9e37_79b9_7f4a_7c15);
+    (word ^ word >> 32).wrapping_mul(0x9e37_79b9_7f4a_7c15) >> 32
+}
+
+// In which order the sales are due: in that in which they are made, in the reverse of it, or in none.
+#[derive(Clone, Copy)]
+enum Order {
+    Rising,
+    Falling,
+    Mixed,
+}
+
 impl Shop {
     // A book with so many campaigns, and room for so many sales.
     pub fn open(alloc: Global, campaigns: u32, sales: u32) -> Result<Shop, AllocError> {
@@ -98,7 +114,9 @@ impl Shop {
     pub fn take_step(&mut self, alloc: Global, name: &str) -> Result<u64, AllocError> {
         match name {
             "make" => self.make_users(alloc),
-            "sell" => self.sell_all(alloc),
+            "sell" => self.sell_all(alloc, Order::Rising),
+            "fall" => self.sell_all(alloc, Order::Falling),
+            "mixed" => self.sell_all(alloc, Order::Mixed),
             "count" => Ok(self.count_shown()),
             "bill" => Ok(self.bill_half()),
             "sweep" => Ok(self.sweep_all()),
@@ -120,23 +138,32 @@ impl Shop {
 
     // ---- sales
 
-    fn sell_all(&mut self, alloc: Global) -> Result<u64, AllocError> {
+    fn sell_all(&mut self, alloc: Global, order: Order) -> Result<u64, AllocError> {
         for i in 0..self.sales {
-            self.sell(alloc, i)?;
+            let due = self.due_of(i, order);
+            self.sell(alloc, i, due)?;
         }
         Ok(self.book.sales())
     }
 
+    // When the sale of that place is due.
+    fn due_of(&self, i: u32, order: Order) -> u64 {
+        match order {
+            Order::Rising => u64::from(i) + HELD,
+            Order::Falling => u64::from(self.sales.saturating_sub(i)) + HELD - 1,
+            Order::Mixed => drawn(i).checked_rem(u64::from(self.sales)).unwrap_or(0) + HELD,
+        }
+    }
+
     // Sells to the user of that place, where the campaign can pay and there is room.
-    fn sell(&mut self, alloc: Global, i: u32) -> Result<(), AllocError> {
+    fn sell(&mut self, alloc: Global, i: u32, due: u64) -> Result<(), AllocError> {
         let (Some(c), Some(price)) = (self.campaign_of(i), Nanos::new(PRICE)) else {
             return Ok(());
         };
         self.book.reserve_room(1, 0)?;
         if self.can_pay(c, price) {
             let user = UserKey::make(alloc, &user_of(i))?;
-            let moment = u64::from(i);
-            self.book.sell(c, price, moment, moment + HELD, Some(user));
+            self.book.sell(c, price, u64::from(i), due, Some(user));
         }
         Ok(())
     }

@@ -10,26 +10,55 @@ use rtb_io::Status;
 use rtb_num::{Sink, Source, StdSink, StdSource, Txt};
 use std::alloc::Global;
 use std::env;
+use std::fs::File;
 use std::io::{self, Write};
 use std::process::ExitCode;
 use std::rt::Env;
 
 fn main(rt: HostRuntime) -> ExitCode {
+    match fill_closed(&rt) {
+        Ok(filled) => {
+            let status = run_words(&rt);
+            drop(filled);
+            ExitCode::from(status)
+        }
+        Err(_) => {
+            let _ = rt.stderr().write_all(b"rtbx: cannot open /dev/null\n");
+            ExitCode::from(Status::NotWritten.code())
+        }
+    }
+}
+
+// What standard input, output and error are replaced by where they are closed.
+const NULL: &str = "/dev/null";
+
+// Opens the null device three times, for reading alone. A system gives the least number that is free, so each of
+// 0, 1 and 2 that was closed is open then, no journal and no socket gets its number, and a write to it fails as
+// before. They are held until the program ends.
+fn fill_closed(rt: &HostRuntime) -> io::Result<(File, File, File)> {
+    let first = File::open(rt, NULL)?;
+    let second = File::open(rt, NULL)?;
+    let third = File::open(rt, NULL)?;
+    Ok((first, second, third))
+}
+
+// Runs the command that the words name.
+fn run_words(rt: &HostRuntime) -> u8 {
     let alloc = rt.alloc();
-    let mut sink = StdSink::new(io::writer(&rt));
-    match words_of(&rt) {
+    let mut sink = StdSink::new(io::writer(rt));
+    match words_of(rt) {
         Ok(words) => {
             let mut source = StdSource::new(rt.reader());
-            let mut world = OsWorld::new(&rt);
+            let mut world = OsWorld::new(rt);
             let words = words.as_slice();
             let status = status_of_run(alloc, words, &mut world, &mut source, &mut sink);
             complain(alloc, words, &mut rt.stderr());
-            ExitCode::from(status)
+            status
         }
         Err(fault) => {
             let status = end_with(status_of(&fault), &mut sink);
             complain_of(status, &mut rt.stderr());
-            ExitCode::from(status.code())
+            status.code()
         }
     }
 }

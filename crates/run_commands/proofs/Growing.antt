@@ -7,7 +7,7 @@ use Rattle.one_worker.specs.declared.exchange.Exchange.{Exchange}
 use Rattle.recovery.specs.Texts.{HasText}
 use Rattle.rtb_disk.specs.Stores.{Always, settled}
 use Rattle.rtb_disk.specs.declared.disk.Disk.{Ghosts}
-use Rattle.run_commands.specs.Serve.{Grows, Opens, SaysTheSame}
+use Rattle.run_commands.specs.Serve.{Grows, Opens, OpensOnly}
 use Rattle.run_words.specs.declared.serve.ServeOptions.{ServeOptions}
 
 module _ {Disk Door Link : Type 0} (G : Ghosts Disk) (H : DoorGhosts Door Link) (K : LinkGhosts Link) (options : ServeOptions) where
@@ -25,6 +25,11 @@ module _ {Disk Door Link : Type 0} (G : Ghosts Disk) (H : DoorGhosts Door Link) 
         since = subst (λ store. Always (SaysUpTo says.effects moved.0) (store_in before) store) (sym (ap G.store is)) moved.1.any_moment;
       }
 
-  pub says_the_same : (disk disk' : Disk) (exchange : Exchange Disk G) → Opens G H K options disk exchange → disk' ≡ disk_in exchange → SaysTheSame (G.store disk) (G.store disk')
-  says_the_same disk disk' exchange opens is = λ told effects has.
-      inr (subst (λ store. Always (λ image. HasText image effects) (settled (G.store disk)) store) (sym (ap G.store is)) (opens.any_moment told effects has))
+  pub opened_only : (disk disk' : Disk) (exchange : Exchange Disk G) → Opens G H K options disk exchange → disk' ≡ disk_in exchange → OpensOnly G H K options disk disk'
+  opened_only disk disk' exchange opens is = record {
+    exchange = exchange;
+    opened = opens;
+    disk_is = is;
+    same = λ told effects has.
+        inr (subst (λ store. Always (λ image. HasText image effects) (settled (G.store disk)) store) (sym (ap G.store is)) (opens.any_moment told effects has));
+  }

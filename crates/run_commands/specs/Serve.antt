@@ -1,8 +1,11 @@
 -- The command `serve`.
-use Rattle.std.specs.Prelude.{◌≡◌, ◌⊎◌, ℕ, List, [], ◌∷◌, Option, None, Some, true, codes}
+use Rattle.std.specs.Prelude.{◌≡◌, ◌≢◌, ◌⊎◌, ℕ, List, [], ◌∷◌, ◌++◌, Option, None, Some, true, codes}
 use Rattle.std.specs.Io.KnownBytes.{Appends}
 use Rattle.journal_file.specs.declared.faults.JournalFault.{JournalFault}
-use Rattle.link_door.specs.Worlds.{HandsOut}
+use Rattle.journal_file.specs.declared.faults.JournalFault.TheVariants as journal
+use Rattle.link_door.specs.Worlds.{AsksAtMost, HandsOut}
+use Rattle.link_door.specs.declared.asked.Asked.{Asked}
+use Rattle.link_door.specs.declared.asked.Asked.TheVariants as asked_for
 use Rattle.link_door.specs.declared.door.Door.{Ghosts as DoorGhosts}
 use Rattle.link_door.specs.declared.link.Link.{Ghosts as LinkGhosts}
 use Rattle.link_door.specs.declared.world.WorldFault.{WorldFault}
@@ -13,6 +16,7 @@ use Rattle.one_worker.specs.declared.door.DoorEnd.{DoorEnd}
 use Rattle.one_worker.specs.declared.door.DoorEnd.TheVariants as ending
 use Rattle.one_worker.specs.declared.exchange.Exchange.{Exchange}
 use Rattle.plain_exchange.specs.declared.changes.Effect.{Effect}
+use Rattle.recovery.specs.Openings.{IsUnwritten}
 use Rattle.recovery.specs.Texts.{HasText}
 use Rattle.rtb_base.specs.Faults.{RisesOnlyWhere, Rose}
 use Rattle.rtb_disk.specs.Stores.{Always, Store, settled}
@@ -69,6 +73,13 @@ module _ {Disk Door Link : Type 0} (G : DiskGhosts Disk) (H : DoorGhosts Door Li
     pub any_moment : (G.store disk).told ≡ true → (effects : List Effect) → HasText (G.store disk).reads effects → Always (λ image. HasText image effects) (settled (G.store disk)) (store_in exchange)
     pub quiet : faults_in exchange ≡ G.faults disk
 
+  -- the exchange was opened from the journal on the disk, and its disk came back as it was then
+  pub record OpensOnly (disk disk' : Disk) : Type 0 where
+    pub exchange : Exchange Disk G
+    pub opened : Opens disk exchange
+    pub disk_is : disk' ≡ disk_in exchange
+    pub same : SaysTheSame (G.store disk) (G.store disk')
+
   -- The door was served by the exchange that was opened from the disk: its links one after the other, from the
   -- exchange before to that after, whose disk comes back.
   pub record Serving (disk disk' : Disk) (door door' : Door) (end : DoorEnd) : Type 0 where
@@ -82,31 +93,33 @@ module _ {Disk Door Link : Type 0} (G : DiskGhosts Disk) (H : DoorGhosts Door Li
     pub all : end ≡ ending.Served → LeavesNone (H.held door) (H.held door')
     pub cause : RisesOnlyWhere (end ≡ ending.Failed) (H.faults door) (H.faults door')
 
--- With the disk and the door: the first line could not be written, and nothing was served; or it was, the door
--- was served, and the run ends behind that.
+-- With the disk, whose journal was opened, and the door: the first line could not be written, and nothing was served;
+-- or it was, the door was served, and the run ends behind that.
 pub data Announces {Disk Door Link : Type 0} (G : DiskGhosts Disk) (H : DoorGhosts Door Link) (K : LinkGhosts Link) (options : ServeOptions)
     (disk disk' : Disk) (door door' : Door) (written written' : Option (List ℕ)) (code : ℕ) : Type 0 where
-  unannounced : SaysTheSame (G.store disk) (G.store disk') → door' ≡ door → code ≡ code_of status.NotWritten → AppendsFront written written' first_line
+  unannounced : OpensOnly G H K options disk disk' → door' ≡ door → code ≡ code_of status.NotWritten → AppendsFront written written' first_line
       → Announces G H K options disk disk' door door' written written' code
   served : (end : DoorEnd) → Serving G H K options disk disk' door door' end → (mid : Option (List ℕ)) → Appends written mid first_line → EndsBehind end mid written' code
       → Announces G H K options disk disk' door door' written written' code
 
--- With the disk, whose journal was opened: the world gave no door, or one. `left` are the doors that it has,
--- `count` is its count of faults, and `given` and `back` are the doors and the disk that are given back.
+-- With the disk, whose journal was opened: the world gave no door, or one. It was asked for it at the address of the
+-- options. `left` are the doors that it has, `count` is its count of faults, and `given` and `back` are the doors and
+-- the disk that are given back.
 pub data Listens {Disk Door Link : Type 0} (G : DiskGhosts Disk) (H : DoorGhosts Door Link) (K : LinkGhosts Link) (options : ServeOptions)
-    (disk : Disk) (left left' : Option (List Door)) (count count' : ℕ) (written written' : Option (List ℕ)) (code : ℕ) (given : List Door) (back : Option Disk) : Type 0 where
-  no_door : (disk' : Disk) → left' ≡ left → given ≡ [] → back ≡ Some disk' → SaysTheSame (G.store disk) (G.store disk') → (fault : WorldFault)
-      → GivesNoDoor fault count count' → EndsWithoutDoor fault written written' code → Listens G H K options disk left left' count count' written written' code given back
-  listens : (disk' : Disk) (door door' : Door) → HandsOut left left' (door ∷ []) → count' ≡ count → given ≡ door' ∷ [] → back ≡ Some disk'
-      → Announces G H K options disk disk' door door' written written' code → Listens G H K options disk left left' count count' written written' code given back
+    (disk : Disk) (asked asked' : List Asked) (left left' : Option (List Door)) (count count' : ℕ) (written written' : Option (List ℕ)) (code : ℕ) (given : List Door) (back : Option Disk) : Type 0 where
+  no_door : (disk' : Disk) → AsksAtMost asked asked' (asked_for.Doors options.listen 1) → left' ≡ left → given ≡ [] → back ≡ Some disk' → OpensOnly G H K options disk disk' → (fault : WorldFault)
+      → GivesNoDoor fault count count' → EndsWithoutDoor fault written written' code → Listens G H K options disk asked asked' left left' count count' written written' code given back
+  listens : (disk' : Disk) (door door' : Door) → asked' ≡ asked ++ asked_for.Doors options.listen 1 ∷ [] → HandsOut left left' (door ∷ []) → count' ≡ count → given ≡ door' ∷ [] → back ≡ Some disk'
+      → Announces G H K options disk disk' door door' written written' code → Listens G H K options disk asked asked' left left' count count' written written' code given back
 
--- What the command comes to: the world gave no disk; or the journal on it was not opened; or it was.
+-- What the command comes to: the world gave no disk; or the journal on it was not opened, nothing else was asked for,
+-- and nothing was written but where a call of the disk failed; or it was opened, and a door is asked for behind that. The disk is asked for by the path of the options.
 pub data Serves {Disk Door Link : Type 0} (G : DiskGhosts Disk) (H : DoorGhosts Door Link) (K : LinkGhosts Link) (options : ServeOptions)
-    (disks disks' : Option (List Disk)) (left left' : Option (List Door)) (count count' : ℕ) (written written' : Option (List ℕ)) (code : ℕ) (given : List Door) (back : Option Disk) : Type 0 where
-  no_disk : disks' ≡ disks → left' ≡ left → Rose count count' → given ≡ [] → back ≡ None → EndsBy status.NoDisk written written' code
-      → Serves G H K options disks disks' left left' count count' written written' code given back
-  not_opened : (disk disk' : Disk) → HandsOut disks disks' (disk ∷ []) → left' ≡ left → count' ≡ count → given ≡ [] → back ≡ Some disk' → SaysTheSame (G.store disk) (G.store disk')
-      → (fault : JournalFault) → HasCause (G.store disk) (G.faults disk) (G.faults disk') fault → EndsAt fault written written' code
-      → Serves G H K options disks disks' left left' count count' written written' code given back
-  opened : (disk : Disk) → HandsOut disks disks' (disk ∷ []) → Listens G H K options disk left left' count count' written written' code given back
-      → Serves G H K options disks disks' left left' count count' written written' code given back
+    (asked asked' : List Asked) (disks disks' : Option (List Disk)) (left left' : Option (List Door)) (count count' : ℕ) (written written' : Option (List ℕ)) (code : ℕ) (given : List Door) (back : Option Disk) : Type 0 where
+  no_disk : AsksAtMost asked asked' (asked_for.Disk options.journal) → disks' ≡ disks → left' ≡ left → Rose count count' → given ≡ [] → back ≡ None → EndsBy status.NoDisk written written' code
+      → Serves G H K options asked asked' disks disks' left left' count count' written written' code given back
+  not_opened : (disk disk' : Disk) → asked' ≡ asked ++ asked_for.Disk options.journal ∷ [] → HandsOut disks disks' (disk ∷ []) → left' ≡ left → count' ≡ count → given ≡ [] → back ≡ Some disk' → SaysTheSame (G.store disk) (G.store disk')
+      → (fault : JournalFault) → (fault ≢ journal.DiskFailed → IsUnwritten (G.store disk) (G.store disk')) → HasCause (G.store disk) (G.faults disk) (G.faults disk') fault → EndsAt fault written written' code
+      → Serves G H K options asked asked' disks disks' left left' count count' written written' code given back
+  opened : (disk : Disk) → HandsOut disks disks' (disk ∷ []) → Listens G H K options disk (asked ++ asked_for.Disk options.journal ∷ []) asked' left left' count count' written written' code given back
+      → Serves G H K options asked asked' disks disks' left left' count count' written written' code given back

@@ -1,4 +1,5 @@
 ghost use Rattle.std.specs.Prelude.{◌≡◌, [], MatchResult};
+ghost use Rattle.recovery.specs.Openings.{IsUnwritten};
 ghost use Rattle.rtb_base.specs.Faults.{RisesOnlyWhere};
 ghost use Rattle.rtb_io.specs.Statuses.{code_of};
 ghost use Rattle.rtb_io.specs.declared.status.Status.TheVariants.{Done, NotWritten};
@@ -29,7 +30,7 @@ pub fn recover<W: World, K: Sink>(
     world: &mut W,
     sink: &mut K,
 ) -> Outcome<W>
-    ensures recovers { Recovers ⟦<W::Disk as Disk>⟧ (W.disks_left world.old) (W.disks_left world.new) (W.faults world.old) (W.faults world.new) (K.written sink.old) (K.written sink.new) result.status result.disk }
+    ensures recovers { Recovers ⟦<W::Disk as Disk>⟧ options.now.journal (W.asked world.old) (W.asked world.new) (W.disks_left world.old) (W.disks_left world.new) (W.faults world.old) (W.faults world.new) (K.written sink.old) (K.written sink.new) result.status result.disk }
     ensures doors { result.doors ≡ [] }
     ensures others { W.doors_left world.new ≡ W.doors_left world.old }
     ensures cause { RisesOnlyWhere (result.status ≡ code_of NotWritten) (K.faults sink.old) (K.faults sink.new) }

@@ -1,5 +1,7 @@
-ghost use Rattle.std.specs.Prelude.{◌≡◌, ◌≢◌, [], ◌∷◌, Option, Some, List};
+ghost use Rattle.std.specs.Prelude.{◌≡◌, ◌≢◌, [], ◌∷◌, ◌++◌, Option, Some, List};
 ghost use Rattle.link_door.specs.Worlds.{HandsOut};
+ghost use Rattle.link_door.specs.declared.asked.Asked.{Asked};
+ghost use Rattle.link_door.specs.declared.asked.Asked.TheVariants as asked_for;
 ghost use Rattle.rtb_base.specs.Faults.{RisesOnlyWhere};
 ghost use Rattle.rtb_io.specs.Statuses.{code_of};
 ghost use Rattle.rtb_io.specs.declared.status.Status.TheVariants.{NotWritten};
@@ -31,7 +33,7 @@ pub fn serve<W: World, P: Pause, K: Sink>(
     pause: &P,
     sink: &mut K,
 ) -> Outcome<W>
-    ensures serves { Serves ⟦<W::Disk as Disk>⟧ ⟦<W::Door as Door>⟧ ⟦<<W::Door as Door>::Link as Link>⟧ options.now (W.disks_left world.old) (W.disks_left world.new) (W.doors_left world.old) (W.doors_left world.new) (W.faults world.old) (W.faults world.new) (K.written sink.old) (K.written sink.new) result.status result.doors result.disk }
+    ensures serves { Serves ⟦<W::Disk as Disk>⟧ ⟦<W::Door as Door>⟧ ⟦<<W::Door as Door>::Link as Link>⟧ options.now (W.asked world.old) (W.asked world.new) (W.disks_left world.old) (W.disks_left world.new) (W.doors_left world.old) (W.doors_left world.new) (W.faults world.old) (W.faults world.new) (K.written sink.old) (K.written sink.new) result.status result.doors result.disk }
     ensures cause { RisesOnlyWhere (result.status ≡ code_of NotWritten) (K.faults sink.old) (K.faults sink.new) }
 {
     match world.disk(&options.journal) {
@@ -49,7 +51,7 @@ fn serve_disk<W: World, P: Pause, K: Sink>(
     sink: &mut K,
     disk: W::Disk,
 ) -> Outcome<W>
-    ensures serves { (disks : Option (List W.Disk)) → HandsOut disks (W.disks_left world.old) (disk ∷ []) → Serves ⟦<W::Disk as Disk>⟧ ⟦<W::Door as Door>⟧ ⟦<<W::Door as Door>::Link as Link>⟧ options.now disks (W.disks_left world.new) (W.doors_left world.old) (W.doors_left world.new) (W.faults world.old) (W.faults world.new) (K.written sink.old) (K.written sink.new) result.status result.doors result.disk }
+    ensures serves { (disks : Option (List W.Disk)) (asked : List Asked) → HandsOut disks (W.disks_left world.old) (disk ∷ []) → W.asked world.old ≡ asked ++ asked_for.Disk options.now.journal ∷ [] → Serves ⟦<W::Disk as Disk>⟧ ⟦<W::Door as Door>⟧ ⟦<<W::Door as Door>::Link as Link>⟧ options.now asked (W.asked world.new) disks (W.disks_left world.new) (W.doors_left world.old) (W.doors_left world.new) (W.faults world.old) (W.faults world.new) (K.written sink.old) (K.written sink.new) result.status result.doors result.disk }
     ensures cause { RisesOnlyWhere (result.status ≡ code_of NotWritten) (K.faults sink.old) (K.faults sink.new) }
 {
     match Exchange::open(alloc, disk, options.ttl) {
@@ -67,7 +69,7 @@ fn serve_exchange<W: World, P: Pause, K: Sink>(
     sink: &mut K,
     exchange: Exchange<W::Disk>,
 ) -> Outcome<W>
-    ensures listens { (disk : W.Disk) → Opens ⟦<W::Disk as Disk>⟧ ⟦<W::Door as Door>⟧ ⟦<<W::Door as Door>::Link as Link>⟧ options.now disk exchange → Listens ⟦<W::Disk as Disk>⟧ ⟦<W::Door as Door>⟧ ⟦<<W::Door as Door>::Link as Link>⟧ options.now disk (W.doors_left world.old) (W.doors_left world.new) (W.faults world.old) (W.faults world.new) (K.written sink.old) (K.written sink.new) result.status result.doors result.disk }
+    ensures listens { (disk : W.Disk) → Opens ⟦<W::Disk as Disk>⟧ ⟦<W::Door as Door>⟧ ⟦<<W::Door as Door>::Link as Link>⟧ options.now disk exchange → Listens ⟦<W::Disk as Disk>⟧ ⟦<W::Door as Door>⟧ ⟦<<W::Door as Door>::Link as Link>⟧ options.now disk (W.asked world.old) (W.asked world.new) (W.doors_left world.old) (W.doors_left world.new) (W.faults world.old) (W.faults world.new) (K.written sink.old) (K.written sink.new) result.status result.doors result.disk }
     ensures disks { W.disks_left world.new ≡ W.disks_left world.old }
     ensures cause { RisesOnlyWhere (result.status ≡ code_of NotWritten) (K.faults sink.old) (K.faults sink.new) }
 {

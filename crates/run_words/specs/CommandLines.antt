@@ -1,5 +1,5 @@
 -- What words ask for, where the command is read by `clap`.
-use Rattle.std.specs.Prelude.{List, [], ◌∷◌, Option, None, Some, if◌then◌else◌, codes, option_map}
+use Rattle.std.specs.Prelude.{◌||◌, Bool, false, List, [], ◌∷◌, Option, None, Some, if◌then◌else◌, codes, option_map}
 use Rattle.std.specs.Str.{bytes_eq}
 use Rattle.clap.specs.Words.{Text}
 use Rattle.run_words.specs.Commands.{recover_options, serve_options}
@@ -18,6 +18,12 @@ asked t [] = None
 asked t (word ∷ []) = about t word
 asked t (word ∷ more ∷ words) = None
 
+-- one word alone that asks about the command before it
+abbrev pub is_question : List Text → Bool
+is_question [] = false
+is_question (word ∷ []) = bytes_eq word (codes "--help") || bytes_eq word (codes "--version")
+is_question (word ∷ more ∷ words) = false
+
 abbrev pub or_else : Option CommandLine → Option CommandLine → Option CommandLine
 or_else None other = other
 or_else (Some line) other = Some line
@@ -29,9 +35,10 @@ serve_line words rest = or_else (asked topic.Serve rest) (option_map Serve (serv
 abbrev pub recover_line : List Text → List Text → Option CommandLine
 recover_line words rest = or_else (asked topic.Recover rest) (option_map Recover (recover_options words))
 
--- what the words ask for, the first of which names the command
+-- what the words ask for, the first of which names the command; campaigns behind `try` are not read by `clap`
 abbrev pub command_line : List Text → Option CommandLine
 command_line [] = None
 command_line (name ∷ rest) =
     if bytes_eq name (codes "serve") then serve_line (name ∷ rest) rest
-    else (if bytes_eq name (codes "recover") then recover_line (name ∷ rest) rest else asked topic.Program (name ∷ rest))
+    else (if bytes_eq name (codes "recover") then recover_line (name ∷ rest) rest
+    else (if bytes_eq name (codes "try") then asked topic.Try rest else asked topic.Program (name ∷ rest)))

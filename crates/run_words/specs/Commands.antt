@@ -9,6 +9,7 @@ use Rattle.clap.specs.ValueTests.{accepts}
 use Rattle.clap.specs.Words.{App, Row, Rule, Text, fault_of, first_of, matches_of, new_app, new_rule, with_rule}
 use Rattle.clap.specs.declared.builder.value_parser.ValueParser.{ValueParser}
 use Rattle.clap.specs.declared.builder.value_parser.ValueParser.TheVariants as parser
+use Rattle.run_words.specs.Addresses.{has_port_0}
 use Rattle.run_words.specs.declared.serve.ServeOptions.{ServeOptions}
 use Rattle.run_words.specs.declared.recover.RecoverOptions.{RecoverOptions}
 
@@ -47,8 +48,9 @@ number_parser = parser.Unsigned 0 (2 ^ 64 - 1)
 abbrev pub number_in : Text → Option ℕ
 number_in text = if accepts false number_parser text then Some (digits_value 10 (without_leading_plus text)) else None
 
+-- port 0 is none to listen at: nobody is told where the system then listens
 abbrev pub serve_of : List Row → Option ServeOptions
-serve_of rows = option_map (λ ttl. record {
+serve_of rows = if has_port_0 (text_of (codes "listen") rows) then None else option_map (λ ttl. record {
   listen = text_of (codes "listen") rows;
   journal = text_of (codes "journal") rows;
   public = text_of (codes "public") rows;

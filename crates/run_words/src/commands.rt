@@ -1,5 +1,6 @@
-ghost use Rattle.std.specs.Prelude.{◌≡◌, MatchResult, None, Some};
-ghost use Rattle.run_words.specs.CommandLines.{about, asked, command_line, recover_line, serve_line};
+ghost use Rattle.std.specs.Prelude.{◌≡◌, ◌||◌, MatchResult, None, Some, codes};
+ghost use Rattle.std.specs.Str.{bytes_eq};
+ghost use Rattle.run_words.specs.CommandLines.{about, asked, command_line, is_question, recover_line, serve_line};
 ghost use Rattle.run_words.specs.declared.fault.WordsFault.TheVariants.{Usage};
 
 use crate::fault::WordsFault;
@@ -17,6 +18,8 @@ pub enum Topic {
     Serve,
     /// The command `recover`.
     Recover,
+    /// The command `try`.
+    Try,
 }
 
 /// What words ask for, where they are of no command that is read by hand.
@@ -45,15 +48,19 @@ pub fn command_line(alloc: Global, words: &[Txt]) -> Result<CommandLine, WordsFa
             if name.as_bytes() == b"recover".as_slice() {
                 return recover_line(alloc, words, rest);
             }
-            program_line(words)
+            if name.as_bytes() == b"try".as_slice() {
+                return question(Topic::Try, rest);
+            }
+            question(Topic::Program, words)
         }
     }
 }
 
-fn program_line(words: &[Txt]) -> Result<CommandLine, WordsFault>
-    ensures { MatchResult result (λ line. asked Topic.Program words.now ≡ Some line) (λ e. e ≡ Usage → asked Topic.Program words.now ≡ None) }
+// What the words ask about the topic, where they ask for nothing else.
+fn question(topic: Topic, words: &[Txt]) -> Result<CommandLine, WordsFault>
+    ensures { MatchResult result (λ line. asked topic words.now ≡ Some line) (λ e. e ≡ Usage → asked topic words.now ≡ None) }
 {
-    match asked(Topic::Program, words) {
+    match asked(topic, words) {
         Some(line) => Ok(line),
         None => Err(WordsFault::Usage),
     }
@@ -81,6 +88,22 @@ fn recover_line(alloc: Global, words: &[Txt], rest: &[Txt]) -> Result<CommandLin
             Err(fault) => Err(fault),
         },
     }
+}
+
+/// Whether the words behind a command's name ask about it: a lone `--help` or `--version`.
+pub fn is_question(words: &[Txt]) -> bool
+    ensures { result ≡ is_question words.now }
+{
+    match words {
+        [word] => is_about(word.as_bytes()),
+        _ => false,
+    }
+}
+
+fn is_about(word: &[u8]) -> bool
+    ensures { result ≡ bytes_eq word.now (codes "--help") || bytes_eq word.now (codes "--version") }
+{
+    word == b"--help".as_slice() || word == b"--version".as_slice()
 }
 
 // What a lone word asks about the topic.

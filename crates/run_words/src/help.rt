@@ -1,10 +1,11 @@
 //! Texts for a person, of which no contract speaks.
+use crate::address::has_port_0;
 use crate::commands::Topic;
 use crate::fault::WordsFault;
 use crate::recover::recover_command;
 use crate::serve::serve_command;
 use crate::texts::texts;
-use clap::{Command, Error};
+use clap::{Arg, ArgMatches, Command, Error};
 use rtb_num::Txt;
 use std::alloc::{AllocError, Global};
 
@@ -59,6 +60,13 @@ const SERVE_END: &str = "\
 Example:
   rtbx serve --listen 127.0.0.1:8080 --journal exchange.journal --public http://ads.example --ttl 300000";
 
+const CAMPAIGN_HELP: &str =
+    "BID or BID@DOMAIN: US dollars per thousand impressions, of every site or of this domain alone";
+
+const TRY_END: &str = "\
+Example:
+  rtbx try 2.50@news.example 1.00 < request.json";
+
 const RECOVER_END: &str = "\
 Example:
   rtbx recover --journal exchange.journal";
@@ -74,6 +82,7 @@ fn told_command<'a>(alloc: Global, topic: Topic) -> Result<Command<'a>, AllocErr
             RECOVER_ABOUT,
             RECOVER_END,
         ),
+        Topic::Try => told(try_command(alloc), "rtbx try", TRY_ABOUT, TRY_END),
     }
 }
 
@@ -118,12 +127,22 @@ fn commands<'a>(alloc: Global) -> Result<Vec<Command<'a>>, AllocError> {
     Ok(vec![in alloc; try_command, serve, recover]?)
 }
 
+// For its help alone: its words are read by hand.
+fn try_command<'a>(alloc: Global) -> Result<Command<'a>, AllocError> {
+    let campaign = Arg::new(alloc, "CAMPAIGN")
+        .num_args(0..=64)
+        .help(CAMPAIGN_HELP);
+    let campaigns = vec![in alloc; campaign]?;
+    Command::new(alloc, "try").args(campaigns)
+}
+
 fn named<'a>(alloc: Global, name: &'a str, about: &'a str) -> Command<'a> {
     Command::new(alloc, name).about(about)
 }
 
-/// What `clap` says of words that it refuses, the first of which is the command's name, as one line without
-/// its line feed. It is empty where the words are of no command with options, or not refused.
+/// What `clap` says of words that it refuses, the first of which is the command's name, or what is wrong with the
+/// port, as one line without its line feed. It is empty where the words are of no command with options, or not
+/// refused.
 pub fn refusal_line(alloc: Global, words: &[Txt]) -> Result<Txt, AllocError> {
     match texts(alloc, words) {
         Ok(texts) => refusal_of(alloc, texts.as_slice()),
@@ -148,12 +167,23 @@ fn refusal_by<'a>(
     match command {
         Ok(command) => match command.try_get_matches_from(words) {
             Ok(matches) => {
+                let refusal = port_refusal(alloc, &matches);
                 drop(matches);
-                Ok(Txt::new(alloc))
+                refusal
             }
             Err(error) => told_refusal(alloc, error),
         },
         Err(error) => Err(error),
+    }
+}
+
+// What is wrong with the port, where there is one.
+fn port_refusal(alloc: Global, matches: &ArgMatches<'_>) -> Result<Txt, AllocError> {
+    match matches.get_str("listen") {
+        Some(address) if has_port_0(address.as_bytes()) => {
+            Txt::from_slice(alloc, b"the port of --listen has to be from 1 to 65535")
+        }
+        _ => Ok(Txt::new(alloc)),
     }
 }
 

@@ -1,6 +1,7 @@
 //! Which command the words of `rtbx` are of, where it is one with options, and what a person is told of it.
 #![tactic(auto)]
 
+mod address;
 mod commands;
 mod fault;
 mod help;
@@ -10,7 +11,7 @@ mod recover;
 mod serve;
 mod texts;
 
-pub use commands::{CommandLine, Topic, command_line};
+pub use commands::{CommandLine, Topic, command_line, is_question};
 pub use fault::WordsFault;
 pub use help::{help_text, refusal_line, version_text};
 pub use recover::{RecoverOptions, recover_options};

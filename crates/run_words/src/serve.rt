@@ -3,6 +3,7 @@ ghost use Rattle.clap.specs.Words.{app_of, found_of, rows_of, rule_of};
 ghost use Rattle.run_words.specs.Commands.{given_by, number_between, serve_app, serve_of, serve_options};
 ghost use Rattle.run_words.specs.declared.fault.WordsFault.TheVariants.{Usage};
 
+use crate::address::has_port_0;
 use crate::fault::WordsFault;
 use crate::matched::{match_words, number, option_text};
 use crate::options::{number_option, text_option};
@@ -14,7 +15,7 @@ use std::alloc::{AllocError, Global};
 /// The options of `serve`.
 #[derive(Drop)]
 pub struct ServeOptions {
-    /// The address of the door, as `127.0.0.1:8080`.
+    /// The address of the door, as `127.0.0.1:8080`, with a port other than 0.
     pub listen: Txt,
     /// The path of the journal.
     pub journal: Txt,
@@ -50,6 +51,9 @@ fn options(alloc: Global, matches: &ArgMatches<'_>) -> Result<ServeOptions, Word
     ensures { MatchResult result (λ o. serve_of (rows_of (found_of matches.now)) ≡ Some o) (λ e. e ≡ Usage → serve_of (rows_of (found_of matches.now)) ≡ None) }
 {
     let listen = option_text(alloc, matches, "listen")?;
+    if has_port_0(listen.as_bytes()) {
+        return Err(WordsFault::Usage);
+    }
     let journal = option_text(alloc, matches, "journal")?;
     let public = option_text(alloc, matches, "public")?;
     match number(matches, "ttl") {
@@ -63,7 +67,7 @@ fn options(alloc: Global, matches: &ArgMatches<'_>) -> Result<ServeOptions, Word
     }
 }
 
-const LISTEN_HELP: &str = "The host and the port to listen at, as 127.0.0.1:8080";
+const LISTEN_HELP: &str = "The host and the port to listen at, from 1 to 65535, as 127.0.0.1:8080";
 
 const JOURNAL_HELP: &str =
     "The file that keeps the exchange, as exchange.journal; it is made where there is none";

@@ -1,5 +1,5 @@
 -- How a conversation goes on, and how it ends.
-use Rattle.std.proofs.Common.{◌≡◌, ℕ, ◌+◌, ◌*◌, ◌-◌, ◌<◌, ◌≤◌, ◌==◌, ◌||◌, inl, inr, not, Bool, true, false, List, [], ◌∷◌, ◌++◌, length, drop, Option, Some, None, refl, sym, ap, subst, ◌∙◌, append_assoc, length-append, arith}
+use Rattle.std.proofs.Common.{◌≡◌, ℕ, ◌+◌, ◌*◌, ◌-◌, ◌<◌, ◌≤◌, ◌==◌, ◌||◌, inl, inr, not, Bool, true, false, List, [], ◌∷◌, ◌++◌, length, drop, Option, Some, None, refl, sym, ap, subst, ◌∙◌, length-append, arith}
 use Rattle.std.specs.List.{list_any}
 use Rattle.std.specs.Io.KnownBytes.{Appends, Consumes}
 use Rattle.std.proofs.KnownBytes.{Appends-trans, Consumes-trans}
@@ -17,9 +17,9 @@ use Rattle.session.specs.declared.link_end.LinkEnd.{LinkEnd}
 use Rattle.session.specs.declared.link_end.LinkEnd.TheVariants as link
 use Rattle.session.specs.declared.service.Given.{Given}
 use Rattle.session.specs.declared.receive.Received.TheVariants as received
-use Rattle.session.specs.Receives.{Costs, Grows, IsReceived, IsEnd, IsMemoryEnd, IsTail, IsTurn, Talking, TurnEnds}
+use Rattle.session.specs.Receives.{Costs, Grows, IsReceived, IsEnd, IsMemoryEnd, IsTail, IsTurn, SendsTail, Talking, TurnEnds}
 use Rattle.session.specs.Streams.{is_last, most_messages}
-use Rattle.session.specs.Talk.{EndsSo, GoesOn, IsOver, IsServed, Sends, Talks, Turn, bodies, memory_closes, refusal_text, texts}
+use Rattle.session.specs.Talk.{EndsSo, GoesOn, IsOver, IsServed, Sends, Talks, Turn, in_tail, in_turn, bodies, memory_closes, refusal_text, texts}
 use Rattle.session.proofs.Ends.{stream_of}
 use Rattle.session.proofs.Talks.{bodies_more, goes_more, talks_more, talks_on, texts_more}
 
@@ -54,22 +54,14 @@ appends_none : (a : Option (List ℕ)) → Appends a a []
 appends_none None = tt
 appends_none (Some x) = sym (append-nil x)
 
-front_more : (a b c : Option (List ℕ)) (x y : List ℕ) → Appends a b x → AppendsFront b c y → AppendsFront a c (x ++ y)
-front_more a b c x y p q = record {
-  front = x ++ q.front;
-  rest = q.rest;
-  parts = ap (λ k. x ++ k) q.parts ∙ sym (append_assoc x q.front q.rest);
-  went = Appends-trans _ _ _ _ _ p q.went;
-}
-
-sends_more : (a b c : Option (List ℕ)) (x y : List ℕ) (end : LinkEnd) → Appends a b x → Sends b c y end → Sends a c (x ++ y) end
-sends_more a b c x y link.Done p q = Appends-trans _ _ _ _ _ p q
-sends_more a b c x y (link.Cut over) p q = Appends-trans _ _ _ _ _ p q
-sends_more a b c x y (link.Refused s) p q = Appends-trans _ _ _ _ _ p q
-sends_more a b c x y link.Asked p q = Appends-trans _ _ _ _ _ p q
-sends_more a b c x y link.Spent p q = Appends-trans _ _ _ _ _ p q
-sends_more a b c x y link.NoMemory p q = Appends-trans _ _ _ _ _ p q
-sends_more a b c x y link.LinkFailed p q = front_more a b c x y p q
+sends_more : (a b c : Option (List ℕ)) (turns : List Turn) (tail : List ℕ) (end : LinkEnd) → Appends a b (texts turns) → SendsTail b c tail end → Sends a c turns tail end
+sends_more a b c turns tail link.Done p q = Appends-trans _ _ _ _ _ p q
+sends_more a b c turns tail (link.Cut over) p q = Appends-trans _ _ _ _ _ p q
+sends_more a b c turns tail (link.Refused s) p q = Appends-trans _ _ _ _ _ p q
+sends_more a b c turns tail link.Asked p q = Appends-trans _ _ _ _ _ p q
+sends_more a b c turns tail link.Spent p q = Appends-trans _ _ _ _ _ p q
+sends_more a b c turns tail link.NoMemory p q = Appends-trans _ _ _ _ _ p q
+sends_more a b c turns tail link.LinkFailed p q = in_tail b p q
 
 consumes_none : (a : Option (List ℕ)) → Consumes a a []
 consumes_none None = tt
@@ -78,7 +70,7 @@ consumes_none (Some x) = refl
 front_none : (a : Option (List ℕ)) → AppendsFront a a []
 front_none a = record { front = []; rest = []; parts = refl; went = appends_none a }
 
-sends_none : (a : Option (List ℕ)) (end : LinkEnd) → Sends a a [] end
+sends_none : (a : Option (List ℕ)) (end : LinkEnd) → SendsTail a a [] end
 sends_none a link.Done = appends_none a
 sends_none a (link.Cut over) = appends_none a
 sends_none a (link.Refused s) = appends_none a
@@ -158,7 +150,7 @@ module _ {S : Type 0} (Answers : S → Message → Given → S → Type 0) where
 
   -- the end of a conversation behind whole messages
   pub finish : (before after : S) (left left' sent mid sent' : Option (List ℕ)) (all : List ℕ) (number steps more : ℕ) (tail : List ℕ) (end : LinkEnd)
-      → Talking Answers before after left left' sent mid all number steps → Costs more all → ((turns : List Turn) → GoesOn 0 turns → EndsSo left' turns all tail end) → Sends mid sent' tail end
+      → Talking Answers before after left left' sent mid all number steps → Costs more all → ((turns : List Turn) → GoesOn 0 turns → EndsSo left' turns all tail end) → SendsTail mid sent' tail end
       → IsServed Answers before after left left' sent sent' (steps + more) end
   finish before after left left' sent mid sent' all number steps more tail end t costs so sends = record {
     came = t.came;
@@ -167,7 +159,7 @@ module _ {S : Type 0} (Answers : S → Message → Given → S → Type 0) where
     tail = tail;
     received = t.received;
     talks = λ behind. talks_on Answers 0 before t.came behind t.turns after all t.talks;
-    went = sends_more sent mid sent' (texts t.turns) tail end t.went sends;
+    went = sends_more sent mid sent' t.turns tail end t.went sends;
     ends_so = so t.turns t.goes;
     stream = stream_of Answers before after left left' t.came t.turns all tail end t.received t.talks (so t.turns t.goes);
     cost = λ h n out e. omega (arith, t.cost, costs n out, e, t.count);
@@ -213,19 +205,17 @@ module _ {S : Type 0} (Answers : S → Message → Given → S → Type 0) where
         cost = omega (arith, turn_cost before mid left left' sent sent1 all number steps more used this t decides one, ap length is);
       }
 
-  turn_sends : (a b c : Option (List ℕ)) (turns : List Turn) (turn : Turn) (n : ℕ) (end : LinkEnd) → Appends a b (texts turns) → TurnEnds turn.message n b c turn.text (Some end) → Sends a c (texts (turns ++ turn ∷ []) ++ []) end
-  turn_sends a b c turns turn n end p q =
-      let whole : texts (turns ++ turn ∷ []) ++ [] ≡ texts turns ++ turn.text = append-nil (texts (turns ++ turn ∷ [])) ∙ texts_more turns turn in
-      subst (λ k. Sends a c k end) (sym whole) (by_end end q)
-    where
-      by_end : (end : LinkEnd) → TurnEnds turn.message n b c turn.text (Some end) → Sends a c (texts turns ++ turn.text) end
-      by_end link.Done q = absurd q
-      by_end (link.Cut held) q = absurd q
-      by_end (link.Refused s) q = absurd q
-      by_end link.Asked q = Appends-trans _ _ _ _ _ p q.1
-      by_end link.Spent q = Appends-trans _ _ _ _ _ p q.2
-      by_end link.NoMemory q = absurd q
-      by_end link.LinkFailed q = front_more a b c (texts turns) turn.text p q
+  all_sent : (a b c : Option (List ℕ)) (turns : List Turn) (turn : Turn) → Appends a b (texts turns) → Appends b c turn.text → Appends a c (texts (turns ++ turn ∷ []) ++ [])
+  all_sent a b c turns turn p q = subst (λ k. Appends a c k) (sym (append-nil (texts (turns ++ turn ∷ [])) ∙ texts_more turns turn)) (Appends-trans _ _ _ _ _ p q)
+
+  turn_sends : (a b c : Option (List ℕ)) (turns : List Turn) (turn : Turn) (n : ℕ) (end : LinkEnd) → Appends a b (texts turns) → TurnEnds turn.message n b c turn.text (Some end) → Sends a c (turns ++ turn ∷ []) [] end
+  turn_sends a b c turns turn n link.Done p q = absurd q
+  turn_sends a b c turns turn n (link.Cut held) p q = absurd q
+  turn_sends a b c turns turn n (link.Refused s) p q = absurd q
+  turn_sends a b c turns turn n link.Asked p q = all_sent a b c turns turn p q.1
+  turn_sends a b c turns turn n link.Spent p q = all_sent a b c turns turn p q.2
+  turn_sends a b c turns turn n link.NoMemory p q = absurd q
+  turn_sends a b c turns turn n link.LinkFailed p q = in_turn turns turn b refl refl p q
 
   turn_so : (left b c : Option (List ℕ)) (turns : List Turn) (turn : Turn) (rest : List ℕ) (n : ℕ) (end : LinkEnd) → GoesOn 0 turns → n ≡ length turns + 1 → TurnEnds turn.message n b c turn.text (Some end) → EndsSo left (turns ++ turn ∷ []) rest [] end
   turn_so left b c turns turn rest n link.Done goes e q = absurd q
@@ -282,7 +272,7 @@ module _ {S : Type 0} (Answers : S → Message → Given → S → Type 0) where
 
   pub refuses : (before mid : S) (left l1 l2 l3 sent s1 s2 s3 : Option (List ℕ)) (held now : List ℕ) (number a b c status : ℕ) (word tail : List ℕ) (end : LinkEnd)
       → Talking Answers before mid left l1 sent s1 held number (b - a) → IsReceived l1 l2 held now (c - b) (received.Refused status word) → s2 ≡ s1
-      → IsTail status word tail end → Sends s2 s3 tail end → l3 ≡ l2 → a ≤ b → b ≤ c → IsServed Answers before mid left l3 sent s3 (c - a) end
+      → IsTail status word tail end → SendsTail s2 s3 tail end → l3 ≡ l2 → a ≤ b → b ≤ c → IsServed Answers before mid left l3 sent s3 (c - a) end
   refuses before mid left l1 l2 l3 sent s1 s2 s3 held now number a b c status word tail end t r e is sends le h k =
       let (decides, same, costs) = r.given in
       let here = arrive before mid left l1 l2 sent s1 s2 held r.all number (b - a) t r.grows e in
@@ -310,7 +300,7 @@ module _ {S : Type 0} (Answers : S → Message → Given → S → Type 0) where
 
   pub starves : (before mid : S) (left l1 l2 l3 sent s1 s2 s3 : Option (List ℕ)) (held now : List ℕ) (number a b c : ℕ) (end : LinkEnd)
       → Talking Answers before mid left l1 sent s1 held number (b - a) → IsReceived l1 l2 held now (c - b) received.Memory → s2 ≡ s1
-      → IsMemoryEnd end → Sends s2 s3 memory_closes end → l3 ≡ l2 → a ≤ b → b ≤ c → IsServed Answers before mid left l3 sent s3 (c - a) end
+      → IsMemoryEnd end → SendsTail s2 s3 memory_closes end → l3 ≡ l2 → a ≤ b → b ≤ c → IsServed Answers before mid left l3 sent s3 (c - a) end
   starves before mid left l1 l2 l3 sent s1 s2 s3 held now number a b c end t r e is sends le h k =
       let (same, costs) = r.given in
       let here = arrive before mid left l1 l2 sent s1 s2 held r.all number (b - a) t r.grows e in

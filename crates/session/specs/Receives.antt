@@ -60,6 +60,16 @@ IsTail status word tail (link.Cut over) = ⊥
 IsTail status word tail link.Asked = ⊥
 IsTail status word tail link.Spent = ⊥
 
+-- all of the text was sent, or a front of it where the link failed
+abbrev pub SendsTail : Option (List ℕ) → Option (List ℕ) → List ℕ → LinkEnd → Type 0
+SendsTail old new tail link.LinkFailed = AppendsFront old new tail
+SendsTail old new tail link.Done = Appends old new tail
+SendsTail old new tail (link.Cut over) = Appends old new tail
+SendsTail old new tail (link.Refused status) = Appends old new tail
+SendsTail old new tail link.Asked = Appends old new tail
+SendsTail old new tail link.Spent = Appends old new tail
+SendsTail old new tail link.NoMemory = Appends old new tail
+
 abbrev pub IsMemoryEnd : LinkEnd → Type 0
 IsMemoryEnd end = (end ≡ link.NoMemory) ⊎ (end ≡ link.LinkFailed)
 

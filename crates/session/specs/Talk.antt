@@ -82,15 +82,21 @@ EndsSo left turns rest tail link.NoMemory = GoesOn 0 turns × ((tail ≡ []) ⊎
 EndsSo left turns rest tail link.LinkFailed = (GoesOn 0 turns ⊎ ((last : Turn) × EndsWith turns last))
     × ((tail ≡ []) ⊎ ((tail ≡ memory_closes) ⊎ ((status : ℕ) × (word : List ℕ) × Decides rest (Refused status word) × (tail ≡ refusal_text status word))))
 
--- All of the text was sent, or a front of it where the link failed.
-abbrev pub Sends : Option (List ℕ) → Option (List ℕ) → List ℕ → LinkEnd → Type 0
-Sends old new text link.LinkFailed = AppendsFront old new text
-Sends old new text link.Done = Appends old new text
-Sends old new text (link.Cut over) = Appends old new text
-Sends old new text (link.Refused status) = Appends old new text
-Sends old new text link.Asked = Appends old new text
-Sends old new text link.Spent = Appends old new text
-Sends old new text link.NoMemory = Appends old new text
+-- The texts of these turns and the tail, where the link failed: all were sent whole but for the last one that it was
+-- sent, of which a front went. That is the tail, or the text of the last turn where nothing comes behind it.
+pub data BreaksOff (old new : Option (List ℕ)) (turns : List Turn) (tail : List ℕ) : Type 0 where
+  in_tail : (mid : Option (List ℕ)) → Appends old mid (texts turns) → AppendsFront mid new tail → BreaksOff old new turns tail
+  in_turn : (front : List Turn) (last : Turn) (mid : Option (List ℕ)) → turns ≡ front ++ last ∷ [] → tail ≡ [] → Appends old mid (texts front) → AppendsFront mid new last.text → BreaksOff old new turns tail
+
+-- The texts of the turns and the tail were sent, or the link failed.
+abbrev pub Sends : Option (List ℕ) → Option (List ℕ) → List Turn → List ℕ → LinkEnd → Type 0
+Sends old new turns tail link.LinkFailed = BreaksOff old new turns tail
+Sends old new turns tail link.Done = Appends old new (texts turns ++ tail)
+Sends old new turns tail (link.Cut over) = Appends old new (texts turns ++ tail)
+Sends old new turns tail (link.Refused status) = Appends old new (texts turns ++ tail)
+Sends old new turns tail link.Asked = Appends old new (texts turns ++ tail)
+Sends old new turns tail link.Spent = Appends old new (texts turns ++ tail)
+Sends old new turns tail link.NoMemory = Appends old new (texts turns ++ tail)
 
 -- What came begins with the messages of the turns, whatever follows; they led the service, and what was sent is
 -- their texts and a tail. Where the link tells its bytes, and they alone decided the end, the messages and the end
@@ -102,7 +108,7 @@ pub record IsServed {S : Type 0} (Answers : S → Message → Given → S → Ty
   pub tail : List ℕ
   pub received : Consumes left left' came
   pub talks : (more : List ℕ) → Talks Answers 0 before (came ++ more) turns after (rest ++ more)
-  pub went : Sends sent sent' (texts turns ++ tail) end
+  pub went : Sends sent sent' turns tail end
   pub ends_so : EndsSo left' turns rest tail end
   pub stream : (all : List ℕ) → left ≡ Some all → IsOfBytes end → HasMessages 0 all (messages turns) end
   pub cost : (h n : ℕ) → IsOutside rest n → h + bodies turns + length rest ≡ length came + n → steps ≤ h + 2 * length turns + 2

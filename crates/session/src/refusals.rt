@@ -2,8 +2,8 @@
 ghost use Rattle.std.specs.Prelude.{◌≡◌, ◌++◌, ℕ, List, IfOk, OnOk};
 ghost use Rattle.http_wire.specs.Answers.{IsWritable, error_answer, error_body};
 ghost use Rattle.rtb_base.specs.Faults.{RisesOnlyWhere, RoseAtMost};
-ghost use Rattle.session.specs.Receives.{IsMemoryEnd, IsTail};
-ghost use Rattle.session.specs.Talk.{Sends, memory_closes, refusal_text};
+ghost use Rattle.session.specs.Receives.{IsMemoryEnd, IsTail, SendsTail};
+ghost use Rattle.session.specs.Talk.{memory_closes, refusal_text};
 
 use crate::link_end::LinkEnd;
 use crate::send::send_all;
@@ -21,7 +21,7 @@ pub(crate) fn refuse<L: Link>(
     link: &mut L,
 ) -> LinkEnd
     requires { IsWritable (error_answer status word.now) }
-    ensures sent { (tail : List ℕ) × IsTail status word.now tail result × Sends (L.sent link.old) (L.sent link.new) tail result }
+    ensures sent { (tail : List ℕ) × IsTail status word.now tail result × SendsTail (L.sent link.old) (L.sent link.new) tail result }
     ensures left { L.left link.new ≡ L.left link.old }
     ensures cause { RisesOnlyWhere (result ≡ LinkEnd.LinkFailed) (L.faults link.old) (L.faults link.new) }
     ensures once { RoseAtMost 1 (L.faults link.old) (L.faults link.new) }
@@ -64,7 +64,7 @@ fn error_body(alloc: Global, word: &[u8]) -> Result<Txt, AllocError>
 /// Tells that memory was refused, and ends the link.
 pub(crate) fn out_of_memory<L: Link>(link: &mut L) -> LinkEnd
     ensures end { IsMemoryEnd result }
-    ensures sent { Sends (L.sent link.old) (L.sent link.new) memory_closes result }
+    ensures sent { SendsTail (L.sent link.old) (L.sent link.new) memory_closes result }
     ensures left { L.left link.new ≡ L.left link.old }
     ensures cause { RisesOnlyWhere (result ≡ LinkEnd.LinkFailed) (L.faults link.old) (L.faults link.new) }
     ensures once { RoseAtMost 1 (L.faults link.old) (L.faults link.new) }

@@ -1,4 +1,4 @@
-use Rattle.std.proofs.Common.{◌≡◌, ◌+◌, ◌-◌, ◌++◌, ◌∷◌, [], length, get_or, set, sym, ◌∙◌, ap, subst, arith}
+use Rattle.std.proofs.Common.{heap_items, ◌≡◌, ◌+◌, ◌-◌, ◌++◌, ◌∷◌, [], length, get_or, set, sym, ◌∙◌, ap, subst, arith}
 use Rattle.std.specs.Prelude.{option_map}
 use Rattle.budget_book.specs.Accounts.{with_sale}
 use Rattle.budget_book.specs.Book.{IsBook, funds_of}
@@ -36,10 +36,10 @@ returns-clause-book c =
     let price = c.get.ensures.value in
     let is = c.add.ensures ∙ ap (λ p. with_sale c.args.row.state p (get_or c.args.accounts.now k e)) price in
     let awaited = c.await_sale.ensures.dues c.args.forgotten c.args.rows.now.items n c.requires.book.awaited in
-    let book = book_added c.args.forgotten c.args.accounts.now c.add.new.self e c.args.rows.now.items c.args.row c.args.links.now.items c.args.dues.now.items c.await_sale.new.dues.items c.args.lasts.now c.link-before.new.lasts c.link-before.result k
+    let book = book_added c.args.forgotten c.args.accounts.now c.add.new.self e c.args.rows.now.items c.args.row c.args.links.now.items (heap_items c.args.dues.now) (heap_items c.await_sale.new.dues) c.args.lasts.now c.link-before.new.lasts c.link-before.result k
     c.requires.book c.requires.few (omega (arith, there)) (omega (arith, there)) (c.requires.free e) is awaited linked in
-    subst (λ rs. IsBook c.args.forgotten (set c.args.accounts.now k c.add.new.self) rs c.push_reserved.new.self.items c.await_sale.new.dues.items c.link-before.new.lasts) (sym c.push_reserved-2.ensures.items)
-    (subst (λ ls. IsBook c.args.forgotten (set c.args.accounts.now k c.add.new.self) (c.args.rows.now.items ++ c.args.row ∷ []) ls c.await_sale.new.dues.items c.link-before.new.lasts) (sym c.push_reserved.ensures.items) book)
+    subst (λ rs. IsBook c.args.forgotten (set c.args.accounts.now k c.add.new.self) rs c.push_reserved.new.self.items (heap_items c.await_sale.new.dues) c.link-before.new.lasts) (sym c.push_reserved-2.ensures.items)
+    (subst (λ ls. IsBook c.args.forgotten (set c.args.accounts.now k c.add.new.self) (c.args.rows.now.items ++ c.args.row ∷ []) ls (heap_items c.await_sale.new.dues) c.link-before.new.lasts) (sym c.push_reserved.ensures.items) book)
 
 pub returns-clause-campaigns : goal.returns-clause-campaigns
 returns-clause-campaigns c =

@@ -1,17 +1,22 @@
-use Rattle.std.proofs.Common.{◌≤◌, ◌<◌, ◌++◌, ◌∷◌, [], ℕ, List, length, get_or, sym, ◌∙◌, subst, refl}
-use Rattle.budget_book.specs.declared.dues.Due.{Due}
-use Rattle.budget_book.specs.Dues.{AreDues}
+use Rattle.std.proofs.Common.{heap_items, ◌≡◌, ◌∙◌, false, refl, sym}
+use Rattle.std.specs.Prelude.{OnOk}
+use Rattle.std.specs.Result.{is_err}
+use Rattle.std.proofs.lemmas.Bool.{true≢false}
+use Rattle.std.specs.declared.result.Result.{Result}
+use Rattle.std.specs.declared.result.Result.TheVariants.{Ok, Err}
 use Rattle.budget_book.proofs.Waiting.{dues_added, dues_unheld}
 use Rattle.budget_book.proofs.dues.await_sale.Goals as goal
 
 pub returns-then-not-is_held-clause-dues : goal.returns-then-not-is_held-clause-dues
-returns-then-not-is_held-clause-dues c = λ f rows number h. dues_unheld f rows c.args.dues.now.items c.args.row.now (sym c.is_held.ensures ∙ c.if-not-is_held.true) h
+returns-then-not-is_held-clause-dues c = λ f rows number h. dues_unheld f rows (heap_items c.args.dues.now) c.args.row.now (sym c.is_held.ensures ∙ c.if-not-is_held.true) h
+
+on_ok : {A E : Type 0} (P : Type 0) (r : Result A E) → OnOk r P → is_err r ≡ false → P
+on_ok P (Ok x) h e = h
+on_ok P (Err x) h e = absurd (true≢false e)
 
 pub returns-clause-dues : goal.returns-clause-dues
 returns-clause-dues c = λ f rows number h.
-    let row = c.args.row.now in
-    let e : Due = record { due = row.due; number = c.args.number } in
-    let (place, inside, items) = c.insert_due.ensures.items in
-    let rising = subst (λ (ds : List Due). (i j : ℕ) (d : Due) → i ≤ j → j < length ds → (get_or ds i d).due ≤ (get_or ds j d).due) items c.insert_due.ensures.rising in
-    subst (λ ds. AreDues f (rows ++ row ∷ []) ds) (sym items)
-    (dues_added f rows c.args.dues.now.items row e place number refl (sym c.is_held.ensures ∙ c.if-not-is_held.false) inside rising h)
+    let done = sym c.is_err.ensures.value ∙ c.if-is_err.false in
+    let moved = on_ok _ c.push.result c.push.ensures.permutation done in
+    let ordered = on_ok _ c.push.result c.push.ensures.heap_order done h.ordered in
+    dues_added f rows (heap_items c.args.dues.now) (heap_items c.push.new.self) c.args.row.now _ number refl (sym c.is_held.ensures ∙ c.if-not-is_held.false) moved ordered h

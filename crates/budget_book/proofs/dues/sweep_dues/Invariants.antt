@@ -1,4 +1,5 @@
-use Rattle.std.proofs.Common.{◌≡◌, ◌≤◌, length}
+use Rattle.std.proofs.Common.{heap_items, heap_len, ◌≡◌, ◌≤◌, length}
+use Rattle.std.specs.BinaryHeap.{heap_capacity}
 use Rattle.budget_book.specs.Accounts.{AreAccounts}
 use Rattle.budget_book.specs.Book.{funds_of_all}
 use Rattle.budget_book.specs.Dues.{AreDues}
@@ -10,10 +11,10 @@ invariant-loop-entry l = record {
   expiry : IsExpiry l.moment l.fn.rows l.rows l.count;
   summed : AreAccounts l.rows l.accounts;
   campaigns : funds_of_all l.accounts ≡ funds_of_all l.fn.accounts;
-  dues : AreDues l.forgotten l.rows l.dues.items;
-  capacity : l.dues.cap ≡ l.fn.dues.cap;
-  len : length l.dues.items ≤ length l.fn.dues.items;
+  dues : AreDues l.forgotten l.rows (heap_items l.dues);
+  capacity : heap_capacity l.dues ≡ heap_capacity l.fn.dues;
+  len : heap_len l.dues ≤ heap_len l.fn.dues;
 }
 
 abbrev pub decreases-loop-entry : goal.decreases-loop-entry
-decreases-loop-entry l = length l.dues.items
+decreases-loop-entry l = length (heap_items l.dues)

@@ -15,12 +15,12 @@ pub returns-in-Help-clause-runs : goal.returns-in-Help-clause-runs
 returns-in-Help-clause-runs g c = λ words is.
     let h = c.without_world.ensures in
     shows (line.Help c.in-Help.topic) tt (is ∙ ap (λ l. Some (other l)) c.in-Help.is)
-    (record { disks_are = refl; doors_are = refl; count_is = refl; no_door = h.doors; no_disk = h.disk })
+    (record { calls_are = refl; disks_are = refl; doors_are = refl; count_is = refl; no_door = h.doors; no_disk = h.disk })
     (subst (λ code. Shows (g.K.Sink.written c.args.sink.now) (g.K.Sink.written c.show.new.sink) code) (sym (h.status ∙ c.code.ensures)) c.show.ensures.shows)
 
 pub returns-in-Version-clause-runs : goal.returns-in-Version-clause-runs
 returns-in-Version-clause-runs g c = λ words is.
     let h = c.without_world-in-Version.ensures in
     shows line.Version tt (is ∙ ap (λ l. Some (other l)) c.in-Version.is)
-    (record { disks_are = refl; doors_are = refl; count_is = refl; no_door = h.doors; no_disk = h.disk })
+    (record { calls_are = refl; disks_are = refl; doors_are = refl; count_is = refl; no_door = h.doors; no_disk = h.disk })
     (subst (λ code. Shows (g.K.Sink.written c.args.sink.now) (g.K.Sink.written c.show-in-Version.new.sink) code) (sym (h.status ∙ c.code-in-Version.ensures)) c.show-in-Version.ensures.shows)

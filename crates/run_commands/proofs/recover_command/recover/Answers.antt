@@ -8,7 +8,7 @@ returns-in-Ok-clause-recovers g c =
     let disk = c.in-Ok.disk in
     let back = c.tell_journal-disk.result.0 in
     let disks = g.W.Disk.Disk in
-    read disk back c.in-Ok.ensures.disks c.in-Ok.ensures.cause c.with_disk.ensures.disk c.tell_journal-disk.ensures.unwritten
+    read disk back c.in-Ok.ensures.asks c.in-Ok.ensures.disks c.in-Ok.ensures.cause c.with_disk.ensures.disk c.tell_journal-disk.ensures.unwritten
     (subst (λ code. Tells (disks.store disk) (disks.faults disk) (disks.faults back) (g.K.Sink.written c.args.sink.now) (g.K.Sink.written c.tell_journal-disk.new.sink) code)
     (sym c.with_disk.ensures.status) c.tell_journal-disk.ensures.tells)
 

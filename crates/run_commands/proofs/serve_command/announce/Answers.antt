@@ -1,6 +1,6 @@
 use Rattle.std.proofs.Common.{refl}
 use Rattle.run_commands.specs.Serve.{served, unannounced}
-use Rattle.run_commands.proofs.Growing.{grown, says_the_same}
+use Rattle.run_commands.proofs.Growing.{grown, opened_only}
 use Rattle.run_commands.proofs.serve_command.announce.Goals as goal
 
 pub returns-in-Ok-clause-announces : goal.returns-in-Ok-clause-announces
@@ -23,4 +23,4 @@ returns-in-Ok-clause-announces g c = λ disk opens.
 
 pub returns-in-Err-clause-announces : goal.returns-in-Err-clause-announces
 returns-in-Err-clause-announces g c = λ disk opens.
-    unannounced (says_the_same g.D.Disk g.G.Door g.G.Link.Link c.args.options.now disk c.into_disk-in-Err.result c.args.exchange opens c.into_disk-in-Err.ensures) refl refl c.in-Err.ensures.err
+    unannounced (opened_only g.D.Disk g.G.Door g.G.Link.Link c.args.options.now disk c.into_disk-in-Err.result c.args.exchange opens c.into_disk-in-Err.ensures) refl refl c.in-Err.ensures.err

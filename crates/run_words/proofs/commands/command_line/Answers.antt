@@ -38,10 +38,22 @@ returns-then-eq-2 c =
     let line = ap command_line e ∙ cond-false _ _ _ is_serve ∙ cond-true _ _ _ is_recover ∙ ap (λ ws. recover_line ws rest) (sym e) in
     subst (λ (x : Option CommandLine). MatchResult c.recover_line.result (λ l. x ≡ Some l) (λ f. f ≡ Usage → x ≡ None)) (sym line) c.recover_line.ensures
 
-pub returns-else-eq-2 : goal.returns-else-eq-2
-returns-else-eq-2 c =
+pub returns-then-eq-3 : goal.returns-then-eq-3
+returns-then-eq-3 c =
+    let words = c.args.words.now in
+    let rest = take (length words - 1) (drop 1 words) in
+    let e = begun words c.name-item.result c.in-len1-up.len_at_least c.name-item.is in
+    let is_serve = tested false _ _ c.name-item.result (codes "serve") c.if-eq.ensures c.as_bytes.ensures.value c.as_slice.ensures in
+    let is_recover = tested false _ _ c.name-item.result (codes "recover") c.if-eq-2.ensures c.as_bytes-in-len1-up.ensures.value c.as_slice-in-len1-up.ensures in
+    let is_try = tested true _ _ c.name-item.result (codes "try") c.if-eq-3.ensures c.as_bytes-in-len1-up-2.ensures.value c.as_slice-in-len1-up-2.ensures in
+    let line = ap command_line e ∙ cond-false _ _ _ is_serve ∙ cond-false _ _ _ is_recover ∙ cond-true _ _ _ is_try in
+    subst (λ (x : Option CommandLine). MatchResult c.question.result (λ l. x ≡ Some l) (λ f. f ≡ Usage → x ≡ None)) (sym line) c.question.ensures
+
+pub returns-else-eq-3 : goal.returns-else-eq-3
+returns-else-eq-3 c =
     let e = begun c.args.words.now c.name-item.result c.in-len1-up.len_at_least c.name-item.is in
     let is_serve = tested false _ _ c.name-item.result (codes "serve") c.if-eq.ensures c.as_bytes.ensures.value c.as_slice.ensures in
     let is_recover = tested false _ _ c.name-item.result (codes "recover") c.if-eq-2.ensures c.as_bytes-in-len1-up.ensures.value c.as_slice-in-len1-up.ensures in
-    let line = ap command_line e ∙ cond-false _ _ _ is_serve ∙ cond-false _ _ _ is_recover ∙ ap (asked topic.Program) (sym e) in
-    subst (λ (x : Option CommandLine). MatchResult c.program_line.result (λ l. x ≡ Some l) (λ f. f ≡ Usage → x ≡ None)) (sym line) c.program_line.ensures
+    let is_try = tested false _ _ c.name-item.result (codes "try") c.if-eq-3.ensures c.as_bytes-in-len1-up-2.ensures.value c.as_slice-in-len1-up-2.ensures in
+    let line = ap command_line e ∙ cond-false _ _ _ is_serve ∙ cond-false _ _ _ is_recover ∙ cond-false _ _ _ is_try ∙ ap (asked topic.Program) (sym e) in
+    subst (λ (x : Option CommandLine). MatchResult c.question-in-len1-up.result (λ l. x ≡ Some l) (λ f. f ≡ Usage → x ≡ None)) (sym line) c.question-in-len1-up.ensures

@@ -38,7 +38,7 @@ pub returns-clause-outcome : goal.returns-clause-outcome
 returns-clause-outcome c =
     let i = c.self.inside in
     let s = here i.table.campaigns i.book.campaigns i.book.sales in
-    let many = c.count.ensures.value ∙ ap length c.self.invariant.listing ∙ many_listed s ∙ ap (λ (v : CoreState). length v.state.campaigns) c.self.view_is ∙ ap (λ (t : State). length t.campaigns) c.in_ok-reserve_campaign.ensures.state in
+    let many = c.count.ensures.value ∙ ap length c.self.invariant.listing ∙ many_listed s ∙ ap (λ (v : CoreState). length v.state.campaigns) c.self.view_is ∙ ap (λ (t : State). length t.campaigns) c.in_ok-reserve_campaign.ensures.rooms.state in
     added_is c.args.facts.now c.args.expr.now c.args.self.now.state c.count.result c.added.result c.requires.within many c.added.ensures
 
 pub returns-clause-possible : goal.returns-clause-possible

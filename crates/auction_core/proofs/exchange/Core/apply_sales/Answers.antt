@@ -16,7 +16,7 @@ hold_all-requires-clause-payable c =
     let items = c.args.items.now in
     let s = swept m c.args.self.now.state in
     let sold = items_sold m user items s c.can_sell.result (c.can_sell.ensures.value user ∙ ap (λ l. is_some (with_items m user l s)) c.as_slice.ensures) c.if-not-can_sell.false in
-    let state = c.sweep.ensures.state ∙ ap (swept m) c.in_ok-reserve_sales.ensures.state in
+    let state = c.sweep.ensures.state ∙ ap (swept m) c.in_ok-reserve_sales.ensures.rooms.state in
     let holdings = c.in_ok-holdings.ensures ∙ ap (map (holding_for user)) c.as_slice-2.ensures in
     subst (λ v. CanHoldAll m v c.in_ok-holdings.holdings) (sym state) (subst (CanHoldAll m s) (sym holdings) (items_payable m user items s (with_sold m user items s) sold))
 
@@ -27,8 +27,8 @@ returns c =
     let items = c.args.items.now in
     let s = swept m c.args.self.now.state in
     let sold = items_sold m user items s c.can_sell.result (c.can_sell.ensures.value user ∙ ap (λ l. is_some (with_items m user l s)) c.as_slice.ensures) c.if-not-can_sell.false in
-    let state = c.sweep.ensures.state ∙ ap (swept m) c.in_ok-reserve_sales.ensures.state in
+    let state = c.sweep.ensures.state ∙ ap (swept m) c.in_ok-reserve_sales.ensures.rooms.state in
     let holdings = c.in_ok-holdings.ensures ∙ ap (map (holding_for user)) c.as_slice-2.ensures in
     let after = c.hold_all.ensures.state ∙ ap (λ v. with_sales v (map (row_of m) c.in_ok-holdings.holdings)) state ∙ ap (λ hs. with_sales s (map (row_of m) hs)) holdings ∙ ap (λ rows. with_sales s rows) (rows_are m user items) in
-    let edits : c.hold_all.new.self.edits ≡ c.args.self.now.edits + 0 = omega (arith, c.hold_all.ensures.edits, c.sweep.ensures.edits, c.in_ok-reserve_sales.ensures.edits) in
-    done tt (with_items m user items s) 0 c.args.self.now c.hold_all.new.self (sold ∙ ap Some (sym after)) (c.hold_all.ensures.ttl ∙ c.sweep.ensures.ttl ∙ c.in_ok-reserve_sales.ensures.ttl) edits
+    let edits : c.hold_all.new.self.edits ≡ c.args.self.now.edits + 0 = omega (arith, c.hold_all.ensures.rest.edited, c.sweep.ensures.rest.edited, c.in_ok-reserve_sales.ensures.rooms.edits) in
+    done tt (with_items m user items s) 0 c.args.self.now c.hold_all.new.self (sold ∙ ap Some (sym after)) (c.hold_all.ensures.rest.ttl ∙ c.sweep.ensures.rest.ttl ∙ c.in_ok-reserve_sales.ensures.rooms.ttl) edits

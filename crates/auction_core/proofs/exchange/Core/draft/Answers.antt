@@ -1,4 +1,4 @@
-use Rattle.std.proofs.Common.{◌≡◌, ◌∙◌, ap, sym}
+use Rattle.std.proofs.Common.{◌∙◌, ap, sym}
 use Rattle.auction_core.specs.Draft.{effect_edits}
 use Rattle.auction_core.proofs.Preparing.{effect_edited, effect_with}
 use Rattle.plain_exchange.specs.State.{is_any_due}

@@ -11,7 +11,7 @@ returns-clause-draft c =
     let ttl = c.args.self.now.ttl in
     let m = c.args.moment in
     let r = c.args.request.now in
-    let same = c.auction_outcome.ensures.state in
+    let same = c.auction_outcome.ensures.rooms.state in
     subst (λ (v : State). IsDraftOf ttl v (command.Auction r) m c.draft.result) same
     (c.draft.ensures.draft ttl (command.Auction r)
     (subst (λ (v : State). IsOutcome m (swept m v) (step ttl m v (command.Auction r)) c.in_ok-outcome.outcome) (sym same) c.in_ok-outcome.ensures.outcome))

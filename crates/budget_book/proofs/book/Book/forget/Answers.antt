@@ -1,4 +1,4 @@
-use Rattle.std.proofs.Common.{◌≡◌, List, ◌+◌, ◌++◌, drop, length, take, sym, ◌∙◌, ap, subst, arith, None}
+use Rattle.std.proofs.Common.{heap_items, ◌≡◌, List, ◌+◌, ◌++◌, drop, length, take, sym, ◌∙◌, ap, subst, arith, None}
 use Rattle.budget_book.specs.declared.account.Account.{Account}
 use Rattle.budget_book.specs.declared.sales.SaleRow.{SaleRow}
 use Rattle.budget_book.specs.declared.sales.SaleState.TheVariants.{Held}
@@ -26,12 +26,12 @@ invariant_of-self c =
     let counted = subst (λ (as_ : List Account). forgotten_of (funds_of_all new) ≡ forgotten_of (funds_of_all as_) + d) c.deref_mut.ensures.value c.add_gone.ensures.counted in
     let campaigns = subst (λ (as_ : List Account). AreForgotten (take d i.rows.items) (funds_of_all as_) (funds_of_all new)) c.deref_mut.ensures.value
     (subst (λ rs. AreForgotten (take d rs) (funds_of_all c.deref_mut.result.now) (funds_of_all new)) c.deref-2.ensures.value c.add_gone.ensures.campaigns) in
-    let book = book_forgotten i.forgotten d i.accounts.items new i.rows.items i.links.items i.dues.items i.lasts any c.self.invariant (omega (arith, n)) (omega (arith, n, c.self.invariant.few_forgotten))
+    let book = book_forgotten i.forgotten d i.accounts.items new i.rows.items i.links.items (heap_items i.dues) i.lasts any c.self.invariant (omega (arith, n)) (omega (arith, n, c.self.invariant.few_forgotten))
     (none_held i.rows.items d (omega (arith, n))) summed counted campaigns in
     let lent : take i.accounts.len (new ++ drop (length new) i.accounts.items) ≡ new = lent_back i.accounts.items new i.accounts.len (omega arith) in
-    subst (λ as_. IsBook (i.forgotten + d) as_ c.drop_front.new.items.items c.drop_front-2.new.items.items i.dues.items i.lasts) (sym lent)
-    (subst (λ rs. IsBook (i.forgotten + d) new rs c.drop_front-2.new.items.items i.dues.items i.lasts) (sym c.drop_front.ensures.items)
-    (subst (λ ls. IsBook (i.forgotten + d) new (drop d i.rows.items) ls i.dues.items i.lasts) (sym c.drop_front-2.ensures.items) book))
+    subst (λ as_. IsBook (i.forgotten + d) as_ c.drop_front.new.items.items c.drop_front-2.new.items.items (heap_items i.dues) i.lasts) (sym lent)
+    (subst (λ rs. IsBook (i.forgotten + d) new rs c.drop_front-2.new.items.items (heap_items i.dues) i.lasts) (sym c.drop_front.ensures.items)
+    (subst (λ ls. IsBook (i.forgotten + d) new (drop d i.rows.items) ls (heap_items i.dues) i.lasts) (sym c.drop_front-2.ensures.items) book))
 
 pub returns-clause-campaigns : goal.returns-clause-campaigns
 returns-clause-campaigns c =

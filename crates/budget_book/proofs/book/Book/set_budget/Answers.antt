@@ -1,4 +1,4 @@
-use Rattle.std.proofs.Common.{◌≡◌, ◌-◌, ◌<◌, ◌≤◌, length, get_or, set, sym, ◌∙◌, ap, subst, arith}
+use Rattle.std.proofs.Common.{heap_items, ◌≡◌, ◌-◌, ◌<◌, ◌≤◌, length, get_or, set, sym, ◌∙◌, ap, subst, arith}
 use Rattle.std.proofs.lemmas.List.{get_or_default}
 use Rattle.budget_book.specs.declared.account.Account.{Account}
 use Rattle.budget_book.specs.Accounts.{with_budget}
@@ -38,8 +38,8 @@ invariant_of-self c =
     let read : get_or i.accounts.items k a ≡ b = get_or_default i.accounts.items k a b inside ∙ sym c.index-account.ensures in
     let reserved : (get_or i.accounts.items k a).reserved ≡ b.reserved = ap (λ (x : Account). x.reserved) read in
     let spent : (get_or i.accounts.items k a).spent ≡ b.spent = ap (λ (x : Account). x.spent) read in
-    subst (λ (x : Account). IsBook i.forgotten (set i.accounts.items k (with_budget c.get-2.result x)) i.rows.items i.links.items i.dues.items i.lasts) (sym c.index_mut.ensures.value)
-    (book_budget i.forgotten i.accounts.items i.rows.items i.links.items i.dues.items i.lasts k c.get-2.result a c.self.invariant inside
+    subst (λ (x : Account). IsBook i.forgotten (set i.accounts.items k (with_budget c.get-2.result x)) i.rows.items i.links.items (heap_items i.dues) i.lasts) (sym c.index_mut.ensures.value)
+    (book_budget i.forgotten i.accounts.items i.rows.items i.links.items (heap_items i.dues) i.lasts k c.get-2.result a c.self.invariant inside
     (omega (arith, reserved, spent, c.if-get-committed.false, c.get.ensures.value, c.get-2.ensures.value)) c.get-2.ensures.bound)
 
 pub returns-clause-campaigns : goal.returns-clause-campaigns

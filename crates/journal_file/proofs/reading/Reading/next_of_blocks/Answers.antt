@@ -14,8 +14,8 @@ returns-in-Ok-Some-clause-next g c = λ names payloads r.
     let self = c.args.self.now in
     let image = (g.D.Disk.store self.disk).reads in
     let same = c.in-Ok-Some.ensures.same in
-    let found : IsBlockAt self.gate (drop self.gate image) c.args.out.now c.block_at.new.out (Ok (Some c.in-Ok-Some.next)) =
-    subst (λ (o : Option ℕ). IsBlockAt self.gate (drop self.gate image) c.args.out.now c.block_at.new.out (Ok o)) c.in-Ok-Some.field-0-is (c.in-Ok-Some.ensures.block r.told) in (
+    let found : IsBlockAt self.gate (drop self.gate image) c.args.out.now c.block_ahead.new.out (Ok (Some c.in-Ok-Some.next)) =
+    subst (λ (o : Option ℕ). IsBlockAt self.gate (drop self.gate image) c.args.out.now c.block_ahead.new.out (Ok o)) c.in-Ok-Some.field-0-is (c.in-Ok-Some.ensures.block r.told) in (
       found.0,
       r.end,
       found.3,
@@ -36,8 +36,8 @@ returns-in-Ok-None-clause-next g c = λ names payloads r.
     let self = c.args.self.now in
     let image = (g.D.Disk.store self.disk).reads in
     let same = c.in-Ok-None.ensures.same in
-    let found : IsBlockAt self.gate (drop self.gate image) c.args.out.now c.block_at.new.out (Ok None) =
-    subst (λ (o : Option ℕ). IsBlockAt self.gate (drop self.gate image) c.args.out.now c.block_at.new.out (Ok o)) c.in-Ok-None.field-0-is (c.in-Ok-None.ensures.block r.told) in (
+    let found : IsBlockAt self.gate (drop self.gate image) c.args.out.now c.block_ahead.new.out (Ok None) =
+    subst (λ (o : Option ℕ). IsBlockAt self.gate (drop self.gate image) c.args.out.now c.block_ahead.new.out (Ok o)) c.in-Ok-None.field-0-is (c.in-Ok-None.ensures.block r.told) in (
       found.1,
       record {
         told = ap (λ (s : Store). s.told) same ∙ r.told;
@@ -52,6 +52,6 @@ pub returns-in-Err-Damaged-clause-next : goal.returns-in-Err-Damaged-clause-next
 returns-in-Err-Damaged-clause-next g c = λ names payloads r.
     let self = c.args.self.now in
     let image = (g.D.Disk.store self.disk).reads in
-    let found : IsBlockAt self.gate (drop self.gate image) c.args.out.now c.block_at.new.out (Err (fault.Damaged c.in-Err-Damaged.field-0-0)) =
-    subst (λ (e : JournalFault). IsBlockAt self.gate (drop self.gate image) c.args.out.now c.block_at.new.out (Err e)) c.in-Err-Damaged.field-0-is (c.in-Err-Damaged.ensures.block r.told) in
+    let found : IsBlockAt self.gate (drop self.gate image) c.args.out.now c.block_ahead.new.out (Err (fault.Damaged c.in-Err-Damaged.field-0-0)) =
+    subst (λ (e : JournalFault). IsBlockAt self.gate (drop self.gate image) c.args.out.now c.block_ahead.new.out (Err e)) c.in-Err-Damaged.field-0-is (c.in-Err-Damaged.ensures.block r.told) in
     (found.2, r.end, at_damage names r.name payloads image r.rest self.gate r.named r.end r.file found.0)

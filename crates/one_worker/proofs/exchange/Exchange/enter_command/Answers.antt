@@ -8,8 +8,8 @@ returns-in-Ok g c =
     record {
       carried = carried_later c.args.command.now c.args.moment c.args.self.now (record c.args.self.now { core = c.draft_of.new.core }) c.enter.new.self c.enter.result c.requires.whole refl c.draft_of.ensures.ttl c.draft_of.ensures.state
           (carried_entered c.args.command.now c.args.moment (record c.args.self.now { core = c.draft_of.new.core }) c.enter.new.self c.enter.result
-          (c.enter.ensures.reply c.args.command.now c.args.moment d) (c.enter.ensures.state c.args.command.now c.args.moment d) c.enter.ensures.memory c.enter.ensures.written
-          (c.enter.ensures.moves c.args.command.now c.args.moment d) c.enter.ensures.ttl c.enter.ensures.cause);
+          (c.enter.ensures.reply c.args.command.now c.args.moment d) (c.enter.ensures.state c.args.command.now c.args.moment d) (c.enter.ensures.moves c.args.command.now c.args.moment d)
+          c.enter.ensures.memory c.enter.ensures.stays c.enter.ensures.written c.enter.ensures.ttl c.enter.ensures.cause);
     }
 
 pub returns-in-Err : goal.returns-in-Err

@@ -1,0 +1,32 @@
+ghost use Rattle.std.specs.Prelude.{◌≡◌, ◌++◌, ◌∷◌, [], OnErr, OnOk};
+ghost use Rattle.link_door.specs.declared.asked.Asked.TheVariants as asked_for;
+
+use rtb_num::{List, Txt};
+use std::alloc::AllocError;
+
+/// What a world was asked for.
+#[derive(Drop)]
+pub enum Asked {
+    /// The disk with this name.
+    Disk { path: Txt },
+    /// So many doors at this address.
+    Doors { address: Txt, n: u32 },
+}
+
+/// Notes that a disk is asked for. Where memory is refused the list is as it was.
+pub(crate) fn note_disk(asked: &mut List<Asked>, path: &Txt) -> Result<(), AllocError>
+    ensures ok { OnOk result (asked.new ≡ asked.old ++ asked_for.Disk path.now ∷ []) }
+    ensures err { OnErr result (asked.new ≡ asked.old) }
+{
+    let path = path.copy()?;
+    asked.push(Asked::Disk { path })
+}
+
+/// Notes that doors are asked for. Where memory is refused the list is as it was.
+pub(crate) fn note_doors(asked: &mut List<Asked>, address: &Txt, n: u32) -> Result<(), AllocError>
+    ensures ok { OnOk result (asked.new ≡ asked.old ++ asked_for.Doors address.now n ∷ []) }
+    ensures err { OnErr result (asked.new ≡ asked.old) }
+{
+    let address = address.copy()?;
+    asked.push(Asked::Doors { address, n })
+}
