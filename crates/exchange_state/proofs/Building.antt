@@ -21,14 +21,26 @@ use Rattle.target_expr.specs.Pairs.{conjunction_pairs, pairs_by, pairs_of, pred_
 
 pairs_in : (n k : ℕ) (c : List Pred) → length (flat_map (pred_pairs n k) c) ≡ values_in c
 pairs_in n k [] = refl
-pairs_in n k (p ∷ c) = omega (arith, length-append (pred_pairs n k p) (flat_map (pred_pairs n k) c), length-map p.values (λ (v : List ℕ). one v), pairs_in n k c, sum_by-cons (λ (q : Pred). length q.values) p c)
+pairs_in n k (p ∷ c) = omega (
+  arith,
+  length-append (pred_pairs n k p) (flat_map (pred_pairs n k) c),
+  length-map p.values (λ (v : List ℕ). one v),
+  pairs_in n k c,
+  sum_by-cons (λ (q : Pred). length q.values) p c,
+)
   where
     one : List ℕ → Pair
     one v = record { conjunction = n; size = k; attr = p.attr; negated = p.negated; value = v }
 
 pairs_from : (n : ℕ) (e : List (List Pred)) → length (flat_map conjunction_pairs (enumerate_from n e)) ≡ values_of e
 pairs_from n [] = refl
-pairs_from n (c ∷ e) = omega (arith, length-append (conjunction_pairs (n, c)) (flat_map conjunction_pairs (enumerate_from (n + 1) e)), pairs_in n (size_of c) c, pairs_from (n + 1) e, sum_by-cons values_in c e)
+pairs_from n (c ∷ e) = omega (
+  arith,
+  length-append (conjunction_pairs (n, c)) (flat_map conjunction_pairs (enumerate_from (n + 1) e)),
+  pairs_in n (size_of c) c,
+  pairs_from (n + 1) e,
+  sum_by-cons values_in c e,
+)
 
 -- ---- the live campaigns list no more than all
 
@@ -70,4 +82,11 @@ pub version_bounded : (cs : List Listed) → passed_limit (entries_of cs) ≡ No
 version_bounded cs none =
     let rs = entries_of cs in
     let w = within (nat_lt 65536 (length rs)) _ (nat_lt 4194304 (sum_by values rs)) _ _ _ _ _ _ none in
-    omega (arith, pairs_from 0 (expression_of (campaigns_of (live_from 1 cs))), held 1 cs, at_most 65536 (length rs) w.0, at_most 4194304 (sum_by values rs) w.1, length-map cs (λ (c : Listed). c.entry))
+    omega (
+      arith,
+      pairs_from 0 (expression_of (campaigns_of (live_from 1 cs))),
+      held 1 cs,
+      at_most 65536 (length rs) w.0,
+      at_most 4194304 (sum_by values rs) w.1,
+      length-map cs (λ (c : Listed). c.entry),
+    )

@@ -79,7 +79,19 @@ unfolding IsLegalFrom opening
 legal = (refl, (refl, tt))
 
 in_turn : AreInTurn None all_written
-in_turn = (tt, (refl, (tt, ((record { worker = 1; upto = 1; again = false; faults = 0 }, refl, refl), (refl, ((record { worker = 1; upto = 1; again = true; faults = 1 }, refl, refl), (refl, ((record { worker = 2; upto = 2; again = false; faults = 1 }, refl, refl), tt))))))))
+in_turn = (
+  tt,
+  (
+    refl,
+    (
+      tt,
+      (
+        (record { worker = 1; upto = 1; again = false; faults = 0 }, refl, refl),
+        (refl, ((record { worker = 1; upto = 1; again = true; faults = 1 }, refl, refl), (refl, ((record { worker = 2; upto = 2; again = false; faults = 1 }, refl, refl), tt)))),
+      ),
+    ),
+  ),
+)
 
 rising : IsRising with_one all_written
 rising = record {

@@ -1,0 +1,271 @@
+// Commands are carried out.
+ghost use Rattle.std.specs.Prelude.{◌≡◌, ◌≤◌, ◌<◌, ◌^◌, ℕ, false};
+ghost use Rattle.auction_core.specs.Draft.{IsDraftOf, IsReady};
+ghost use Rattle.effects.specs.Bytes.{is_kept};
+ghost use Rattle.exchange_state.specs.Placing.{IsCommitted, is_placing};
+ghost use Rattle.plain_exchange.specs.declared.commands.Command.{Command as ACommand};
+
+use crate::finding::{correct_all, find_all};
+use crate::state::{ExchangeState, Placing, Settled};
+use crate::ticket::{Found, Ticket};
+use crate::versions::{edit_of, index_of};
+use auction_core::{Command, Core, Draft, Reply};
+use effects::encode;
+use plain_exchange::Change;
+use rtb_base::Steps;
+use rtb_disk::Disk;
+use rtb_num::List;
+use rtb_types::BidRequest;
+use std::alloc::AllocError;
+use std::sync::ledger::Ledger;
+
+impl<D: Disk> ExchangeState<D> {
+    ghost use Rattle.std.specs.Prelude.{◌≡◌, ◌==◌, ◌<◌, ◌≤◌, ◌+◌, ◌++◌, ◌^◌, ℕ, List as AList, All, length, option_to_list, IfOk, OnErr, OnOk, IsTrue};
+    ghost use Rattle.auction_core.specs.Core.{listed};
+    ghost use Rattle.auction_core.specs.Draft.{IsDraftOf, IsReady, found_of, is_simple, is_valid_command};
+    ghost use Rattle.effects.specs.Bytes.{IsEncodable, effects_bytes};
+    ghost use Rattle.exchange_state.specs.Costs.{settled_cost};
+    ghost use Rattle.exchange_state.specs.Placing.{CarriesOut, HasPlain, IsCommitted, IsSame, noted, placed_as};
+    ghost use Rattle.exchange_state.specs.Settling.{Enters, IsStanding, MaySettle};
+    ghost use Rattle.exchange_state.specs.Standing.{StandsFor};
+    ghost use Rattle.exchange_state.specs.Tickets.{matches, version_in};
+    ghost use Rattle.exchange_state.specs.declared.entries.Entry.{Entry as AnEntry};
+    ghost use Rattle.exchange_state.specs.declared.entries.Origin.{Origin as AnOrigin};
+    ghost use Rattle.index_versions.specs.Versions.{live_in};
+    ghost use Rattle.plain_exchange.specs.declared.commands.Command.{Command as ACommand};
+    ghost use Rattle.plain_exchange.specs.declared.commands.Command.TheVariants.{Auction as AnAuction};
+    ghost use Rattle.rtb_types.specs.declared.request.BidRequest.{BidRequest as ARequest};
+
+    /// Carries out an auction at the moment, in milliseconds, over what was found in the ticket's version for its request,
+    /// whatever was edited since. Where memory is short, nothing is carried out.
+    ///
+    /// One step is one conjunction that is looked at, of a campaign that was touched since; and one entry of the index
+    /// that is read, where the ticket is older than the edits that are remembered.
+    pub fn settle<L: Ledger>(
+        &mut self,
+        ticket: &Ticket,
+        found: &Found,
+        command: &Command,
+        moment: u64,
+        steps: &mut Steps<L>,
+    ) -> Result<Settled, AllocError>
+        requires valid { IsTrue (is_valid_command command.now) }
+        requires ticket { MaySettle self.old (version_in ticket.now) found.now.lists command.now }
+        ensures settled { (o : AnOrigin) (l : AList AnEntry) (w : ℕ) → StandsFor o self.old l → IfOk result (Enters o l w command.now moment self.new) }
+        ensures unsettled { (o : AnOrigin) (l : AList AnEntry) → StandsFor o self.old l → OnErr result (StandsFor o self.new l) }
+        ensures cost { (o : AnOrigin) (l : AList AnEntry) (r : ARequest) → StandsFor o self.old l → command.now ≡ AnAuction r → steps.new ≤ steps.old + settled_cost o l (version_in ticket.now).edit r }
+    {
+        match command {
+            Command::Auction(request) => {
+                if self.is_last(ticket) {
+                    return self.enter(command, found.lists.as_slice(), moment);
+                }
+                let now = self.present(ticket, found, request, steps)?;
+                let settled = self.enter(command, now.as_slice(), moment);
+                drop(now);
+                settled
+            }
+            _ => unreachable!(),
+        }
+    }
+
+    // Whether no edit came behind the ticket's: then what was found in it is what the request reaches now.
+    fn is_last(&self, ticket: &Ticket) -> bool
+        ensures { result ≡ (self.now.core.edits == (version_in ticket.now).edit) }
+    {
+        self.core.table().edits() == edit_of(&ticket.version)
+    }
+
+    // What the request reaches now.
+    fn present<L: Ledger>(
+        &self,
+        ticket: &Ticket,
+        found: &Found,
+        request: &BidRequest,
+        steps: &mut Steps<L>,
+    ) -> Result<Vec<List<u32>>, AllocError>
+        requires ticket { MaySettle self.now (version_in ticket.now) found.now.lists (AnAuction request.now) }
+        ensures now { IfOk result (λ f. f.items ≡ matches (live_in (listed self.now.core.state)) request.now) }
+        ensures cost { (o : AnOrigin) (l : AList AnEntry) → StandsFor o self.now l → steps.new ≤ steps.old + settled_cost o l (version_in ticket.now).edit request.now }
+    {
+        let table = self.core.table();
+        let edit = edit_of(&ticket.version);
+        if self.recent.oldest() <= edit {
+            let lists = found.lists.as_slice();
+            return correct_all(self.alloc, lists, edit, &self.recent, table, request, steps);
+        }
+        let anew = find_all(self.alloc, index_of(&self.version), request, steps)?;
+        let present = edit_of(&self.version);
+        let lists = anew.as_slice();
+        let now = correct_all(
+            self.alloc,
+            lists,
+            present,
+            &self.recent,
+            table,
+            request,
+            steps,
+        );
+        drop(anew);
+        now
+    }
+
+    // Carries out a command for which this is found.
+    fn enter(
+        &mut self,
+        command: &Command,
+        found: &[List<u32>],
+        moment: u64,
+    ) -> Result<Settled, AllocError>
+        requires valid { IsTrue (is_valid_command command.now) }
+        requires found { found.now ≡ found_of self.old.core.state command.now }
+        requires few { self.old.core.edits < 2 ^ 63 }
+        requires placed { self.old.placed < 2 ^ 63 }
+        ensures done { IfOk result (CarriesOut command.now moment self.old self.new) }
+        ensures undone { OnErr result (IsSame self.old self.new) }
+    {
+        match self.draft(command, found, moment) {
+            Ok(draft) => self.place(draft),
+            Err(AllocError) => Err(AllocError),
+        }
+    }
+
+    // Prepares a command for which this is found. Only rooms change.
+    fn draft(
+        &mut self,
+        command: &Command,
+        found: &[List<u32>],
+        moment: u64,
+    ) -> Result<Draft, AllocError>
+        requires valid { IsTrue (is_valid_command command.now) }
+        requires found { found.now ≡ found_of self.old.core.state command.now }
+        ensures draft { IfOk result (IsDraftOf self.old.core.ttl self.old.core.state command.now moment) }
+        ensures ready { IfOk result (λ d. IsReady d self.new.core) }
+        ensures plain { IfOk result (λ d. HasPlain d.effect) }
+        ensures room { OnOk result (1 ≤ self.new.recent.spare) }
+        ensures same { IsSame self.old self.new }
+    {
+        self.recent.reserve()?;
+        self.core.prepare(self.alloc, command, found, moment)
+    }
+
+    /// Carries out a command other than an auction at the moment, in milliseconds. Where memory is short, nothing is
+    /// carried out.
+    pub fn simple(&mut self, command: &Command, moment: u64) -> Result<Settled, AllocError>
+        requires simple { IsTrue (is_simple command.now) }
+        requires stands { IsStanding self.old }
+        ensures settled { (o : AnOrigin) (l : AList AnEntry) (w : ℕ) → StandsFor o self.old l → IfOk result (Enters o l w command.now moment self.new) }
+        ensures unsettled { (o : AnOrigin) (l : AList AnEntry) → StandsFor o self.old l → OnErr result (StandsFor o self.new l) }
+    {
+        match self.draft_simple(command, moment) {
+            Ok(draft) => self.place(draft),
+            Err(AllocError) => Err(AllocError),
+        }
+    }
+
+    // The same for a command other than an auction.
+    fn draft_simple(&mut self, command: &Command, moment: u64) -> Result<Draft, AllocError>
+        requires simple { IsTrue (is_simple command.now) }
+        ensures draft { IfOk result (IsDraftOf self.old.core.ttl self.old.core.state command.now moment) }
+        ensures ready { IfOk result (λ d. IsReady d self.new.core) }
+        ensures plain { IfOk result (λ d. HasPlain d.effect) }
+        ensures room { OnOk result (1 ≤ self.new.recent.spare) }
+        ensures same { IsSame self.old self.new }
+    {
+        self.recent.reserve()?;
+        self.core.prepare_simple(self.alloc, command, moment)
+    }
+
+    // Carries out what was prepared. Its effect is at hand before that.
+    fn place(&mut self, draft: Draft) -> Result<Settled, AllocError>
+        requires ready { IsReady draft self.old.core }
+        requires plain { HasPlain draft.effect }
+        requires room { 1 ≤ self.old.recent.spare }
+        requires few { self.old.core.edits < 2 ^ 63 }
+        requires placed { self.old.placed < 2 ^ 63 }
+        ensures done { (command : ACommand) (moment : ℕ) → IsDraftOf self.old.core.ttl self.old.core.state command moment draft → IfOk result (CarriesOut command moment self.old self.new) }
+        ensures undone { OnErr result (self.new ≡ self.old) }
+    {
+        match self.write_effect(&draft) {
+            Ok(placing) => Ok(self.commit(draft, placing)),
+            Err(AllocError) => {
+                drop(draft);
+                Err(AllocError)
+            }
+        }
+    }
+
+    // Appends the bytes of the draft's effect to those that are pending, where it has one.
+    fn write_effect(&mut self, draft: &Draft) -> Result<Placing, AllocError>
+        requires plain { HasPlain draft.now.effect }
+        ensures placing { IfOk result (placed_as (length self.old.core.state.campaigns) draft.now.effect) }
+        ensures encodable { OnOk result (All IsEncodable (option_to_list draft.now.effect)) }
+        ensures pending { OnOk result (self.new ≡ record self.old { pending = self.old.pending ++ effects_bytes (option_to_list draft.now.effect) }) }
+        ensures err { OnErr result (self.new ≡ self.old) }
+    {
+        match draft.effect() {
+            Some(effect) => {
+                let placing = placing_of(&effect.change, self.core.table().count());
+                encode(effect, &mut self.pending)?;
+                Ok(placing)
+            }
+            None => Ok(Placing::Nothing),
+        }
+    }
+
+    // Carries the draft out, and remembers the edit.
+    fn commit(&mut self, draft: Draft, placing: Placing) -> Settled
+        requires ready { IsReady draft self.old.core }
+        requires room { 1 ≤ self.old.recent.spare }
+        requires few { self.old.core.edits < 2 ^ 63 }
+        requires placed { self.old.placed < 2 ^ 63 }
+        ensures done { (command : ACommand) (moment : ℕ) → IsDraftOf self.old.core.ttl self.old.core.state command moment draft → IsCommitted command moment self.old.core self.new.core result.reply }
+        ensures rest { self.new ≡ record (noted placing self.old) { core = self.new.core } }
+        ensures upto { result.upto ≡ self.new.placed }
+    {
+        let reply = commit_exactly(&mut self.core, draft);
+        self.note(placing);
+        Settled {
+            reply,
+            upto: self.placed,
+        }
+    }
+
+    // Remembers what was placed.
+    fn note(&mut self, placing: Placing)
+        requires room { 1 ≤ self.old.recent.spare }
+        requires placed { self.old.placed < 2 ^ 63 }
+        ensures { self.new ≡ noted placing self.old }
+    {
+        match placing {
+            Placing::Nothing => {}
+            Placing::Effect => self.placed += 1,
+            Placing::Edit(campaign) => {
+                self.placed += 1;
+                self.recent.note(campaign);
+            }
+        }
+    }
+}
+
+// Carries out what was prepared: it makes just the edits of the draft's effect.
+fn commit_exactly(core: &mut Core, draft: Draft) -> Reply
+    requires ready { IsReady draft core.old }
+    requires few { core.old.edits < 2 ^ 63 }
+    ensures { (command : ACommand) (moment : ℕ) → IsDraftOf core.old.ttl core.old.state command moment draft → IsCommitted command moment core.old core.new result }
+{
+    core.commit(draft)
+}
+
+// What is to be remembered of a change, where there are so many campaigns.
+fn placing_of(change: &Change, campaigns: u32) -> Placing
+    requires plain { is_kept change.now ≡ false }
+    requires few { campaigns ≤ 65536 }
+    ensures { is_placing campaigns change.now result }
+{
+    match change {
+        Change::Added(_, _) => Placing::Edit(campaigns + 1),
+        Change::Changed(n, _, _) | Change::Paused(n) | Change::Resumed(n) => Placing::Edit(*n),
+        _ => Placing::Effect,
+    }
+}
