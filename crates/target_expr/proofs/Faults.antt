@@ -1,5 +1,5 @@
 -- The first of several faults.
-use Rattle.std.proofs.Common.{◌≡◌, ℕ, ◌+◌, ◌<◌, ◌≤◌, List, [], ◌∷◌, ◌++◌, length, take, drop, get_or, Bool, true, false, cond, Option, Some, None, is_some, refl, sym, ◌∙◌, ap, arith, take-append-drop}
+use Rattle.std.proofs.Common.{◌≡◌, ℕ, ◌+◌, ◌<◌, ◌≤◌, List, [], ◌∷◌, ◌++◌, length, take, drop, get_or, Bool, true, false, cond, Option, Some, None, find, is_some, refl, sym, ◌∙◌, ap, arith, take-append-drop}
 use Rattle.std.specs.List.{enumerate_from, flat_map}
 use Rattle.std.proofs.lemmas.Bool.{le-ltb}
 use Rattle.std.proofs.Common.{ltb, nat_eq}
@@ -22,36 +22,41 @@ four_faults false false false false f g h k = refl
 pub no_fault : (a b : ℕ) (f : ExprFault) → b ≤ a → fault_where (ltb a b) f ≡ []
 no_fault a b f h = ap (λ t. fault_where t f) (le-ltb a b h)
 
-pub none_first : (fs : List ExprFault) → is_some (first_of fs) ≡ false → fs ≡ []
+-- ---- the first of faults of any kind
+
+abbrev first : {F : Type 0} → List F → Option F
+first fs = find (λ _. true) fs
+
+pub none_first : {F : Type 0} (fs : List F) → is_some (first fs) ≡ false → fs ≡ []
 none_first [] e = refl
 none_first (f ∷ fs) e = cc
 
-pub first_kept : (fs more : List ExprFault) → is_some (first_of fs) ≡ true → first_of fs ≡ first_of (fs ++ more)
+pub first_kept : {F : Type 0} (fs more : List F) → is_some (first fs) ≡ true → first fs ≡ first (fs ++ more)
 first_kept [] more e = cc
 first_kept (f ∷ fs) more e = refl
 
 -- the fault of the item at i is the first, where the items before it have none
-pub first_here : {X : Type 0} (head : List ExprFault) (f : ℕ × X → List ExprFault) (xs : List X) (i : ℕ) (d : X) (r : Option ExprFault)
-    → head ≡ [] → i < length xs → flat_map f (take i (enumerate_from 0 xs)) ≡ [] → r ≡ first_of (f (i, get_or xs i d)) → is_some r ≡ true
-    → r ≡ first_of (head ++ flat_map f (enumerate_from 0 xs))
-first_here head f xs i d r none within before is some =
+pub first_here : {X F : Type 0} (head : List F) (f : ℕ × X → List F) (xs : List X) (i : ℕ) (d : X) (r : Option F)
+    → head ≡ [] → i < length xs → flat_map f (take i (enumerate_from 0 xs)) ≡ [] → r ≡ first (f (i, get_or xs i d)) → is_some r ≡ true
+    → r ≡ first (head ++ flat_map f (enumerate_from 0 xs))
+first_here {X} {F} head f xs i d r none within before is some =
     let all : flat_map f (enumerate_from 0 xs) ≡ f (i, get_or xs i d) ++ flat_map f (drop (i + 1) (enumerate_from 0 xs)) =
     sym (ap (flat_map f) (take-append-drop (i + 1) (enumerate_from 0 xs)))
     ∙ flat_map-append f (take (i + 1) (enumerate_from 0 xs)) (drop (i + 1) (enumerate_from 0 xs))
     ∙ ap (λ l. l ++ flat_map f (drop (i + 1) (enumerate_from 0 xs))) (flat_map_enumerated f xs i d within ∙ ap (λ l. l ++ f (i, get_or xs i d)) before) in
-    is ∙ first_kept (f (i, get_or xs i d)) _ (ap is_some (sym is) ∙ some) ∙ ap first_of (sym all) ∙ ap (λ l. first_of (l ++ flat_map f (enumerate_from 0 xs))) (sym none)
+    is ∙ first_kept (f (i, get_or xs i d)) _ (ap is_some (sym is) ∙ some) ∙ ap first (sym all) ∙ ap (λ (l : List F). first (l ++ flat_map f (enumerate_from 0 xs))) (sym none)
 
 -- there is none, where no item has one
-pub first_nowhere : {X : Type 0} (head : List ExprFault) (f : ℕ × X → List ExprFault) (xs : List X) (n : ℕ)
-    → head ≡ [] → length xs ≤ n → flat_map f (take n (enumerate_from 0 xs)) ≡ [] → None ≡ first_of (head ++ flat_map f (enumerate_from 0 xs))
-first_nowhere head f xs n none all empty =
+pub first_nowhere : {X F : Type 0} (head : List F) (f : ℕ × X → List F) (xs : List X) (n : ℕ)
+    → head ≡ [] → length xs ≤ n → flat_map f (take n (enumerate_from 0 xs)) ≡ [] → None ≡ first (head ++ flat_map f (enumerate_from 0 xs))
+first_nowhere {X} {F} head f xs n none all empty =
     let whole : length (enumerate_from 0 xs) ≤ n = omega (arith, length-enumerate_from 0 xs) in
     let nothing : flat_map f (enumerate_from 0 xs) ≡ [] = sym (ap (flat_map f) (take_all n (enumerate_from 0 xs) whole)) ∙ empty in
-    ap first_of (sym nothing) ∙ ap (λ l. first_of (l ++ flat_map f (enumerate_from 0 xs))) (sym none)
+    ap first (sym nothing) ∙ ap (λ (l : List F). first (l ++ flat_map f (enumerate_from 0 xs))) (sym none)
 
 -- one item more without a fault
-pub none_more : {X : Type 0} (f : ℕ × X → List ExprFault) (xs : List X) (i : ℕ) (d : X) (r : Option ExprFault)
-    → i < length xs → flat_map f (take i (enumerate_from 0 xs)) ≡ [] → r ≡ first_of (f (i, get_or xs i d)) → is_some r ≡ false
+pub none_more : {X F : Type 0} (f : ℕ × X → List F) (xs : List X) (i : ℕ) (d : X) (r : Option F)
+    → i < length xs → flat_map f (take i (enumerate_from 0 xs)) ≡ [] → r ≡ first (f (i, get_or xs i d)) → is_some r ≡ false
     → flat_map f (take (i + 1) (enumerate_from 0 xs)) ≡ []
 none_more f xs i d r within before is none =
     flat_map_enumerated f xs i d within ∙ ap (λ l. l ++ f (i, get_or xs i d)) before ∙ none_first (f (i, get_or xs i d)) (ap is_some (sym is) ∙ none)

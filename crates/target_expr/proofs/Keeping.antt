@@ -27,10 +27,10 @@ where_false false f e = refl
 -- ---- a predicate
 
 -- its values are listed and within the limits
-abbrev is_fine : RawPred → Bool
+abbrev pub is_fine : RawPred → Bool
 is_fine q = not (nat_eq (length q.values) 0) && not (is_too_much q)
 
-not_false : (b : Bool) → b ≡ false → not b ≡ true
+pub not_false : (b : Bool) → b ≡ false → not b ≡ true
 not_false b e = ap not e
 
 pred_fine : (i n : ℕ) (c : List RawPred) (q : RawPred) → pred_faults i c (n, q) ≡ [] → is_fine q ≡ true
@@ -51,11 +51,11 @@ none_long (v ∷ vs) e =
     let parts = or_parts (ltb 255 (length v)) (list_any (λ v. ltb 255 (length v)) vs) e in
     and_from (leb (length v) 255) (list_all (λ v. leb (length v) 255) vs) (le-leb (length v) 255 (ltb-false 255 (length v) parts.0)) (none_long vs parts.1)
 
-some_values : (n : ℕ) → not (nat_eq n 0) ≡ true → 0 < n
+pub some_values : (n : ℕ) → not (nat_eq n 0) ≡ true → 0 < n
 some_values zero e = cc
 some_values (suc n) e = omega arith
 
-fine_kept : (a : Attr) (q : RawPred) → is_fine q ≡ true → is_kept_pred (keep_pred a q) ≡ true
+pub fine_kept : (a : Attr) (q : RawPred) → is_fine q ≡ true → is_kept_pred (keep_pred a q) ≡ true
 fine_kept a q e =
     let vs = q.values in
     let parts = and_parts (not (nat_eq (length vs) 0)) (not (is_too_much q)) e in

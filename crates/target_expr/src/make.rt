@@ -88,8 +88,8 @@ fn find_named(conjunction: &[RawPred], attr: Attr) -> Option<&RawPred>
         .find(|pred| pred.attr.as_bytes() == attr.name())
 }
 
-// The predicate with its values in byte order.
-fn keep_pred(alloc: Global, attr: Attr, pred: &RawPred) -> Result<Pred, AllocError>
+/// The predicate of that attribute, with its values in byte order, each once.
+pub fn keep_pred(alloc: Global, attr: Attr, pred: &RawPred) -> Result<Pred, AllocError>
     ensures { IfOk result (λ p. p ≡ keep_pred attr pred.now) }
 {
     let values = in_order(alloc, pred.values.as_slice())?;

@@ -43,8 +43,8 @@ fn conjunction_holds(conjunction: &[Pred], assignment: &Assignment) -> bool
     true
 }
 
-// Whether the predicate is true. "Not in" is true of an attribute that is absent.
-fn pred_holds(pred: &Pred, assignment: &Assignment) -> bool
+/// Whether the predicate is true under the assignment. "Not in" is true of an attribute that is absent.
+pub fn pred_holds(pred: &Pred, assignment: &Assignment) -> bool
     requires { IsTrue (is_kept_pred pred.now) }
     ensures { result ≡ pred_holds assignment.now pred.now }
 {
