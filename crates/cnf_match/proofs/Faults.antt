@@ -1,11 +1,6 @@
 -- The first of several faults.
-use Rattle.std.proofs.Common.{◌≡◌, ℕ, ◌+◌, ◌<◌, ◌≤◌, List, [], ◌∷◌, ◌++◌, length, take, drop, get_or, Bool, true, false, cond, Option, Some, None, is_some, refl, sym, ◌∙◌, ap, arith, take-append-drop, ltb, nat_eq}
-use Rattle.std.specs.List.{enumerate_from, flat_map}
+use Rattle.std.proofs.Common.{◌≡◌, ℕ, ◌≤◌, List, [], ◌++◌, length, Bool, true, false, cond, Some, None, refl, sym, ◌∙◌, ap, ltb, nat_eq}
 use Rattle.std.proofs.lemmas.Bool.{le-ltb}
-use Rattle.std.proofs.lemmas.List.{take_all}
-use Rattle.std.proofs.lemmas.List.Concat.{flat_map-append}
-use Rattle.std.proofs.lemmas.List.FromFn.{length-enumerate_from}
-use Rattle.target_expr.proofs.Enumerated.{flat_map_enumerated}
 use Rattle.cnf_match.specs.declared.fault.CnfFault.{CnfFault}
 use Rattle.cnf_match.specs.Making.{fault_where, first_of}
 

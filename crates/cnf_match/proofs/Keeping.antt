@@ -1,5 +1,5 @@
 -- What is kept of clauses and weights without a fault.
-use Rattle.std.proofs.Common.{◌≡◌, ℕ, ◌+◌, ◌<◌, ◌≤◌, List, [], ◌∷◌, ◌++◌, ◌||◌, length, get_or, take, map, Bool, true, false, not, cond, Option, Some, None, is_none, option_map, refl, sym, ◌∙◌, ap, arith, zero, suc, ltb, leb, nat_eq}
+use Rattle.std.proofs.Common.{◌≡◌, ℕ, ◌+◌, ◌<◌, ◌≤◌, List, [], ◌∷◌, ◌++◌, ◌||◌, length, get_or, take, map, Bool, true, false, cond, Option, Some, None, is_none, option_map, refl, ◌∙◌, ap, arith, zero, suc, ltb, leb, nat_eq}
 use Rattle.std.specs.List.{list_all, list_any, enumerate_from, flat_map, filter_map, cons_option}
 use Rattle.std.proofs.lemmas.Bool.{and_from, and_parts, or_parts, lt-ltb, ltb-false, ltb-true, le-leb, leb-true}
 use Rattle.std.proofs.lemmas.List.{length-map, length-take-le}
@@ -17,7 +17,7 @@ use Rattle.cnf_match.specs.declared.fault.CnfFault.TheVariants as fault
 use Rattle.cnf_match.specs.declared.weight.RawWeight.{RawWeight}
 use Rattle.cnf_match.specs.declared.weight.Weight.{Weight}
 use Rattle.cnf_match.specs.Conjunctive.{are_kept_clauses, are_kept_weights, is_kept_clause, is_weighed, score_of}
-use Rattle.cnf_match.specs.Making.{clause_faults, clauses_faults, fault_where, is_refused, is_wrong, keep_clause, kept_pred, kept_weight, pred_faults, same_pair, weight_fault, weight_faults}
+use Rattle.cnf_match.specs.Making.{clause_faults, clauses_faults, fault_where, is_refused, is_wrong, keep_clause, kept_weight, pred_faults, same_pair, weight_fault, weight_faults}
 
 where_false : (b : Bool) (f : CnfFault) → fault_where b f ≡ [] → b ≡ false
 where_false true f e = cc
@@ -28,9 +28,10 @@ where_false false f e = refl
 pred_fine : (i n : ℕ) (p : RawPred) → pred_faults i (n, p) ≡ [] → (is_none (attr_named p.attr) ≡ false) × (is_fine p ≡ true)
 pred_fine i n p e =
     let last = both_nil _ (fault_where (is_too_much p) (fault.TooMany i n)) e in
-    let first = both_nil _ (fault_where (nat_eq (length p.values) 0) (fault.EmptyList i n)) last.0 in
-    (where_false _ (fault.UnknownAttr i n) first.0,
-    and_from _ _ (not_false _ (where_false _ (fault.EmptyList i n) first.1)) (not_false _ (where_false _ (fault.TooMany i n) last.1)))
+    let first = both_nil _ (fault_where (nat_eq (length p.values) 0) (fault.EmptyList i n)) last.0 in (
+      where_false _ (fault.UnknownAttr i n) first.0,
+      and_from _ _ (not_false _ (where_false _ (fault.EmptyList i n) first.1)) (not_false _ (where_false _ (fault.TooMany i n) last.1)),
+    )
 
 -- a predicate that has an attribute is kept in front of the others
 kept_in_front : (p : RawPred) (ps : List Pred) (o : Option Attr) → is_none o ≡ false → is_fine p ≡ true → list_all is_kept_pred ps ≡ true

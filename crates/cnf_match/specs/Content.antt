@@ -1,6 +1,6 @@
 -- Which lists stand for a list of expressions (Whang et al. 2009, section 5). The list of expressions that need no
 -- value of any attribute, and that "not in" is true of an absent attribute, are this exchange's own choice.
-use Rattle.std.specs.Prelude.{ℕ, ◌≡◌, ◌≤◌, ◌&&◌, List, [], ◌∷◌, ◌++◌, IsTrue, All, map, length, take, replicate, count_by, Bool, if◌then◌else◌, Option, Some, None}
+use Rattle.std.specs.Prelude.{ℕ, ◌≡◌, ◌≤◌, ◌&&◌, List, ◌++◌, IsTrue, All, map, length, take, replicate, count_by, Bool, if◌then◌else◌, Option, Some, None}
 use Rattle.std.specs.List.{list_all, list_any, enumerate_from, filter_map, flat_map, IsDistinct}
 use Rattle.std.specs.Str.{bytes_eq}
 use Rattle.indexmap.specs.IndexMap.{keys}

@@ -30,8 +30,10 @@ impl CnfExpr {
             Some(fault) => Err(fault),
             None => {
                 let clauses = keep_clauses(alloc, raw.as_slice())?;
-                let (clauses, weights) =
-                    pair_with(clauses, keep_weights(alloc, weights.as_slice()))?;
+                let (clauses, weights) = pair_with(
+                    clauses,
+                    keep_weights(alloc, weights.as_slice()),
+                )?;
                 Ok(CnfExpr::of(clauses, weights))
             }
         }

@@ -1,8 +1,8 @@
-use Rattle.std.proofs.Common.{◌≡◌, ◌++◌, [], map, is_some, refl, sym, ◌∙◌, ap}
+use Rattle.std.proofs.Common.{◌≡◌, [], map, is_some, refl, sym, ◌∙◌, ap}
 use Rattle.std.specs.List.{filter_map}
 use Rattle.rtb_num.proofs.Plain.{both_nil}
 use Rattle.target_expr.proofs.Faults.{none_first}
-use Rattle.cnf_match.specs.Conjunctive.{Cnf, are_kept_clauses, are_kept_weights}
+use Rattle.cnf_match.specs.Conjunctive.{are_kept_clauses, are_kept_weights}
 use Rattle.cnf_match.specs.Making.{clauses_faults, faults, first_of, keep_clause, kept_weight, weight_faults}
 use Rattle.cnf_match.proofs.Keeping.{clauses_kept, weights_kept}
 use Rattle.cnf_match.proofs.expr.CnfExpr.make.Goals as goal
@@ -16,9 +16,10 @@ none c =
 
 kept : (c : goal.In_ok-clauses-in-None-2) → (c.in_ok-clauses-in-None-2.clauses.items ≡ map keep_clause c.args.raw.now) × (c.in_ok-clauses-in-None-2.weights ≡ filter_map kept_weight c.args.weights.now)
 kept c =
-    let pair = c.in_ok-clauses-in-None-2.ensures.made c.in_ok-clauses-in-None.clauses (filter_map kept_weight c.as_slice-in-None-2.result.now) refl c.keep_weights.ensures in
-    (ap (λ p. p.0.items) pair ∙ c.in_ok-clauses-in-None.ensures ∙ ap (map keep_clause) c.as_slice-in-None.ensures,
-    ap (λ p. p.1) pair ∙ ap (filter_map kept_weight) c.as_slice-in-None-2.ensures)
+    let pair = c.in_ok-clauses-in-None-2.ensures.made c.in_ok-clauses-in-None.clauses (filter_map kept_weight c.as_slice-in-None-2.result.now) refl c.keep_weights.ensures in (
+      ap (λ p. p.0.items) pair ∙ c.in_ok-clauses-in-None.ensures ∙ ap (map keep_clause) c.as_slice-in-None.ensures,
+      ap (λ p. p.1) pair ∙ ap (filter_map kept_weight) c.as_slice-in-None-2.ensures,
+    )
 
 pub of-requires-clause-clauses : goal.of-requires-clause-clauses
 of-requires-clause-clauses c =
