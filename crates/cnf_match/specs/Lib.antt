@@ -1,0 +1,4 @@
+pub mod Conjunctive
+pub mod Content
+pub mod Find
+pub mod Making
