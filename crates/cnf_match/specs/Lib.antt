@@ -1,4 +1,2 @@
 pub mod Conjunctive
-pub mod Content
-pub mod Find
 pub mod Making
