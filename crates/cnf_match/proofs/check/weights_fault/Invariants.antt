@@ -1,0 +1,7 @@
+use Rattle.std.proofs.Common.{◌≡◌, [], take}
+use Rattle.std.specs.List.{flat_map, enumerate_from}
+use Rattle.cnf_match.specs.Making.{weight_fault}
+use Rattle.cnf_match.proofs.check.weights_fault.Given as goal
+
+abbrev pub invariant-loop-at : goal.invariant-loop-at
+invariant-loop-at l = flat_map (weight_fault l.weights) (take l.at (enumerate_from 0 l.weights)) ≡ []

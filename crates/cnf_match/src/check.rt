@@ -1,0 +1,162 @@
+ghost use Rattle.std.specs.Prelude.{◌≡◌, ◌≤◌, ◌==◌, is_none, length, nat_lt};
+ghost use Rattle.std.specs.List.{list_any};
+ghost use Rattle.target_expr.specs.Attributes.{attr_named};
+ghost use Rattle.target_expr.specs.Kept.{is_too_much};
+ghost use Rattle.cnf_match.specs.Making.{clause_faults, clauses_faults, faults, first_of, is_refused, is_wrong, pred_faults, same_pair, weight_faults};
+
+use crate::fault::CnfFault;
+use crate::weight::RawWeight;
+use crate::{GREATEST_WEIGHT, MOST_CLAUSES, MOST_WEIGHTS};
+use rtb_num::{List, Txt};
+use target_expr::{LONGEST_VALUE, MOST_PREDICATES, MOST_VALUES, RawPred, attr_named};
+
+// The first fault, in the order of reading.
+pub(crate) fn first_fault(raw: &[List<RawPred>], weights: &[RawWeight]) -> Option<CnfFault>
+    ensures { result ≡ first_of (faults raw.now weights.now) }
+{
+    let fault = clauses_fault(raw);
+    if fault.is_some() {
+        return fault;
+    }
+    weights_fault(weights)
+}
+
+// The first fault of the clauses.
+fn clauses_fault(raw: &[List<RawPred>]) -> Option<CnfFault>
+    ensures { result ≡ first_of (clauses_faults raw.now) }
+{
+    if raw.len() > MOST_CLAUSES {
+        return Some(CnfFault::TooMany {
+            clause: 0,
+            predicate: 0,
+        });
+    }
+    for (i, clause) in raw.iter().enumerate() {
+        let fault = clause_fault(i, clause.as_slice());
+        if fault.is_some() {
+            return fault;
+        }
+    }
+    None
+}
+
+// The first fault of the clause at place `i`.
+fn clause_fault(i: usize, clause: &[RawPred]) -> Option<CnfFault>
+    ensures { result ≡ first_of (clause_faults (i, clause.now)) }
+{
+    if clause.is_empty() {
+        return Some(CnfFault::EmptyClause { clause: i });
+    }
+    if clause.len() > MOST_PREDICATES {
+        return Some(CnfFault::TooMany {
+            clause: i,
+            predicate: 0,
+        });
+    }
+    for (j, pred) in clause.iter().enumerate() {
+        let fault = pred_fault(i, j, pred);
+        if fault.is_some() {
+            return fault;
+        }
+    }
+    None
+}
+
+// The first fault of the predicate, at these places.
+#[tactic(auto, using(crate::proofs::Faults::three_faults))]
+fn pred_fault(i: usize, j: usize, pred: &RawPred) -> Option<CnfFault>
+    ensures { result ≡ first_of (pred_faults i (j, pred.now)) }
+{
+    if is_unknown(&pred.attr) {
+        return Some(CnfFault::UnknownAttr {
+            clause: i,
+            predicate: j,
+        });
+    }
+    if has_no_values(pred) {
+        return Some(CnfFault::EmptyList {
+            clause: i,
+            predicate: j,
+        });
+    }
+    if is_too_much(pred) {
+        return Some(CnfFault::TooMany {
+            clause: i,
+            predicate: j,
+        });
+    }
+    None
+}
+
+// The first fault of the weights.
+fn weights_fault(weights: &[RawWeight]) -> Option<CnfFault>
+    ensures { result ≡ first_of (weight_faults weights.now) }
+{
+    for (at, weight) in weights.iter().enumerate() {
+        if is_wrong(&weights[..at], weight) {
+            return Some(CnfFault::Weight { at });
+        }
+    }
+    None
+}
+
+// Whether behind these the weight is one too many, or refused, or of a pair that was weighed before.
+fn is_wrong(earlier: &[RawWeight], weight: &RawWeight) -> bool
+    ensures { result ≡ is_wrong earlier.now weight.now }
+{
+    earlier.len() == MOST_WEIGHTS || is_refused(weight) || stands_in(earlier, weight)
+}
+
+// Whether it names no attribute, or its value is too long, or it is too great.
+fn is_refused(weight: &RawWeight) -> bool
+    ensures { result ≡ is_refused weight.now }
+{
+    is_unknown(&weight.attr) || is_long(&weight.value) || weight.weight > GREATEST_WEIGHT
+}
+
+// Whether one of the earlier weights is of the same pair.
+fn stands_in(earlier: &[RawWeight], weight: &RawWeight) -> bool
+    ensures { result ≡ list_any (λ v. same_pair v weight.now) earlier.now }
+{
+    earlier.iter().any(|other| is_of_pair(other, weight))
+}
+
+fn is_of_pair(other: &RawWeight, weight: &RawWeight) -> bool
+    ensures { result ≡ same_pair other.now weight.now }
+{
+    other.attr == weight.attr && other.value == weight.value
+}
+
+// Whether no attribute has the name.
+fn is_unknown(name: &Txt) -> bool
+    ensures { result ≡ is_none (attr_named name.now) }
+{
+    attr_named(name.as_bytes()).is_none()
+}
+
+// Whether it lists no value.
+fn has_no_values(pred: &RawPred) -> bool
+    ensures { result ≡ (length pred.now.values == 0) }
+{
+    pred.values.len() == 0
+}
+
+// Whether it has too many values, or one that is too long.
+fn is_too_much(pred: &RawPred) -> bool
+    ensures { result ≡ is_too_much pred.now }
+{
+    pred.values.len() > MOST_VALUES || has_long(pred.values.as_slice())
+}
+
+// Whether a value is too long.
+fn has_long(values: &[Txt]) -> bool
+    ensures { result ≡ list_any (λ v. nat_lt 255 (length v)) values.now }
+{
+    values.iter().any(|value| is_long(value))
+}
+
+fn is_long(value: &Txt) -> bool
+    ensures { result ≡ nat_lt 255 (length value.now) }
+{
+    value.len() > LONGEST_VALUE
+}

@@ -1,0 +1,26 @@
+//! Boolean expressions in conjunctive form (Whang et al., "Indexing Boolean Expressions", VLDB 2009, section 5).
+//!
+//! An expression is a conjunction of clauses, each a disjunction of predicates "attribute in values" and "attribute
+//! not in values", with weights for values of attributes. `specs/Conjunctive.antt` says when it is true and what it
+//! scores, and `specs/Making.antt` what is refused.
+#![tactic(auto)]
+
+mod check;
+mod expr;
+mod fault;
+mod make;
+mod truth;
+mod weight;
+
+pub use expr::CnfExpr;
+pub use fault::CnfFault;
+pub use weight::{RawWeight, Weight};
+
+/// The most clauses of an expression.
+pub const MOST_CLAUSES: usize = 16;
+
+/// The most weights of an expression.
+pub const MOST_WEIGHTS: usize = 64;
+
+/// The greatest weight.
+pub const GREATEST_WEIGHT: u32 = 1_000_000;
