@@ -1,3 +1,14 @@
 pub mod Faults
 pub mod Lists
 pub mod Keeping
+pub mod KeyEq
+pub mod Putting
+pub mod Entering
+pub mod Members
+pub mod Single
+pub mod Built
+pub mod Marks
+pub mod Hits
+pub mod Left
+pub mod Answered
+pub mod Turns

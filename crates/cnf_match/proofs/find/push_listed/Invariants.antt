@@ -1,0 +1,10 @@
+use Rattle.std.proofs.Common.{◌≡◌, ◌≤◌, ◌+◌, ◌++◌, map, take}
+use Rattle.std.specs.List.{filter_map}
+use Rattle.cnf_match.specs.Searching.{number_left}
+use Rattle.cnf_match.proofs.find.push_listed.Given as goal
+
+abbrev pub invariant-loop-entry : goal.invariant-loop-entry
+invariant-loop-entry g l = record {
+  numbers : l.numbers.items ≡ l.fn.numbers.items ++ filter_map (number_left l.left) (map (λ e. e.expression) (take l.entry-index l.list));
+  cost : l.steps ≤ l.fn.steps + l.entry-index;
+}
