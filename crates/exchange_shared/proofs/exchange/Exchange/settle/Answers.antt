@@ -1,0 +1,32 @@
+use Rattle.std.proofs.Common.{◌≡◌, ◌≤◌, ◌+◌, List, refl, sym, ◌∙◌, ap, subst}
+use Rattle.exchange_shared.specs.Seats.{Seat}
+use Rattle.exchange_state.specs.Costs.{settled_cost}
+use Rattle.exchange_state.specs.Tickets.{version_in}
+use Rattle.exchange_state.specs.declared.entries.Entry.{Entry}
+use Rattle.exchange_state.specs.declared.entries.Origin.{Origin}
+use Rattle.exchange_state.specs.Views.{called}
+use Rattle.exchange_shared.proofs.Seats.{gains, still, still_gains, waits, worker_stays}
+use Rattle.exchange_shared.proofs.Histories.{may_settle, snoc_init}
+use Rattle.exchange_shared.proofs.exchange.Exchange.settle.Goals as goal
+
+pub settle-settled-requires-clause-ticket : goal.settle-settled-requires-clause-ticket
+settle-settled-requires-clause-ticket g c = may_settle _ _ _ _ _ _ c.requires.found c.enter-seat.ensures.seat c.enter-seat.ensures.value c.enter-seat.ensures.room
+
+pub leave_called-seat-requires-clause-value : goal.leave_called-seat-requires-clause-value
+leave_called-seat-requires-clause-value g c = (c.in-Ok.ensures.settled c.enter-seat.result.0.origin c.enter-seat.result.0.seen c.enter-seat.result.0.worker c.enter-seat.ensures.value).stands
+
+pub returns-in-Ok-clause-seat : goal.returns-in-Ok-clause-seat
+returns-in-Ok-clause-seat g c =
+    let e : Entry = called c.enter-seat.result.0.worker c.args.command.now c.args.moment c.in-Ok.settled.reply in
+    still_gains _ e c.args.seat c.leave_called-seat.result (worker_stays c.args.seat c.enter-seat.result.0 c.enter-seat.ensures.seat) refl c.requires.seat (gains e c.args.seat c.enter-seat.result.0 c.leave_called-seat.result c.enter-seat.ensures.seat c.leave_called-seat.ensures)
+
+pub returns-in-Ok-clause-cost : goal.returns-in-Ok-clause-cost
+returns-in-Ok-clause-cost g c r l is at =
+    let same : c.enter-seat.result.0.seen ≡ l = snoc_init _ _ _ _ (sym (ap (λ (u : Seat). u.seen) c.leave_called-seat.ensures) ∙ at) in
+    let org : c.enter-seat.result.0.origin ≡ c.args.seat.origin = ap (λ (u : Seat). u.origin) c.enter-seat.ensures.seat.1 in
+    subst (λ (k : List Entry). c.settle-settled.new.steps ≤ c.args.steps.now + settled_cost c.args.seat.origin k (version_in c.args.ticket).edit r) same
+    (subst (λ (o : Origin). c.settle-settled.new.steps ≤ c.args.steps.now + settled_cost o c.enter-seat.result.0.seen (version_in c.args.ticket).edit r) org
+    (c.settle-settled.ensures.cost _ _ r c.enter-seat.ensures.value is))
+
+pub returns-in-Err-clause-seat : goal.returns-in-Err-clause-seat
+returns-in-Err-clause-seat g c = still _ _ _ c.requires.seat (waits _ _ _ c.enter-seat.ensures.seat c.leave.ensures)

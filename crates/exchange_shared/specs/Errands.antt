@@ -1,0 +1,59 @@
+-- Only private clauses cite this file. A seat whose worker has the journal.
+use Rattle.std.specs.Prelude.{◌≡◌, ℕ, ◌≤◌, if◌then◌else◌, not, List, [], ◌∷◌, ◌++◌, All, Bool, true, false, Option, None, Some}
+use Rattle.atomic_table.specs.Seated.{TableId}
+use Rattle.effects.specs.Bytes.{IsEncodable}
+use Rattle.exchange_shared.specs.declared.writing.Look.{Look}
+use Rattle.exchange_shared.specs.declared.writing.Look.TheVariants as look
+use Rattle.exchange_shared.specs.Seats.{Gains, Seat, Waits, Writes, effects_in}
+use Rattle.exchange_state.specs.declared.entries.Entry.{Entry}
+use Rattle.exchange_state.specs.declared.errand.Errand.{Errand}
+use Rattle.exchange_state.specs.Errands.{IsDone, IsErrand, taking_mark}
+use Rattle.exchange_state.specs.Tickets.{effects_after}
+use Rattle.exchange_state.specs.Views.{Taking, calls, faults_told, out, own, put, stable}
+use Rattle.hist_lock.specs.Views.{seat_with}
+use Rattle.journal_file.specs.Standing.{faults_of}
+use Rattle.rtb_base.specs.Faults.{Rose}
+use Rattle.rtb_disk.specs.declared.disk.Disk.{Ghosts}
+
+module _ {D : Type 0} {G : Ghosts D} where
+  -- the mark of taking it
+  abbrev pub taken_by : Seat → Errand D G → Entry
+  taken_by s e = taking_mark s.worker e
+
+  -- and of putting it back
+  abbrev pub put_by : Seat → Errand D G → Bool → Entry
+  put_by s e written = put s.worker written (if written then e.upto else stable s.seen) (faults_of e.journal)
+
+  -- the journal is out with the seat's worker, whose last entry in the list is the mark of that
+  pub record HasErrand (here : TableId) (s : Seat) (e : Errand D G) : Type 0 where
+    pub lock : s.lock ≡ here
+    pub free : s.turn ≡ false
+    pub before : List Entry
+    pub errand : IsErrand s.origin before e
+    pub encodable : All IsEncodable (effects_after s.origin (calls before))
+    pub seen : s.seen ≡ before ++ taken_by s e ∷ []
+
+  -- the seat has the turn, and may put the journal back so
+  pub record MayPutBy (s : Seat) (e : Errand D G) (written : Bool) : Type 0 where
+    pub taking : Taking
+    pub by : taking.worker ≡ s.worker
+    pub done : IsDone s.origin s.seen taking e written
+
+  -- what came of a look at the journal
+  abbrev pub Looks : TableId → ℕ → Seat → Seat → Look D G → Type 0
+  Looks here upto s t look.Durable = Waits s t × (upto ≤ stable t.seen)
+  Looks here upto s t look.Written = Waits s t × (stable t.seen ≡ effects_in t.origin t.seen) × (out t.seen ≡ None)
+  Looks here upto s t look.Out = Waits s t
+  Looks here upto s t (look.Errand e) = HasErrand here t e × Gains (taken_by s e) s t
+
+  -- The journal is home again, with the block written; or the block was not written, and it is broken.
+  abbrev pub PutsBack : Seat → Errand D G → Seat → Type 0
+  PutsBack s e t = (faults : ℕ) × Gains (put s.worker true e.upto faults) s t
+
+  pub record LeavesBroken (s : Seat) (e : Errand D G) (t : Seat) : Type 0 where
+    pub more : List Entry
+    pub others : own s.worker more ≡ []
+    pub durable : ℕ
+    pub faults : ℕ
+    pub same : t ≡ seat_with s ((s.seen ++ more) ++ put s.worker false durable faults ∷ []) false
+    pub rose : Rose (faults_told s.origin (s.seen ++ more)) faults

@@ -1,0 +1,112 @@
+-- What a seat of an exchange knows before and after a call.
+use Rattle.std.specs.Prelude.{◌≡◌, ℕ, ◌+◌, ◌<◌, ◌≤◌, List, [], ◌∷◌, ◌++◌, All, length, Bool, true, false, Option, None, Some, Result, Ok, Err}
+use Rattle.atomic_table.specs.Seated.{TableId}
+use Rattle.std.specs.declared.alloc.AllocError.{AllocError}
+use Rattle.exchange_shared.specs.declared.exchange.Exchange.{Exchange}
+use Rattle.exchange_state.specs.declared.entries.Entry.{Entry}
+use Rattle.exchange_state.specs.declared.entries.Event.{Event}
+use Rattle.exchange_state.specs.declared.entries.Event.TheVariants as event
+use Rattle.exchange_state.specs.declared.entries.Origin.{Origin}
+use Rattle.exchange_state.specs.declared.state.Published.{Published}
+use Rattle.exchange_state.specs.declared.state.Published.TheVariants as answer
+use Rattle.exchange_state.specs.declared.state.Settled.{Settled}
+use Rattle.exchange_state.specs.Tickets.{IsLegalFrom, IsVersionOf, edits_after, effects_after, matches_of}
+use Rattle.exchange_state.specs.Views.{called, calls, failed, faults_told, out, own, published, published_at, put, stable}
+use Rattle.hist_lock.specs.Views.{SeatView, seat_with}
+use Rattle.index_versions.specs.declared.version.Version.{Version}
+use Rattle.plain_exchange.specs.declared.commands.Command.{Command}
+use Rattle.plain_exchange.specs.declared.commands.Command.TheVariants.{Auction}
+use Rattle.rtb_base.specs.Faults.{Rose}
+use Rattle.rtb_disk.specs.declared.disk.Disk.{Ghosts}
+use Rattle.rtb_types.specs.declared.request.BidRequest.{BidRequest}
+
+-- the name of an exchange's lock
+abbrev pub lock_of : {D : Type 0} {G : Ghosts D} → Exchange D G → TableId
+lock_of x = x.lock
+
+-- what contracts see of a seat
+abbrev pub Seat : Type 0
+Seat = SeatView Origin Entry
+
+-- the worker that an entry names
+abbrev pub worker_of : Entry → ℕ
+worker_of e = e.worker
+
+-- how many effects stand in the list
+abbrev pub effects_in : Origin → List Entry → ℕ
+effects_in o l = length (effects_after o (calls l))
+
+-- The seat is this lock's, it has no turn, and its worker does not have the journal.
+pub record MayCall (here : TableId) (s : Seat) : Type 0 where
+  pub lock : s.lock ≡ here
+  pub free : s.turn ≡ false
+  pub no_journal : out (own s.worker s.seen) ≡ None
+
+-- The list of the seat went on, and no entry that came is of its worker.
+pub record Waits (s t : Seat) : Type 0 where
+  pub more : List Entry
+  pub others : own s.worker more ≡ []
+  pub same : t ≡ seat_with s (s.seen ++ more) false
+
+-- The list went on, and its last entry is the one of the seat's worker that came.
+pub record Gains (e : Entry) (s t : Seat) : Type 0 where
+  pub more : List Entry
+  pub others : own s.worker more ≡ []
+  pub same : t ≡ seat_with s ((s.seen ++ more) ++ e ∷ []) false
+
+-- ---- calls
+
+-- The command has its entry, with the reply of the exchange of one thread at that place; and so many effects stand
+-- with it.
+pub record Calls (command : Command) (moment : ℕ) (s t : Seat) (settled : Settled) : Type 0 where
+  pub gains : Gains (called s.worker command moment settled.reply) s t
+  pub legal : IsLegalFrom t.origin (calls t.seen)
+  pub upto : settled.upto ≡ effects_in t.origin t.seen
+
+-- the list that the turn of a call began with
+abbrev pub Settles : Command → ℕ → Seat → Seat → List Entry → Result Settled AllocError → Type 0
+Settles command moment s t l (Ok settled) = t.seen ≡ l ++ called s.worker command moment settled.reply ∷ []
+Settles command moment s t l (Err e) = t.seen ≡ l
+
+-- the version is one of the history that the seat has seen, and this was found in it for the auction
+pub record MayBeSettled (s : Seat) (v : Version) (found : List (List ℕ)) (command : Command) : Type 0 where
+  pub version : IsVersionOf s.origin (calls s.seen) v
+  pub request : BidRequest
+  pub auction : command ≡ Auction request
+  pub found_are : found ≡ matches_of s.origin (calls s.seen) v.edit request
+
+-- ---- versions
+
+-- A newer version was published, of all edits that the seat had seen; or the present one lacks fewer than 2,048 of them.
+abbrev pub Publishes : Seat → Seat → Published → Type 0
+Publishes s t (answer.New edit) = Gains (published_at s.worker edit) s t × (edits_after s.origin (calls s.seen) ≤ edit)
+Publishes s t (answer.Kept edit) = Waits s t × (edit ≡ published t.origin t.seen) × (edits_after s.origin (calls s.seen) < edit + 2048)
+
+-- ---- the journal
+
+-- the mark of a journal that was taken out, or put back with its block written
+abbrev pub IsWriting : Event → Type 0
+IsWriting (event.Called command moment reply) = ⊥
+IsWriting (event.Taken upto again faults) = Unit {0}
+IsWriting (event.Put written durable faults) = written ≡ true
+IsWriting (event.Published edit) = ⊥
+
+abbrev pub IsWritingMark : Entry → Type 0
+IsWritingMark e = IsWriting e.event
+
+-- The list went on, and the seat's worker took the journal and put it back, each block written, as often as it took it.
+pub record Writes (s t : Seat) : Type 0 where
+  pub more : List Entry
+  pub marks : All IsWritingMark (own s.worker more)
+  pub back : out (own s.worker (s.seen ++ more)) ≡ None
+  pub same : t ≡ seat_with s (s.seen ++ more) false
+
+-- The same, and then a call of the disk failed: the last entry is the worker's mark of that, its only failed one. The
+-- count of failed calls rose in it.
+pub record Fails (s t : Seat) : Type 0 where
+  pub more : List Entry
+  pub marks : All IsWritingMark (own s.worker more)
+  pub durable : ℕ
+  pub faults : ℕ
+  pub same : t ≡ seat_with s ((s.seen ++ more) ++ put s.worker false durable faults ∷ []) false
+  pub rose : Rose (faults_told s.origin (s.seen ++ more)) faults

@@ -1,0 +1,96 @@
+//! Versions of the index are built without the turn.
+use crate::exchange::{Exchange, Seat};
+use crate::naming::leave_published;
+use campaign_store::Snapshot;
+use exchange_state::Published;
+use index_versions::{Version, build_next};
+use rtb_base::Steps;
+use rtb_disk::Disk;
+use std::alloc::{AllocError, Global};
+use std::marker::Brand;
+use std::sync::ledger::Ledger;
+use std::sync::{Arc, Wait};
+
+/// A version that is due, or the present one's edit where none is.
+pub enum Due {
+    Version(Snapshot),
+    Kept(u64),
+}
+
+impl<D: Disk> Exchange<D> {
+    ghost use Rattle.std.specs.Prelude.{◌≡◌, ◌≤◌, IfOk, OnErr};
+    ghost use Rattle.std.specs.Arc.{arc_value};
+    ghost use Rattle.exchange_shared.specs.Seats.{MayCall, Publishes, Waits, lock_of};
+    ghost use Rattle.exchange_shared.specs.Versions.{Dues, Published as HasPublished};
+    ghost use Rattle.exchange_state.specs.Tickets.{IsVersionOf, edits_after};
+    ghost use Rattle.exchange_state.specs.Views.{calls};
+
+    /// Publishes a version of the campaigns, where 2,048 edits stand since the present one. The version is built
+    /// without the turn.
+    ///
+    /// One step is one campaign, or one pair of attribute and value in an expression.
+    pub fn republish<R: Wait, L: Ledger>(
+        &self,
+        rt: &R,
+        alloc: Global,
+        seat: Seat<D>,
+        steps: &mut Steps<L>,
+    ) -> (Seat<D>, Result<Published, AllocError>)
+        requires seat { MayCall (lock_of self.now) seat }
+        ensures seat { MayCall (lock_of self.now) result.0 }
+        ensures published { IfOk result.1 (Publishes seat result.0) }
+        ensures none { OnErr result.1 (Waits seat result.0) }
+    {
+        let (seat, due) = self.due(rt, seat);
+        match due {
+            Err(AllocError) => (seat, Err(AllocError)),
+            Ok(Due::Kept(edit)) => (seat, Ok(Published::Kept { edit })),
+            Ok(Due::Version(snapshot)) => {
+                let version = build_next(alloc, &snapshot, steps);
+                drop(snapshot);
+                match version {
+                    Ok(version) => {
+                        let (seat, published) = self.publish(rt, seat, version);
+                        (seat, Ok(published))
+                    }
+                    Err(AllocError) => (seat, Err(AllocError)),
+                }
+            }
+        }
+    }
+
+    // Whether a version is due.
+    fn due<R: Wait>(&self, rt: &R, seat: Seat<D>) -> (Seat<D>, Result<Due, AllocError>)
+        requires seat { MayCall (lock_of self.now) seat }
+        ensures seat { MayCall (lock_of self.now) result.0 × Waits seat result.0 }
+        ensures due { IfOk result.1 (Dues result.0) }
+    {
+        let (seat, turn) = self.lock.enter(rt, seat);
+        let edit = turn.value.edition();
+        let snapshot = turn.value.snapshot();
+        let seat = self.lock.leave(seat, turn);
+        match snapshot {
+            Ok(Some(snapshot)) => (seat, Ok(Due::Version(snapshot))),
+            Ok(None) => (seat, Ok(Due::Kept(edit))),
+            Err(AllocError) => (seat, Err(AllocError)),
+        }
+    }
+
+    // Publishes it, where it is newer.
+    fn publish<R: Wait>(&self, rt: &R, seat: Seat<D>, version: Arc<Version>) -> (Seat<D>, Published)
+        requires seat { MayCall (lock_of self.now) seat }
+        requires version { IsVersionOf seat.origin (calls seat.seen) (arc_value version) }
+        ensures seat { MayCall (lock_of self.now) result.0 }
+        ensures published { HasPublished (arc_value version).edit seat result.0 result.1 }
+    {
+        let (seat, mut turn) = self.lock.enter(rt, seat);
+        let published = turn.value.publish(version);
+        match published {
+            Published::New { edit } => {
+                let seat = leave_published::<D, Brand>(&self.lock, seat, turn, edit);
+                (seat, published)
+            }
+            Published::Kept { edit: _ } => (self.lock.leave(seat, turn), published),
+        }
+    }
+}
