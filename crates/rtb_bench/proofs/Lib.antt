@@ -5,3 +5,5 @@ pub mod Totals
 pub mod Whole
 mod Selling
 mod Valid
+pub mod States
+mod Memory

@@ -3,3 +3,4 @@ pub mod Counts
 pub mod Answer
 pub mod Found
 pub mod Work
+pub mod States

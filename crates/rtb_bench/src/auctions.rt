@@ -4,7 +4,37 @@
 //! What is done each time is all but the socket and the disk: the message is read as a command, the index finds
 //! the campaigns, the auction is prepared and carried out, and the answer is written. There is an auction each
 //! millisecond, and sales are held for a second.
+//!
+//! The exchange is that of one worker and its index, or it is the state that workers share, which has both.
 mod campaigns;
 mod shop;
+mod state_shop;
 
+use campaigns::message_of;
+use http_wire::Message;
+use rtb_num::Txt;
 pub use shop::Shop;
+pub use state_shop::StateShop;
+use std::alloc::{AllocError, Global};
+
+/// An exchange that is asked.
+pub trait Asked {
+    /// The status of the answer to the message, or 0 where it asks for something else than an auction.
+    fn ask(&mut self, alloc: Global, message: &Message) -> Result<u16, AllocError>;
+}
+
+/// Asks the request so many times. The status of the last answer, or 0 where there was none.
+pub fn ask_times<S: Asked>(
+    alloc: Global,
+    shop: &mut S,
+    body: &str,
+    times: u32,
+) -> Result<u16, AllocError> {
+    let body = Txt::from_slice(alloc, body.as_bytes())?;
+    let message = message_of(alloc, b"/openrtb2/auction", body)?;
+    let mut status = 0;
+    for _ in 0..times {
+        status = shop.ask(alloc, &message)?;
+    }
+    Ok(status)
+}

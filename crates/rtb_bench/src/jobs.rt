@@ -1,9 +1,10 @@
 //! The jobs. Each answers how it ended.
 use crate::appends::{Outcome, append_blocks};
+use crate::auctions::{Asked, Shop, StateShop, ask_times};
 use crate::cases::NamedWork;
 use crate::messages::Piece;
 use crate::named_work::bench_run;
-use crate::{auctions, book, messages, turns};
+use crate::{book, messages, turns};
 use case_lines::run_cases;
 use rtb_disk::FileDisk;
 use rtb_io::{ReadFault, Status, read_all};
@@ -51,6 +52,9 @@ fn run<T: Threads + Wait + Sync>(rt: &HostRuntime, threads: &T, job: &[Txt]) -> 
     }
     if name == b"auctions".as_slice() {
         return run_auctions(rt, words);
+    }
+    if name == b"settle".as_slice() {
+        return run_settle(rt, words);
     }
     if let Some(piece) = Piece::from_word(name) {
         return run_messages(rt, piece, words);
@@ -185,7 +189,21 @@ fn run_auctions(rt: &HostRuntime, words: &[Txt]) -> io::Result<Status> {
     let Some((campaigns, count)) = two_numbers(words) else {
         return Ok(Status::Usage);
     };
-    match auctions::Shop::open(rt.alloc(), campaigns) {
+    match Shop::open(rt.alloc(), campaigns) {
+        Ok(mut shop) => {
+            let told = ask_all(rt, &mut shop, count);
+            drop(shop);
+            told
+        }
+        Err(AllocError) => Ok(Status::Memory),
+    }
+}
+
+fn run_settle(rt: &HostRuntime, words: &[Txt]) -> io::Result<Status> {
+    let Some((campaigns, count)) = two_numbers(words) else {
+        return Ok(Status::Usage);
+    };
+    match StateShop::open(rt.alloc(), campaigns) {
         Ok(mut shop) => {
             let told = ask_all(rt, &mut shop, count);
             drop(shop);
@@ -196,13 +214,13 @@ fn run_auctions(rt: &HostRuntime, words: &[Txt]) -> io::Result<Status> {
 }
 
 // Asks the request of each line so many times, and prints the status of the last answer and that number.
-fn ask_all(rt: &HostRuntime, shop: &mut auctions::Shop, count: u32) -> io::Result<Status> {
+fn ask_all<S: Asked>(rt: &HostRuntime, shop: &mut S, count: u32) -> io::Result<Status> {
     for line in rt.lines(rt.alloc()) {
         let line = line?;
         if line.is_empty() {
             return Ok(Status::Done);
         }
-        let Ok(status) = shop.ask_times(rt.alloc(), line.as_str(), count) else {
+        let Ok(status) = ask_times(rt.alloc(), shop, line.as_str(), count) else {
             return Ok(Status::Memory);
         };
         println!(rt; "{status} {count}")?;

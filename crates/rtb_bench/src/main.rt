@@ -14,6 +14,8 @@
 //!   a step (`book.rt`), up to an empty line;
 //! - `auctions CAMPAIGNS COUNT`: an exchange with so many campaigns, where each line of standard input is a bid
 //!   request that is asked so many times (`auctions.rt`), up to an empty line;
+//! - `settle CAMPAIGNS COUNT`: the same with the state that workers share, by one worker: a look at the version, a
+//!   find, and a sale of what was found;
 //! - `message N SIZE`, and `head` and `link` with the same words: work on a message, so many bytes of standard
 //!   input, done so many times (`messages.rt`).
 //!

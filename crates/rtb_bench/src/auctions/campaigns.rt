@@ -8,8 +8,8 @@ use http_wire::Message;
 use rtb_num::Txt;
 use std::alloc::{AllocError, Global};
 
-// How long a sale is held, in milliseconds.
-const TTL: u64 = 1_000;
+/// How long a sale is held, in milliseconds.
+pub const TTL: u64 = 1_000;
 
 // So many edits no bench comes to.
 const MOST_EDITS: u64 = 9_223_372_036_854_775_808;
@@ -31,10 +31,20 @@ pub fn exchange_of(alloc: Global, campaigns: u32) -> Result<Core, AllocError> {
 
 fn post_all(alloc: Global, core: &mut Core, campaigns: u32) -> Result<(), AllocError> {
     for i in 0..campaigns {
-        let message = campaign_message(alloc, i)?;
-        post(alloc, core, &message)?;
+        let command = campaign_command(alloc, i)?;
+        let carried = carry_out(alloc, core, &command);
+        drop(command);
+        carried?;
     }
     Ok(())
+}
+
+/// The command that adds campaign i.
+pub fn campaign_command(alloc: Global, i: u32) -> Result<Command, AllocError> {
+    let message = campaign_message(alloc, i)?;
+    let command = read_command(alloc, &message);
+    drop(message);
+    command.ok().ok_or(AllocError)
 }
 
 /// A message to the exchange.
@@ -56,17 +66,6 @@ fn campaign_message(alloc: Global, i: u32) -> Result<Message, AllocError> {
         "{{\"seat\":\"s{i}\",\"adomain\":\"ad{i}.example\",\"secure\":1,\"bid\":0.{cents},\"budget\":1000000,\"adm\":\"ad {i}\",\"crid\":\"cr{i}\",\"target\":[[{{\"attr\":\"domain\",\"in\":[\"site{site}.example\"]}}]]}}"
     )?;
     message_of(alloc, b"/campaign", Txt::from_vec(body.into_bytes()))
-}
-
-fn post(alloc: Global, core: &mut Core, message: &Message) -> Result<(), AllocError> {
-    match read_command(alloc, message).ok() {
-        Some(command) => {
-            let carried = carry_out(alloc, core, &command);
-            drop(command);
-            carried
-        }
-        None => Err(AllocError),
-    }
 }
 
 fn carry_out(alloc: Global, core: &mut Core, command: &Command) -> Result<(), AllocError> {

@@ -8,7 +8,8 @@ ghost use Rattle.plain_exchange.specs.State.{State};
 ghost use Rattle.plain_exchange.specs.declared.commands.Command.TheVariants as asked;
 ghost use Rattle.rtb_types.specs.declared.request.BidRequest.{BidRequest as Asked};
 
-use super::campaigns::{exchange_of, has_few_edits, message_of};
+use super::Asked;
+use super::campaigns::{exchange_of, has_few_edits};
 use auction_core::{Command, Core, Reply};
 use command_read::{CommandFault, read_command};
 use conj_index::Index;
@@ -22,8 +23,8 @@ use std::alloc::{AllocError, Global};
 use std::marker::{Brand, Model};
 use std::sync::ledger::{Blank, Ledger};
 
-// What stands in front of the addresses of notices.
-const PUBLIC: &[u8] = b"http://ads.example";
+/// What stands in front of the addresses of notices.
+pub const PUBLIC: &[u8] = b"http://ads.example";
 
 /// An exchange and the index of its live campaigns.
 #[derive(Drop)]
@@ -47,32 +48,7 @@ impl Model for Shop {
     ghost invariant = { λ s. IsIndexOf (live_expressions (listed s.core.state)) s.index };
 }
 
-impl Shop {
-    /// The exchange with so many campaigns.
-    pub fn open(alloc: Global, campaigns: u32) -> Result<Shop, AllocError> {
-        let core = exchange_of(alloc, campaigns)?;
-        let index = index_of::<Brand>(alloc, &core, Blank::new(1))?;
-        let public = Txt::from_slice(alloc, PUBLIC)?;
-        Ok(Shop {
-            core,
-            index,
-            public,
-            moment: 0,
-        })
-    }
-
-    /// Asks the request so many times. The status of the last answer, or 0 where there was none.
-    pub fn ask_times(&mut self, alloc: Global, body: &str, times: u32) -> Result<u16, AllocError> {
-        let body = Txt::from_slice(alloc, body.as_bytes())?;
-        let message = message_of(alloc, b"/openrtb2/auction", body)?;
-        let mut status = 0;
-        for _ in 0..times {
-            status = self.ask(alloc, &message)?;
-        }
-        Ok(status)
-    }
-
-    // The status of the answer to the message.
+impl Asked for Shop {
     #[tactic(auto, using(crate::proofs::Valid::valid_as_read))]
     fn ask(&mut self, alloc: Global, message: &Message) -> Result<u16, AllocError> {
         match read_command(alloc, message) {
@@ -87,6 +63,21 @@ impl Shop {
                 status
             }
         }
+    }
+}
+
+impl Shop {
+    /// The exchange with so many campaigns.
+    pub fn open(alloc: Global, campaigns: u32) -> Result<Shop, AllocError> {
+        let core = exchange_of(alloc, campaigns)?;
+        let index = index_of::<Brand>(alloc, &core, Blank::new(1))?;
+        let public = Txt::from_slice(alloc, PUBLIC)?;
+        Ok(Shop {
+            core,
+            index,
+            public,
+            moment: 0,
+        })
     }
 
     fn answer(&mut self, alloc: Global, command: &Command) -> Result<u16, AllocError>
@@ -129,7 +120,8 @@ impl Shop {
     }
 }
 
-fn status_of(fault: &CommandFault) -> Result<u16, AllocError> {
+/// The status of a message that no command is read of.
+pub fn status_of(fault: &CommandFault) -> Result<u16, AllocError> {
     match fault {
         CommandFault::Refused { refusal } => Ok(refusal.status),
         CommandFault::Memory => Err(AllocError),
