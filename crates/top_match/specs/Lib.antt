@@ -1,0 +1,4 @@
+pub mod Certificate
+pub mod Checking
+pub mod Choosing
+pub mod Top
