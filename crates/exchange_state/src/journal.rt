@@ -12,7 +12,7 @@ impl<D: Disk> ExchangeState<D> {
     ghost use Rattle.std.specs.Prelude.{◌≡◌, ◌++◌, ◌∷◌, [], ℕ, List as AList, None, Some, true};
     ghost use Rattle.exchange_state.specs.Errands.{IsDone, IsTaken, putting_mark, taking_marks};
     ghost use Rattle.exchange_state.specs.Settling.{IsHome, MayPut};
-    ghost use Rattle.exchange_state.specs.Standing.{SaysFront, StandsFor};
+    ghost use Rattle.exchange_state.specs.Standing.{SaysFront, StandsFor, store_in};
     ghost use Rattle.exchange_state.specs.Views.{Taking, faults_told};
     ghost use Rattle.exchange_state.specs.declared.entries.Entry.{Entry as AnEntry};
     ghost use Rattle.exchange_state.specs.declared.entries.Origin.{Origin as AnOrigin};
@@ -102,6 +102,7 @@ impl<D: Disk> ExchangeState<D> {
         requires home { IsHome self }
         ensures images { (o : AnOrigin) (l : AList AnEntry) → StandsFor o self l → o.told ≡ true → EachImage (SaysFront o l) (D.store result).now }
         ensures faults { (o : AnOrigin) (l : AList AnEntry) → StandsFor o self l → D.faults result ≡ faults_told o l }
+        ensures same { D.store result ≡ store_in self }
     {
         let ExchangeState {
             alloc: _,

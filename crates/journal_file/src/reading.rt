@@ -50,6 +50,7 @@ impl<D: Disk> Reading<D> {
         ensures start { (D.store disk).told ≡ true → IsStart (D.store disk).reads result }
         ensures intact { IfOk result HasNotFailed }
         ensures synced { (D.store disk).told ≡ true → MatchResult result (λ r. store_read r ≡ settled (D.store disk)) (λ e. (D.store e.0 ≡ D.store disk) ⊎ (D.store e.0 ≡ settled (D.store disk))) }
+        ensures told { IfOk result (λ r. (store_read r).told ≡ (D.store disk).told) }
         ensures cause { MatchResult result (λ r. faults_read r ≡ D.faults disk) (λ e. RisesOnlyWhere (e.1 ≡ JournalFault.DiskFailed) (D.faults disk) (D.faults e.0)) }
     {
         let mut disk = disk;
