@@ -2,7 +2,7 @@
 use Rattle.std.proofs.Common.{◌≡◌, ◌≢◌, ◌⊎◌, inl, inr, sym, ℕ, ◌<◌, List, [], ◌∷◌, ◌++◌, length, ap, ◌∙◌, append_assoc, refl, arith}
 use Rattle.rtb_io.specs.Statuses.{code_of}
 use Rattle.rtb_io.specs.declared.status.Status.{Status}
-use Rattle.rtb_io.specs.declared.status.Status.TheVariants.{Done, Refused, Usage, NoDoor, NoDisk, JournalFailed, Damaged, NotWritten, DoorFailed, Memory, NotRead}
+use Rattle.rtb_io.specs.declared.status.Status.TheVariants.{Done, Refused, Usage, NoDoor, NoDisk, JournalFailed, Damaged, NotWritten, DoorFailed, Memory, NotRead, LastWriteFailed, NotEmpty, WriteFailed, TraceTorn, TraceTooLong}
 
 pub not_written : (s : Status) → code_of s ≡ code_of NotWritten → s ≡ NotWritten
 not_written Done e = cc
@@ -16,6 +16,11 @@ not_written Damaged e = cc
 not_written DoorFailed e = cc
 not_written Memory e = cc
 not_written NotRead e = cc
+not_written LastWriteFailed e = cc
+not_written NotEmpty e = cc
+not_written WriteFailed e = cc
+not_written TraceTorn e = cc
+not_written TraceTooLong e = cc
 
 pub in_four : (o a b c d : List ℕ) → (((o ++ a) ++ b) ++ c) ++ d ≡ o ++ (((a ++ b) ++ c) ++ d)
 in_four o a b c d =
@@ -37,6 +42,11 @@ usage Damaged e = cc
 usage DoorFailed e = cc
 usage Memory e = cc
 usage NotRead e = cc
+usage LastWriteFailed e = cc
+usage NotEmpty e = cc
+usage WriteFailed e = cc
+usage TraceTorn e = cc
+usage TraceTooLong e = cc
 
 pub not_read : (s : Status) → code_of s ≡ code_of NotRead → s ≡ NotRead
 not_read Done e = cc
@@ -50,6 +60,11 @@ not_read Damaged e = cc
 not_read DoorFailed e = cc
 not_read Memory e = cc
 not_read NotRead e = refl
+not_read LastWriteFailed e = cc
+not_read NotEmpty e = cc
+not_read WriteFailed e = cc
+not_read TraceTorn e = cc
+not_read TraceTooLong e = cc
 
 -- a reply is neither
 pub no_usage : (s t : Status) → (t ≡ Done) ⊎ (t ≡ Refused) → s ≡ t → s ≡ Usage → ⊥

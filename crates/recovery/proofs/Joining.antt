@@ -4,7 +4,7 @@ use Rattle.std.specs.List.{flat_map}
 use Rattle.std.specs.Prelude.{Ok, option_and_then}
 use Rattle.std.proofs.lemmas.List.{append-nil, drop_more, map-append, take_more}
 use Rattle.std.proofs.lemmas.List.Concat.{flat_map-append}
-use Rattle.std.proofs.lemmas.List.Elements.{All-nil, All-push}
+use Rattle.std.proofs.lemmas.List.Elements.{All-append, All-nil, All-push}
 use Rattle.std.proofs.lemmas.List.Sums.{sum_by-append, sum_by_more}
 use Rattle.effects.specs.Bytes.{IsDecoded, IsEncodable, effects_bytes}
 use Rattle.plain_exchange.specs.declared.changes.Effect.{Effect}
@@ -59,13 +59,14 @@ edits_so_far effects i e first before now lt is a b =
 
 -- ---- what some effects lead to
 
-pub led_more : (es : List Effect) (old new : CoreState) → all_applied es old.state ≡ Some new.state → new.edits ≡ old.edits + edits es → (old.edits ≤ 2 ^ 61 → new.edits ≤ 2 ^ 61) → IsLed old → IsLed new
-led_more es old new after more few led = record {
+pub led_more : (es : List Effect) (old new : CoreState) → All IsEncodable es → all_applied es old.state ≡ Some new.state → new.edits ≡ old.edits + edits es → (old.edits ≤ 2 ^ 61 → new.edits ≤ 2 ^ 61) → IsLed old → IsLed new
+led_more es old new each after more few led = record {
   effects = led.effects ++ es;
+  encodable = All-append IsEncodable led.effects es led.encodable each;
   leads = leads_more led.effects es old.state new.state led.leads after;
   edits_are = more ∙ ap (λ n. n + edits es) led.edits_are ∙ sym (edits_more led.effects es);
   few = few led.few;
 }
 
 pub led_empty : (core : CoreState) → core.state ≡ empty → core.edits ≡ 0 → IsLed core
-led_empty core state none = record { effects = []; leads = ap (λ (s : State). Some s) (sym state); edits_are = none; few = omega (arith, none) }
+led_empty core state none = record { effects = []; encodable = All-nil IsEncodable; leads = ap (λ (s : State). Some s) (sym state); edits_are = none; few = omega (arith, none) }

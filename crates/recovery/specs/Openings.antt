@@ -1,6 +1,7 @@
 -- What comes of opening a journal.
-use Rattle.std.specs.Prelude.{◌≡◌, ◌⊎◌, ℕ, ◌≤◌, ◌^◌, List, [], ◌++◌, true, Some, Result, Ok, Err}
+use Rattle.std.specs.Prelude.{◌≡◌, ◌⊎◌, ℕ, ◌≤◌, ◌^◌, List, [], ◌++◌, All, true, Some, Result, Ok, Err}
 use Rattle.auction_core.specs.Core.{CoreState}
+use Rattle.effects.specs.Bytes.{IsEncodable}
 use Rattle.journal_file.specs.Blocks.{StandsFor, journal_names}
 use Rattle.journal_file.specs.Standing.{Keeps}
 use Rattle.journal_file.specs.declared.journal.Journal.{Journal}
@@ -44,9 +45,10 @@ pub record IsMadeBy (AreSuch : List (List ℕ) → Type 0) (core : CoreState) : 
   pub leads : state_of effects ≡ Some core.state
   pub edits_are : core.edits ≡ edits effects
 
--- effects lead to the exchange, and they are not too many edits
+-- effects that can be encoded lead to the exchange, and they are not too many edits
 pub record IsLed (core : CoreState) : Type 0 where
   pub effects : List Effect
+  pub encodable : All IsEncodable effects
   pub leads : state_of effects ≡ Some core.state
   pub edits_are : core.edits ≡ edits effects
   pub few : core.edits ≤ 2 ^ 61

@@ -26,6 +26,16 @@ pub enum Status {
     Memory,
     /// The source failed.
     NotRead,
+    /// The journal's disk failed as the last effects were written.
+    LastWriteFailed,
+    /// A file that is to be written holds something else.
+    NotEmpty,
+    /// The disk of a file that is to be written failed.
+    WriteFailed,
+    /// A trace ends inside an entry.
+    TraceTorn,
+    /// A trace has more entries than may be.
+    TraceTooLong,
 }
 
 impl Status {
@@ -45,6 +55,11 @@ impl Status {
             Status::DoorFailed => 8,
             Status::Memory => 9,
             Status::NotRead => 10,
+            Status::LastWriteFailed => 11,
+            Status::NotEmpty => 12,
+            Status::WriteFailed => 13,
+            Status::TraceTorn => 14,
+            Status::TraceTooLong => 15,
         }
     }
 }

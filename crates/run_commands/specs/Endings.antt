@@ -15,6 +15,10 @@ line_of status.JournalFailed = codes "rtbx: journal failed\n"
 line_of status.DoorFailed = codes "rtbx: accept failed\n"
 line_of status.Memory = codes "rtbx: memory\n"
 line_of status.NotRead = codes "rtbx: input failed\n"
+line_of status.LastWriteFailed = codes "rtbx: last write failed\n"
+line_of status.NotEmpty = codes "rtbx: not empty\n"
+line_of status.WriteFailed = codes "rtbx: write failed\n"
+line_of status.TraceTooLong = codes "rtbx: trace too long\n"
 line_of _ = []
 
 -- the line of a journal that is damaged at the place

@@ -31,7 +31,15 @@ fn line(status: Status) -> &'static [u8]
         Status::DoorFailed => b"rtbx: accept failed\n",
         Status::Memory => b"rtbx: memory\n",
         Status::NotRead => b"rtbx: input failed\n",
-        Status::Done | Status::Refused | Status::Damaged | Status::NotWritten => b"",
+        Status::LastWriteFailed => b"rtbx: last write failed\n",
+        Status::NotEmpty => b"rtbx: not empty\n",
+        Status::WriteFailed => b"rtbx: write failed\n",
+        Status::TraceTooLong => b"rtbx: trace too long\n",
+        Status::Done
+        | Status::Refused
+        | Status::Damaged
+        | Status::NotWritten
+        | Status::TraceTorn => b"",
     }
 }
 
