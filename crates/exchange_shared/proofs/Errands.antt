@@ -1,5 +1,5 @@
 -- Errands of the journal, while the list goes on.
-use Rattle.std.proofs.Common.{◌≡◌, ℕ, Bool, true, false, not, List, [], ◌∷◌, ◌++◌, All, refl, sym, ◌∙◌, ap, subst, append_assoc, arith, Option, Some, None, Result, Ok, Err, OnOk, OnErr, MatchResult}
+use Rattle.std.proofs.Common.{◌≡◌, ◌≤◌, ℕ, Bool, true, false, not, List, [], ◌∷◌, ◌++◌, All, refl, sym, ◌∙◌, ap, subst, append_assoc, arith, Option, Some, None, Result, Ok, Err, OnOk, OnErr, MatchResult}
 use Rattle.std.specs.Prelude.{fold}
 use Rattle.std.specs.Result.{is_ok}
 use Rattle.std.proofs.lemmas.List.{append-nil}
@@ -8,7 +8,7 @@ use Rattle.std.proofs.lemmas.List.Elements.{All-append, All-cons, All-nil}
 use Rattle.atomic_table.specs.Seated.{TableId}
 use Rattle.hist_lock.specs.Views.{Enters, seat_with}
 use Rattle.exchange_shared.specs.Errands.{HasErrand, LeavesBroken, MayPutBy, PutsBack, put_by, taken_by}
-use Rattle.exchange_shared.specs.Seats.{Fails, Gains, IsWritingMark, MayCall, Seat, Waits, Writes, worker_of}
+use Rattle.exchange_shared.specs.Seats.{Fails, Gains, IsOrdered, IsWritingMark, MayCall, Seat, Waits, Writes, worker_of}
 use Rattle.exchange_shared.proofs.Seats.{gains, out_then, own_append, own_gains, own_others, still, worker_stays}
 use Rattle.exchange_state.specs.declared.entries.Entry.{Entry}
 use Rattle.exchange_state.specs.declared.entries.Origin.{Origin}
@@ -17,9 +17,10 @@ use Rattle.exchange_state.specs.declared.state.ExchangeState.{ExchangeState}
 use Rattle.exchange_state.specs.Errands.{IsDone, IsTried, Starts, taking_marks}
 use Rattle.exchange_state.specs.declared.errand.Taken.{Taken}
 use Rattle.exchange_state.specs.Standing.{StandsFor}
-use Rattle.exchange_state.specs.Views.{AreInTurn, Taking, faults_of as faults_in, faults_told, out, out_of, own, put, stable, told_or}
+use Rattle.exchange_state.specs.Views.{AreInTurn, IsRising, Taking, faults_of as faults_in, faults_told, out, out_of, own, put, stable, told_or}
 use Rattle.exchange_state.proofs.Later.{done}
 use Rattle.exchange_state.proofs.Owning.{quiet}
+use Rattle.exchange_state.proofs.Rising.{faults_later, rising_front}
 use Rattle.journal_file.specs.Standing.{Broken, Keeps, faults_of, is_broken}
 use Rattle.journal_file.specs.Blocks.{journal_names}
 use Rattle.journal_file.specs.declared.journal.Journal.{Journal}
@@ -32,6 +33,13 @@ turn_behind has (x ∷ l) e more a = turn_behind (told_or out_of has x) l e more
 
 joined : (s m1 T m2 P : List Entry) → (((s ++ m1) ++ T) ++ m2) ++ P ≡ s ++ (((m1 ++ T) ++ m2) ++ P)
 joined s m1 T m2 P = ap (λ k. (k ++ m2) ++ P) (append_assoc s m1 T) ∙ ap (λ k. k ++ P) (append_assoc s (m1 ++ T) m2) ∙ append_assoc s ((m1 ++ T) ++ m2) P
+
+-- the count of failed calls rose above what was told earlier too
+rose_less : (a b n : ℕ) → a ≤ b → Rose b n → Rose a n
+rose_less a b n le rose = omega (arith, le, rose)
+
+rose_since : (o : Origin) (l more : List Entry) (e : Entry) (n : ℕ) → IsRising o ((l ++ more) ++ e ∷ []) → Rose (faults_told o (l ++ more)) n → Rose (faults_told o l) n
+rose_since o l more e n r rose = rose_less (faults_told o l) (faults_told o (l ++ more)) n (faults_later o l more (rising_front o (l ++ more) (e ∷ []) r)) rose
 
 module _ {D : Type 0} {G : Ghosts D} where
   abbrev taking_of : Seat → Errand D G → Taking
@@ -114,6 +122,7 @@ module _ {D : Type 0} {G : Ghosts D} where
         faults = faults_of new.journal;
         same = left ∙ ap (λ (y : Seat). seat_with y (y.seen ++ put_by u new written ∷ []) false) en.1
             ∙ ap (λ k. seat_with s ((s.seen ++ en.0) ++ k ∷ []) false) (ap (λ b. put_by u new b) is ∙ ap (λ n. put n false (stable u.seen) (faults_of new.journal)) (worker_stays s u en));
+        told = told_since here s u e x h en stands;
         rose = subst (λ n. Rose n (faults_of new.journal)) (sym (told_since here s u e x h en stands)) (tried.rose is);
       }
 
@@ -139,25 +148,35 @@ module _ {D : Type 0} {G : Ghosts D} where
       two : All IsWritingMark (taken_by t e ∷ put t.worker true e.upto faults ∷ [])
       two = All-cons IsWritingMark (taken_by t e) (put t.worker true e.upto faults ∷ []) tt (All-cons IsWritingMark (put t.worker true e.upto faults) [] refl (All-nil IsWritingMark))
 
-  pub fails_errand : (t u v : Seat) (e : Errand D G) → Gains (taken_by t e) t u → LeavesBroken u e v → Fails t v
-  fails_errand t u v e a b =
+  pub fails_errand : (t u v : Seat) (e : Errand D G) → IsRising v.origin v.seen → Gains (taken_by t e) t u → LeavesBroken u e v → Fails t v
+  fails_errand t u v e rising a b =
       let w = t.worker in
       let tk = taken_by t e in
+      let more : List Entry = (a.more ++ tk ∷ []) ++ b.more in
+      let failed : Entry = put w false b.durable b.faults in
       let same_worker : u.worker ≡ w = ap (λ (y : Seat). y.worker) a.same in
+      let same_origin : u.origin ≡ t.origin = ap (λ (y : Seat). y.origin) a.same in
       let others : own w b.more ≡ [] = subst (λ n. own n b.more ≡ []) same_worker b.others in
-      let mine : own w ((a.more ++ tk ∷ []) ++ b.more) ≡ tk ∷ [] =
-      own_others w (a.more ++ tk ∷ []) b.more others ∙ own_gains w [] a.more tk a.others refl in
-      let along : (u.seen ++ b.more) ≡ t.seen ++ ((a.more ++ tk ∷ []) ++ b.more) =
-      ap (λ (y : Seat). y.seen ++ b.more) a.same ∙ ap (λ k. k ++ b.more) (append_assoc t.seen a.more (tk ∷ [])) ∙ append_assoc t.seen (a.more ++ tk ∷ []) b.more in
+      let mine : own w more ≡ tk ∷ [] = own_others w (a.more ++ tk ∷ []) b.more others ∙ own_gains w [] a.more tk a.others refl in
+      let behind : ((t.seen ++ a.more) ++ tk ∷ []) ++ b.more ≡ t.seen ++ more = ap (λ k. k ++ b.more) (append_assoc t.seen a.more (tk ∷ [])) ∙ append_assoc t.seen (a.more ++ tk ∷ []) b.more in
+      let along : u.seen ++ b.more ≡ t.seen ++ more = ap (λ (y : Seat). y.seen ++ b.more) a.same ∙ behind in
+      let same : v ≡ seat_with t ((t.seen ++ more) ++ failed ∷ []) false =
+      b.same ∙ ap (λ (y : Seat). seat_with y ((y.seen ++ b.more) ++ put y.worker false b.durable b.faults ∷ []) false) a.same
+      ∙ ap (λ k. seat_with t (k ++ failed ∷ []) false) behind in
+      let rose : Rose (faults_told t.origin (t.seen ++ more)) b.faults =
+      subst (λ (o : Origin). Rose (faults_told o (t.seen ++ more)) b.faults) same_origin (subst (λ (l : List Entry). Rose (faults_told u.origin l) b.faults) along b.rose) in
       record {
-        more = (a.more ++ tk ∷ []) ++ b.more;
+        more = more;
         marks = subst (All IsWritingMark) (sym mine) one;
+        taking = taking_of t e;
+        has = ap out (own_append w t.seen more ∙ ap (λ k. own w t.seen ++ k) mine) ∙ out_then (own w t.seen) tk;
+        told = subst (λ (o : Origin). faults_told o (t.seen ++ more) ≡ faults_of e.journal) same_origin
+            (subst (λ (l : List Entry). faults_told u.origin l ≡ faults_of e.journal) along b.told);
         durable = b.durable;
         faults = b.faults;
-        same = b.same ∙ ap (λ (y : Seat). seat_with y ((y.seen ++ b.more) ++ put y.worker false b.durable b.faults ∷ []) false) a.same
-            ∙ ap (λ k. seat_with t (k ++ put w false b.durable b.faults ∷ []) false) (ap (λ k. k ++ b.more) (append_assoc t.seen a.more (tk ∷ [])) ∙ append_assoc t.seen (a.more ++ tk ∷ []) b.more);
-        rose = subst (λ (o : Origin). Rose (faults_told o (t.seen ++ ((a.more ++ tk ∷ []) ++ b.more))) b.faults) (ap (λ (y : Seat). y.origin) a.same)
-            (subst (λ (l : List Entry). Rose (faults_told u.origin l) b.faults) along b.rose);
+        same = same;
+        rose = rose;
+        rose_in_call = rose_since t.origin t.seen more failed b.faults (subst (λ (y : Seat). IsRising y.origin y.seen) same rising) rose;
       }
     where
       one : All IsWritingMark (taken_by t e ∷ [])
@@ -189,17 +208,28 @@ writes_on s t u a b =
       same = b.same ∙ ap (λ (y : Seat). seat_with y (y.seen ++ b.more) false) a.same ∙ ap (λ k. seat_with s k false) (append_assoc s.seen a.more b.more);
     }
 
-pub fails_on : (s t u : Seat) → Writes s t → Fails t u → Fails s u
-fails_on s t u a b =
+pub fails_on : (s t u : Seat) → IsRising u.origin u.seen → Writes s t → Fails t u → Fails s u
+fails_on s t u rising a b =
     let same_worker : t.worker ≡ s.worker = ap (λ (y : Seat). y.worker) a.same in
+    let more : List Entry = a.more ++ b.more in
+    let failed : Entry = put s.worker false b.durable b.faults in
+    let behind : (s.seen ++ a.more) ++ b.more ≡ s.seen ++ more = append_assoc s.seen a.more b.more in
+    let same : u ≡ seat_with s ((s.seen ++ more) ++ failed ∷ []) false =
+    b.same ∙ ap (λ (y : Seat). seat_with y ((y.seen ++ b.more) ++ put y.worker false b.durable b.faults ∷ []) false) a.same
+    ∙ ap (λ k. seat_with s (k ++ failed ∷ []) false) behind in
+    let rose : Rose (faults_told s.origin (s.seen ++ more)) b.faults =
+    subst (λ (l : List Entry). Rose (faults_told s.origin l) b.faults) behind (subst (λ (y : Seat). Rose (faults_told y.origin (y.seen ++ b.more)) b.faults) a.same b.rose) in
     record {
-      more = a.more ++ b.more;
+      more = more;
       marks = subst (All IsWritingMark) (sym (own_append s.worker a.more b.more)) (All-append IsWritingMark (own s.worker a.more) (own s.worker b.more) a.marks (subst (λ n. All IsWritingMark (own n b.more)) same_worker b.marks));
+      taking = b.taking;
+      has = ap (λ l. out (own s.worker l)) (sym behind) ∙ subst (λ (y : Seat). out (own y.worker (y.seen ++ b.more)) ≡ Some b.taking) a.same b.has;
+      told = subst (λ (l : List Entry). faults_told s.origin l ≡ b.taking.faults) behind (subst (λ (y : Seat). faults_told y.origin (y.seen ++ b.more) ≡ b.taking.faults) a.same b.told);
       durable = b.durable;
       faults = b.faults;
-      same = b.same ∙ ap (λ (y : Seat). seat_with y ((y.seen ++ b.more) ++ put y.worker false b.durable b.faults ∷ []) false) a.same
-          ∙ ap (λ k. seat_with s (k ++ put s.worker false b.durable b.faults ∷ []) false) (append_assoc s.seen a.more b.more);
-      rose = subst (λ (l : List Entry). Rose (faults_told s.origin l) b.faults) (append_assoc s.seen a.more b.more) (subst (λ (y : Seat). Rose (faults_told y.origin (y.seen ++ b.more)) b.faults) a.same b.rose);
+      same = same;
+      rose = rose;
+      rose_in_call = rose_since s.origin s.seen more failed b.faults (subst (λ (y : Seat). IsRising y.origin y.seen) same rising) rose;
     }
 
 pub step_wait : (here : TableId) (s t u : Seat) → MayCall here t → Writes s t → Waits t u → MayCall here u × Writes s u
@@ -209,5 +239,5 @@ module _ {D : Type 0} {G : Ghosts D} where
   pub step_errand : (s t u v : Seat) (e : Errand D G) → Writes s t → Gains (taken_by t e) t u → PutsBack u e v → Writes s v
   step_errand s t u v e on a b = writes_on s t v on (writes_errand t u v e a b)
 
-  pub step_failed : (s t u v : Seat) (e : Errand D G) → Writes s t → Gains (taken_by t e) t u → LeavesBroken u e v → Fails s v
-  step_failed s t u v e on a b = fails_on s t v on (fails_errand t u v e a b)
+  pub step_failed : (s t u v : Seat) (e : Errand D G) → IsOrdered v.origin v.seen → Writes s t → Gains (taken_by t e) t u → LeavesBroken u e v → Fails s v
+  step_failed s t u v e o on a b = fails_on s t v o.rising on (fails_errand t u v e o.rising a b)

@@ -1,5 +1,5 @@
 -- What a seat knew of its history stays when the list goes on.
-use Rattle.std.proofs.Common.{◌≡◌, ℕ, false, ◌+◌, ◌≤◌, ◌<◌, ◌^◌, List, [], ◌∷◌, ◌++◌, length, refl, sym, ◌∙◌, ap, subst, arith}
+use Rattle.std.proofs.Common.{◌≡◌, ℕ, false, ◌≤◌, ◌<◌, ◌^◌, List, [], ◌∷◌, ◌++◌, length, refl, sym, ◌∙◌, ap, subst}
 use Rattle.hist_lock.specs.Views.{Enters, seat_with}
 use Rattle.exchange_shared.specs.Seats.{MayBeSettled, Seat, Waits, effects_in, worker_of}
 use Rattle.exchange_state.specs.declared.entries.Entry.{Entry}

@@ -1,12 +1,14 @@
 -- Versions that are published while the list goes on.
-use Rattle.std.proofs.Common.{◌≡◌, ℕ, ◌+◌, ◌≤◌, ◌<◌, Bool, true, false, cond, leb, List, [], ◌∷◌, ◌++◌, refl, sym, ◌∙◌, ap, subst, arith, append_assoc}
-use Rattle.std.proofs.lemmas.Bool.{leb-true}
+use Rattle.std.proofs.Common.{◌≡◌, ◌↔◌, ℕ, ◌+◌, ◌≤◌, ◌<◌, Bool, true, false, cond, leb, List, [], ◌∷◌, ◌++◌, Option, Some, None, refl, sym, ◌∙◌, ap, subst, arith, append_assoc}
+use mathlib.Core.Logic.{dite}
+use native.Mathlib.Decide.{dec_lt}
+use Rattle.std.proofs.lemmas.Bool.{leb-false, leb-true}
 use Rattle.std.proofs.lemmas.List.{append-nil}
 use Rattle.hist_lock.specs.Views.{Enters, seat_with}
-use Rattle.exchange_shared.specs.Seats.{Gains, Publishes, Seat, Waits, worker_of}
+use Rattle.exchange_shared.specs.Seats.{Gains, IsOrdered, Publishes, Seat, Waits, worker_of}
 use Rattle.exchange_shared.specs.Versions.{Published as HasPublished}
 use Rattle.exchange_shared.proofs.Histories.{edits_stay}
-use Rattle.exchange_shared.proofs.Seats.{gains, own_append, waits, worker_stays}
+use Rattle.exchange_shared.proofs.Seats.{own_append, waits}
 use Rattle.exchange_state.specs.declared.entries.Entry.{Entry}
 use Rattle.exchange_state.specs.declared.entries.Origin.{Origin}
 use Rattle.exchange_state.specs.declared.state.ExchangeState.{ExchangeState}
@@ -21,7 +23,8 @@ use Rattle.index_versions.specs.declared.version.Version.{Version}
 use Rattle.plain_exchange.specs.History.{Call}
 use Rattle.exchange_state.specs.Standing.{StandsFor}
 use Rattle.exchange_state.specs.Tickets.{IsVersionOf, edits_after, table_at}
-use Rattle.exchange_state.specs.Views.{calls, own, published, published_at}
+use Rattle.exchange_state.specs.Views.{IsRising, calls, own, published, published_at}
+use Rattle.exchange_state.proofs.Rising.{published_later}
 use Rattle.rtb_disk.specs.declared.disk.Disk.{Ghosts}
 
 module _ {D : Type 0} {G : Ghosts D} where
@@ -44,19 +47,32 @@ kept_as p e n is = at (leb e p) refl
         let q : answer.New e ≡ answer.Kept n = ap (λ b. cond b (answer.Kept p) (answer.New e)) (sym apart) ∙ is in
         absurd (cc q)
 
-new_edit_as : (p e n : ℕ) → published_as p e ≡ answer.New n → n ≡ e
-new_edit_as p e n is = at (leb e p) refl
+new_as : (p e n : ℕ) → published_as p e ≡ answer.New n → (n ≡ e) × (p < n)
+new_as p e n is = at (leb e p) refl
   where
-    at : (b : Bool) → leb e p ≡ b → n ≡ e
+    at : (b : Bool) → leb e p ≡ b → (n ≡ e) × (p < n)
     at true under =
         let q : answer.Kept p ≡ answer.New n = ap (λ b. cond b (answer.Kept p) (answer.New e)) (sym under) ∙ is in
         absurd (cc q)
     at false apart =
         let q : answer.New e ≡ answer.New n = ap (λ b. cond b (answer.Kept p) (answer.New e)) (sym apart) ∙ is in
-        cc q
+        let ne : n ≡ e = cc q in
+        let lt = leb-false e p apart in
+        (ne, omega (arith, ne, lt))
 
-pub newer : (s t u : Seat) (p e n : ℕ) (r : Published) → r ≡ answer.New n → r ≡ published_as p e → Enters worker_of s t → u ≡ seat_with t (t.seen ++ published_at t.worker n ∷ []) false → (n ≡ e) × Gains (published_at s.worker n) s u
-newer s t u p e n r is told en left = (new_edit_as p e n (sym told ∙ is), subst (λ w. Gains (published_at w n) s u) (worker_stays s t en) (gains (published_at t.worker n) s t u en left))
+-- the mark of the version, with the entries of others that came before it as its `more`
+gains_mark : (n : ℕ) (s t u : Seat) → Enters worker_of s t → u ≡ seat_with t (t.seen ++ published_at t.worker n ∷ []) false → Gains (published_at s.worker n) s u
+gains_mark n s t u en left = record {
+  more = en.0;
+  others = en.2;
+  same = left ∙ ap (λ (y : Seat). seat_with y (y.seen ++ published_at y.worker n ∷ []) false) en.1;
+}
+
+pub newer : (s t u : Seat) (e n : ℕ) (r : Published) → r ≡ answer.New n → r ≡ published_as (published t.origin t.seen) e → Enters worker_of s t → u ≡ seat_with t (t.seen ++ published_at t.worker n ∷ []) false → HasPublished e s u (answer.New n)
+unfolding gains_mark
+newer s t u e n r is told en left =
+    let k = new_as (published t.origin t.seen) e n (sym told ∙ is) in
+    (k.0, gains_mark n s t u en left, subst (λ (y : Seat). published y.origin y.seen < n) en.1 k.1)
 
 pub kept : (s t u : Seat) (e n : ℕ) (r : Published) → r ≡ answer.Kept n → r ≡ published_as (published t.origin t.seen) e → Enters worker_of s t → u ≡ seat_with t t.seen false → HasPublished e s u r
 kept s t u e n r is told en left =
@@ -85,9 +101,23 @@ gain_on w edit s t u a b =
 pub edits_since : (s t : Seat) → Waits s t → edits_after s.origin (calls s.seen) ≤ edits_after t.origin (calls t.seen)
 edits_since s t w = subst (λ (y : Seat). edits_after s.origin (calls s.seen) ≤ edits_after y.origin (calls y.seen)) (sym w.same) (edits_stay s.origin s.seen w.more)
 
-pub republished : (s t u : Seat) (edit : ℕ) (r : Published) → Waits s t → edit ≡ edits_after t.origin (calls t.seen) → HasPublished edit t u r → Publishes s u r
-republished s t u edit (answer.New e) a is (same, b) = (gain_on 0 e s t u a b, (let le = edits_since s t a in omega (arith, le, is, same)))
-republished s t u edit (answer.Kept e) a is (b, at, le) = (wait_on s t u a b, at, (let before = edits_since s t a in omega (arith, before, is, le)))
+-- the version that the seat had seen is no newer than the one that was present as a version was due
+since_seen : (s t : Seat) (n : ℕ) → Waits s t → IsRising t.origin t.seen → published t.origin t.seen + 2048 ≤ n → published s.origin s.seen + 2048 ≤ n
+since_seen s t n w rising due =
+    let before : IsRising s.origin (s.seen ++ w.more) = subst (λ (y : Seat). IsRising y.origin y.seen) w.same rising in
+    let le = published_later s.origin s.seen w.more before in
+    let at : published s.origin (s.seen ++ w.more) + 2048 ≤ n = subst (λ (y : Seat). published y.origin y.seen + 2048 ≤ n) w.same due in
+    omega (arith, le, at)
+
+pub republished : (s t u : Seat) (edit : ℕ) (r : Published) → Waits s t → IsOrdered t.origin t.seen → edit ≡ edits_after t.origin (calls t.seen) → published t.origin t.seen + 2048 ≤ edit → HasPublished edit t u r → Publishes s u r
+unfolding gain_on
+republished s t u edit (answer.New e) a o is due (same, b, above) = (
+  gain_on 0 e s t u a b,
+  (let le = edits_since s t a in omega (arith, le, is, same)),
+  subst (λ l. published s.origin l < e) (append_assoc s.seen a.more b.more) (subst (λ (y : Seat). published y.origin (y.seen ++ b.more) < e) a.same above),
+  subst (λ n. published s.origin s.seen + 2048 ≤ n) (sym same) (since_seen s t edit a o.rising due),
+)
+republished s t u edit (answer.Kept e) a o is due (b, at, le) = (wait_on s t u a b, at, (let before = edits_since s t a in omega (arith, before, is, le)))
 
 -- ---- the version of a snapshot
 
@@ -97,6 +127,10 @@ version_made o h s v i same ix = record {
   past = (let b = i.edit in omega (arith, b, same));
   content = subst (λ e. IsIndexOf (live_in (table_at o h e)) v.index) (sym same) (subst (λ l. IsIndexOf (campaigns_of l) v.index) i.live ix);
 }
+
+-- one is due, where a snapshot was given
+pub due_where_given : (p e : ℕ) (r : Option Snapshot) (s : Snapshot) → r ≡ Some s → (r ≡ None) ↔ (e < p + 2048) → p + 2048 ≤ e
+due_where_given p e r s is none = dite (dec_lt e (p + 2048)) (λ lt. let nothing : r ≡ None = none.1 lt in absurd (cc (is, nothing))) (λ ge. omega (arith, ge))
 
 pub not_due : (s t : Seat) (edit : ℕ) → Waits s t → edits_after t.origin (calls t.seen) < edit + 2048 → edits_after s.origin (calls s.seen) < edit + 2048
 not_due s t edit w lt = let le = edits_since s t w in omega (arith, le, lt)

@@ -1,13 +1,17 @@
 -- What a seat knows after a turn.
-use Rattle.std.proofs.Common.{◌≡◌, ℕ, false, List, [], ◌∷◌, ◌++◌, refl, sym, ◌∙◌, ap, subst, Option, Some, None}
+use Rattle.std.proofs.Common.{◌≡◌, ℕ, false, List, [], ◌∷◌, ◌++◌, refl, sym, ◌∙◌, ap, subst, None}
 use Rattle.std.proofs.lemmas.List.{append-nil}
 use Rattle.std.proofs.lemmas.List.Sums.{fold-append}
 use Rattle.atomic_table.specs.Seated.{TableId}
 use Rattle.hist_lock.proofs.Logs.{entries_of-append, entries_of-own}
 use Rattle.hist_lock.specs.Views.{Enters, SplitsOff, TakesIn, seat_with}
-use Rattle.exchange_shared.specs.Seats.{Gains, MayCall, Seat, Waits, worker_of}
+use Rattle.exchange_shared.specs.Seats.{Gains, IsOrdered, MayCall, Seat, Waits, worker_of}
 use Rattle.exchange_state.specs.declared.entries.Entry.{Entry}
+use Rattle.exchange_state.specs.declared.entries.Origin.{Origin}
+use Rattle.exchange_state.specs.declared.state.ExchangeState.{ExchangeState}
+use Rattle.exchange_state.specs.Standing.{StandsFor}
 use Rattle.exchange_state.specs.Views.{out, out_of, own, told_or}
+use Rattle.rtb_disk.specs.declared.disk.Disk.{Ghosts}
 
 -- ---- entries of a worker
 
@@ -57,6 +61,19 @@ still here s t may w = may_call_as here s t (s.seen ++ w.more) may w.same (ap ou
 pub still_gains : (here : TableId) (e : Entry) (s t : Seat) → e.worker ≡ s.worker → told_or out_of None e ≡ None → MayCall here s → Gains e s t → MayCall here t
 still_gains here e s t is none may w = may_call_as here s t ((s.seen ++ w.more) ++ e ∷ []) may w.same
     (ap out (own_gains s.worker s.seen w.more e w.others is) ∙ out_then (own s.worker s.seen) e ∙ ap (λ o. told_or out_of o e) may.no_journal ∙ none)
+
+-- ---- the order of marks
+
+-- a seat that has this list and no turn
+pub ordered_on : (t u : Seat) (l : List Entry) → IsOrdered t.origin l → u ≡ seat_with t l false → IsOrdered u.origin u.seen
+ordered_on t u l o left = subst (λ (y : Seat). IsOrdered y.origin y.seen) (sym left) o
+
+module _ {D : Type 0} {G : Ghosts D} where
+  pub ordered : (o : Origin) (x : ExchangeState D G) (l : List Entry) → StandsFor o x l → IsOrdered o l
+  ordered o x l s = record { in_turn = s.in_turn; rising = s.rising }
+
+  pub ordered_at : (x : ExchangeState D G) (t u : Seat) (l : List Entry) → StandsFor t.origin x l → u ≡ seat_with t l false → IsOrdered u.origin u.seen
+  ordered_at x t u l s left = ordered_on t u l (ordered t.origin x l s) left
 
 -- ---- split and join
 

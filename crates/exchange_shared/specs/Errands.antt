@@ -1,10 +1,10 @@
 -- Only private clauses cite this file. A seat whose worker has the journal.
-use Rattle.std.specs.Prelude.{◌≡◌, ℕ, ◌≤◌, if◌then◌else◌, not, List, [], ◌∷◌, ◌++◌, All, Bool, true, false, Option, None, Some}
+use Rattle.std.specs.Prelude.{◌≡◌, ℕ, ◌≤◌, if◌then◌else◌, List, [], ◌∷◌, ◌++◌, All, Bool, true, false, None}
 use Rattle.atomic_table.specs.Seated.{TableId}
 use Rattle.effects.specs.Bytes.{IsEncodable}
 use Rattle.exchange_shared.specs.declared.writing.Look.{Look}
 use Rattle.exchange_shared.specs.declared.writing.Look.TheVariants as look
-use Rattle.exchange_shared.specs.Seats.{Gains, Seat, Waits, Writes, effects_in}
+use Rattle.exchange_shared.specs.Seats.{Gains, Seat, Waits, effects_in}
 use Rattle.exchange_state.specs.declared.entries.Entry.{Entry}
 use Rattle.exchange_state.specs.declared.errand.Errand.{Errand}
 use Rattle.exchange_state.specs.Errands.{IsDone, IsErrand, taking_mark}
@@ -56,4 +56,5 @@ module _ {D : Type 0} {G : Ghosts D} where
     pub durable : ℕ
     pub faults : ℕ
     pub same : t ≡ seat_with s ((s.seen ++ more) ++ put s.worker false durable faults ∷ []) false
+    pub told : faults_told s.origin (s.seen ++ more) ≡ faults_of e.journal
     pub rose : Rose (faults_told s.origin (s.seen ++ more)) faults

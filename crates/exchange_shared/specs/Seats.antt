@@ -1,5 +1,5 @@
 -- What a seat of an exchange knows before and after a call.
-use Rattle.std.specs.Prelude.{◌≡◌, ℕ, ◌+◌, ◌<◌, ◌≤◌, List, [], ◌∷◌, ◌++◌, All, length, Bool, true, false, Option, None, Some, Result, Ok, Err}
+use Rattle.std.specs.Prelude.{◌≡◌, ℕ, ◌+◌, ◌<◌, ◌≤◌, List, [], ◌∷◌, ◌++◌, All, length, true, false, None, Some, Result, Ok, Err}
 use Rattle.atomic_table.specs.Seated.{TableId}
 use Rattle.std.specs.declared.alloc.AllocError.{AllocError}
 use Rattle.exchange_shared.specs.declared.exchange.Exchange.{Exchange}
@@ -11,7 +11,7 @@ use Rattle.exchange_state.specs.declared.state.Published.{Published}
 use Rattle.exchange_state.specs.declared.state.Published.TheVariants as answer
 use Rattle.exchange_state.specs.declared.state.Settled.{Settled}
 use Rattle.exchange_state.specs.Tickets.{IsLegalFrom, IsVersionOf, edits_after, effects_after, matches_of}
-use Rattle.exchange_state.specs.Views.{called, calls, failed, faults_told, out, own, published, published_at, put, stable}
+use Rattle.exchange_state.specs.Views.{AreInTurn, IsRising, Taking, called, calls, faults_told, out, own, published, published_at, put}
 use Rattle.hist_lock.specs.Views.{SeatView, seat_with}
 use Rattle.index_versions.specs.declared.version.Version.{Version}
 use Rattle.plain_exchange.specs.declared.commands.Command.{Command}
@@ -54,6 +54,12 @@ pub record Gains (e : Entry) (s t : Seat) : Type 0 where
   pub others : own s.worker more ≡ []
   pub same : t ≡ seat_with s ((s.seen ++ more) ++ e ∷ []) false
 
+-- The marks of the list are in order: a worker that took the journal has put it back before it is taken again; and along
+-- the list neither the count of failed calls of the disk falls, nor that of durable effects, nor the edit of the version.
+pub record IsOrdered (o : Origin) (l : List Entry) : Type 0 where
+  pub in_turn : AreInTurn None l
+  pub rising : IsRising o l
+
 -- ---- calls
 
 -- The command has its entry, with the reply of the exchange of one thread at that place; and so many effects stand
@@ -77,9 +83,12 @@ pub record MayBeSettled (s : Seat) (v : Version) (found : List (List ℕ)) (comm
 
 -- ---- versions
 
--- A newer version was published, of all edits that the seat had seen; or the present one lacks fewer than 2,048 of them.
+-- A version was published of all edits that the seat had seen. It is newer than the one that was present until then, and
+-- 2,048 edits or more stand since the one that the seat had seen. Or the present version lacks fewer than 2,048 of the
+-- edits that the seat had seen.
 abbrev pub Publishes : Seat → Seat → Published → Type 0
-Publishes s t (answer.New edit) = Gains (published_at s.worker edit) s t × (edits_after s.origin (calls s.seen) ≤ edit)
+Publishes s t (answer.New edit) = (gained : Gains (published_at s.worker edit) s t) × (edits_after s.origin (calls s.seen) ≤ edit)
+    × (published s.origin (s.seen ++ gained.more) < edit) × (published s.origin s.seen + 2048 ≤ edit)
 Publishes s t (answer.Kept edit) = Waits s t × (edit ≡ published t.origin t.seen) × (edits_after s.origin (calls s.seen) < edit + 2048)
 
 -- ---- the journal
@@ -102,11 +111,16 @@ pub record Writes (s t : Seat) : Type 0 where
   pub same : t ≡ seat_with s (s.seen ++ more) false
 
 -- The same, and then a call of the disk failed: the last entry is the worker's mark of that, its only failed one. The
--- count of failed calls rose in it.
+-- worker had taken the journal once more, and the count of failed calls rose since that taking.
 pub record Fails (s t : Seat) : Type 0 where
   pub more : List Entry
   pub marks : All IsWritingMark (own s.worker more)
+  pub taking : Taking
+  pub has : out (own s.worker (s.seen ++ more)) ≡ Some taking
+  pub told : faults_told s.origin (s.seen ++ more) ≡ taking.faults
   pub durable : ℕ
   pub faults : ℕ
   pub same : t ≡ seat_with s ((s.seen ++ more) ++ put s.worker false durable faults ∷ []) false
   pub rose : Rose (faults_told s.origin (s.seen ++ more)) faults
+  -- so it rose above what the seat had seen
+  pub rose_in_call : Rose (faults_told s.origin s.seen) faults

@@ -18,10 +18,11 @@ pub enum Due {
 }
 
 impl<D: Disk> Exchange<D> {
-    ghost use Rattle.std.specs.Prelude.{◌≡◌, ◌≤◌, IfOk, OnErr};
+    ghost use Rattle.std.specs.Prelude.{◌≡◌, ◌≤◌, ◌+◌, IfOk, OnErr};
     ghost use Rattle.std.specs.Arc.{arc_value};
-    ghost use Rattle.exchange_shared.specs.Seats.{MayCall, Publishes, Waits, lock_of};
+    ghost use Rattle.exchange_shared.specs.Seats.{IsOrdered, MayCall, Publishes, Waits, lock_of};
     ghost use Rattle.exchange_shared.specs.Versions.{Dues, Published as HasPublished};
+    ghost use Rattle.exchange_state.specs.Costs.{most_version_cost};
     ghost use Rattle.exchange_state.specs.Tickets.{IsVersionOf, edits_after};
     ghost use Rattle.exchange_state.specs.Views.{calls};
 
@@ -38,8 +39,10 @@ impl<D: Disk> Exchange<D> {
     ) -> (Seat<D>, Result<Published, AllocError>)
         requires seat { MayCall (lock_of self.now) seat }
         ensures seat { MayCall (lock_of self.now) result.0 }
+        ensures order { IsOrdered result.0.origin result.0.seen }
         ensures published { IfOk result.1 (Publishes seat result.0) }
         ensures none { OnErr result.1 (Waits seat result.0) }
+        ensures cost { steps.new ≤ steps.old + most_version_cost }
     {
         let (seat, due) = self.due(rt, seat);
         match due {
@@ -63,6 +66,7 @@ impl<D: Disk> Exchange<D> {
     fn due<R: Wait>(&self, rt: &R, seat: Seat<D>) -> (Seat<D>, Result<Due, AllocError>)
         requires seat { MayCall (lock_of self.now) seat }
         ensures seat { MayCall (lock_of self.now) result.0 × Waits seat result.0 }
+        ensures order { IsOrdered result.0.origin result.0.seen }
         ensures due { IfOk result.1 (Dues result.0) }
     {
         let (seat, turn) = self.lock.enter(rt, seat);
@@ -81,6 +85,7 @@ impl<D: Disk> Exchange<D> {
         requires seat { MayCall (lock_of self.now) seat }
         requires version { IsVersionOf seat.origin (calls seat.seen) (arc_value version) }
         ensures seat { MayCall (lock_of self.now) result.0 }
+        ensures order { IsOrdered result.0.origin result.0.seen }
         ensures published { HasPublished (arc_value version).edit seat result.0 result.1 }
     {
         let (seat, mut turn) = self.lock.enter(rt, seat);

@@ -11,6 +11,7 @@ use std::marker::Brand;
 use std::sync::Wait;
 
 /// A call of the disk failed while this seat's worker wrote the journal.
+#[derive(Drop)]
 pub struct StoreFailed<D: Disk> {
     pub seat: Seat<D>,
 }
@@ -29,7 +30,7 @@ pub enum Look<D: Disk> {
 impl<D: Disk> Exchange<D> {
     ghost use Rattle.std.specs.Prelude.{◌≡◌, ◌≤◌, None, IfOk, IfErr, MatchResult};
     ghost use Rattle.exchange_shared.specs.Errands.{HasErrand, LeavesBroken, Looks, PutsBack};
-    ghost use Rattle.exchange_shared.specs.Seats.{Fails, MayCall, Writes, effects_in, lock_of};
+    ghost use Rattle.exchange_shared.specs.Seats.{Fails, IsOrdered, MayCall, Writes, effects_in, lock_of};
     ghost use Rattle.exchange_state.specs.Views.{out, stable};
 
     /// Waits until so many effects are durable. Where the journal is home, this call writes it.
@@ -42,6 +43,7 @@ impl<D: Disk> Exchange<D> {
         requires seat { MayCall (lock_of self.now) seat }
         requires placed { upto ≤ effects_in seat.origin seat.seen }
         ensures seat { MatchResult result (λ t. MayCall (lock_of self.now) t) (λ e. MayCall (lock_of self.now) e.seat) }
+        ensures order { MatchResult result (λ t. IsOrdered t.origin t.seen) (λ e. IsOrdered e.seat.origin e.seat.seen) }
         ensures written { IfOk result (Writes seat) }
         ensures durable { IfOk result (λ t. upto ≤ stable t.seen) }
         ensures failed { IfErr result (λ e. Fails seat e.seat) }
@@ -66,6 +68,7 @@ impl<D: Disk> Exchange<D> {
     pub fn flush<R: Wait>(&self, rt: &R, seat: Seat<D>) -> Result<Seat<D>, StoreFailed<D>>
         requires seat { MayCall (lock_of self.now) seat }
         ensures seat { MatchResult result (λ t. MayCall (lock_of self.now) t) (λ e. MayCall (lock_of self.now) e.seat) }
+        ensures order { MatchResult result (λ t. IsOrdered t.origin t.seen) (λ e. IsOrdered e.seat.origin e.seat.seen) }
         ensures home { MatchResult result (λ t. out t.seen ≡ None) (λ e. out e.seat.seen ≡ None) }
         ensures written { IfOk result (Writes seat) }
         ensures durable { IfOk result (λ t. stable t.seen ≡ effects_in t.origin t.seen) }
@@ -90,7 +93,8 @@ impl<D: Disk> Exchange<D> {
     // One turn: the journal is taken where it is home and fewer effects are durable.
     fn look<R: Wait>(&self, rt: &R, seat: Seat<D>, upto: u64) -> (Seat<D>, Look<D>)
         requires seat { MayCall (lock_of self.now) seat }
-        ensures { Looks (lock_of self.now) upto seat result.0 result.1 }
+        ensures looks { Looks (lock_of self.now) upto seat result.0 result.1 }
+        ensures order { IsOrdered result.0.origin result.0.seen }
     {
         let (seat, mut turn) = self.lock.enter(rt, seat);
         if turn.value.durable() >= upto {
@@ -121,6 +125,7 @@ impl<D: Disk> Exchange<D> {
     ) -> Result<Seat<D>, StoreFailed<D>>
         requires { HasErrand (lock_of self.now) seat errand }
         ensures seat { MatchResult result (λ t. MayCall (lock_of self.now) t) (λ e. MayCall (lock_of self.now) e.seat) }
+        ensures order { MatchResult result (λ t. IsOrdered t.origin t.seen) (λ e. IsOrdered e.seat.origin e.seat.seen) }
         ensures written { IfOk result (PutsBack seat errand) }
         ensures failed { IfErr result (λ e. LeavesBroken seat errand e.seat) }
     {

@@ -5,7 +5,7 @@ use Rattle.exchange_state.specs.Tickets.{version_in}
 use Rattle.exchange_state.specs.declared.entries.Entry.{Entry}
 use Rattle.exchange_state.specs.declared.entries.Origin.{Origin}
 use Rattle.exchange_state.specs.Views.{called}
-use Rattle.exchange_shared.proofs.Seats.{gains, still, still_gains, waits, worker_stays}
+use Rattle.exchange_shared.proofs.Seats.{gains, ordered_at, still, still_gains, waits, worker_stays}
 use Rattle.exchange_shared.proofs.Histories.{may_settle, snoc_init}
 use Rattle.exchange_shared.proofs.exchange.Exchange.settle.Goals as goal
 
@@ -30,3 +30,10 @@ returns-in-Ok-clause-cost g c r l is at =
 
 pub returns-in-Err-clause-seat : goal.returns-in-Err-clause-seat
 returns-in-Err-clause-seat g c = still _ _ _ c.requires.seat (waits _ _ _ c.enter-seat.ensures.seat c.leave.ensures)
+
+pub returns-in-Ok-clause-order : goal.returns-in-Ok-clause-order
+returns-in-Ok-clause-order g c =
+    ordered_at _ c.enter-seat.result.0 _ _ (c.in-Ok.ensures.settled c.enter-seat.result.0.origin c.enter-seat.result.0.seen c.enter-seat.result.0.worker c.enter-seat.ensures.value).stands c.leave_called-seat.ensures
+
+pub returns-in-Err-clause-order : goal.returns-in-Err-clause-order
+returns-in-Err-clause-order g c = ordered_at _ c.enter-seat.result.0 _ _ c.enter-seat.ensures.value c.leave.ensures
