@@ -23,6 +23,12 @@ member_name (WhichField.WeightAttr i j) = codes "attr"
 member_name (WhichField.WeightValue i j) = codes "value"
 member_name (WhichField.WeightNumber i j) = codes "weight"
 
+-- the element at a place of a list of values
+abbrev pub item_of : WhichField → ℕ → WhichField
+item_of (WhichField.In i j k) l = WhichField.InItem i j k l
+item_of (WhichField.Not i j k) l = WhichField.NotItem i j k l
+item_of field l = field
+
 -- an expression, a member of it, and an entry of that
 abbrev pub expression_path : ℕ → List ℕ
 expression_path i = codes "expressions" ++ place i

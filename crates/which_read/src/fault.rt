@@ -21,9 +21,9 @@ pub enum WhichFault {
     /// The field's number is not whole or out of its range, or the array is too long.
     #[error("a field is out of its range")]
     Range { field: WhichField },
-    /// What is written at the place, counted from 0, is no expression.
+    /// What is written as the expression of this number, counted from 1, is none.
     #[error("an expression is wrong")]
-    Expression { place: usize, fault: CnfFault },
+    Expression { number: usize, fault: CnfFault },
     #[error("memory ran out")]
     Memory,
 }

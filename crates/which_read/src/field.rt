@@ -1,5 +1,5 @@
 ghost use Rattle.std.specs.Prelude.{◌≡◌};
-ghost use Rattle.which_read.specs.Paths.{member_name};
+ghost use Rattle.which_read.specs.Paths.{item_of, member_name};
 
 /// A field of a request for the best expressions, with its places in arrays.
 ///
@@ -49,6 +49,16 @@ impl WhichField {
             WhichField::Weights(_) | WhichField::Weight(_, _) => b"weights",
             WhichField::WeightValue(_, _) => b"value",
             WhichField::WeightNumber(_, _) => b"weight",
+        }
+    }
+    /// The element at a place of a list of values; any other field is itself.
+    pub(crate) fn item(self, place: usize) -> WhichField
+        ensures { result ≡ item_of self place }
+    {
+        match self {
+            WhichField::In(i, j, k) => WhichField::InItem(i, j, k, place),
+            WhichField::Not(i, j, k) => WhichField::NotItem(i, j, k, place),
+            field => field,
         }
     }
 }
