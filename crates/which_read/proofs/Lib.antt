@@ -1,0 +1,5 @@
+pub mod Few
+pub mod Making
+pub mod Required
+pub mod Singles
+pub mod Whole

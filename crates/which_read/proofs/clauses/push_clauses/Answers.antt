@@ -1,0 +1,26 @@
+use Rattle.std.proofs.Common.{◌∙◌, ◌≡◌, ◌++◌, ◌∷◌, [], arith}
+use Rattle.std.proofs.lemmas.Grind.{common_steps}
+use Rattle.std.proofs.lemmas.Result.{err_from_is_err_and}
+use Rattle.exact_json.specs.View.{tree_of}
+use Rattle.json_fields.proofs.Each.{each_none, loop_first, loop_still, map_more}
+use Rattle.which_read.specs.declared.fault.WhichFault.{WhichFault}
+use Rattle.which_read.specs.Clauses.{clause_at, clause_from}
+use Rattle.which_read.proofs.clauses.push_clauses.Goals as goal
+
+pub loop-j-init : goal.loop-j-init
+loop-j-init c = record { right = each_none (clause_at c.args.i); found = c.requires.none }
+
+pub returns-in_err-clause_entry : goal.returns-in_err-clause_entry
+returns-in_err-clause_entry c =
+    let p = err_from_is_err_and c.from_residual.result c.from_residual.ensures.1 in
+    rw (p.1, p.2) (loop_first WhichFault.Memory (clause_at c.args.i) tree_of c.args.values.now c.loop-j.j c.index-values-j.result _ c.loop-j-test.true c.index-values-j.is
+    c.loop-j.invariant.right c.in_err-clause_entry.ensures)
+
+pub loop-j-preserved : goal.loop-j-preserved
+loop-j-preserved c =
+    let e = c.in_ok-clause_entry.ensures in
+    let pushed : c.push.new.items.items ≡ c.loop-j.clauses.items ++ c.in_ok-clause_entry.field-0 ∷ [] = grind (arith, common_steps) in
+    record {
+      right = loop_still (clause_at c.args.i) tree_of c.args.values.now c.loop-j.j c.index-values-j.result c.loop-j-test.true c.index-values-j.is c.loop-j.invariant.right e.0;
+      found = pushed ∙ map_more clause_from tree_of c.args.values.now c.loop-j.j c.index-values-j.result _ _ c.loop-j-test.true c.index-values-j.is c.loop-j.invariant.found e.1;
+    }

@@ -1,0 +1,147 @@
+ghost use Rattle.std.specs.Prelude.{◌≡◌, ◌++◌, [], ◌<◌, not, option_map, map, List, None, is_some, IfOk, OnOk, IsTrue};
+ghost use Rattle.std.specs.List.{list_all};
+ghost use Rattle.std.specs.Option.{option_to_list};
+ghost use Rattle.exact_json.specs.View.{tree_of};
+ghost use Rattle.json_fields.specs.Answers.{Answers, map_ok, value_or};
+ghost use Rattle.json_fields.specs.Fields.{as_text, optional, present};
+ghost use Rattle.target_expr.specs.Attributes.{attr_named, name_of};
+ghost use Rattle.which_read.specs.Assigned.{assignment_faults, assignment_from, is_assigned, is_text, members_faults, members_in, object_in, pair_of, pairs_from};
+ghost use Rattle.which_read.specs.Numbered.{pair_numbered};
+ghost use Rattle.which_read.specs.declared.fault.WhichFault.{WhichFault};
+
+use crate::fault::WhichFault;
+use crate::field::WhichField;
+use crate::parts::fault;
+use exact_json::Value;
+use json_fields as fields;
+use json_fields::Flaw;
+use rtb_num::{List, Txt};
+use std::alloc::{AllocError, Global};
+use target_expr::{Assignment, Attr, attr_named};
+
+// The assignment.
+#[tactic(auto, unfolding(crate::specs::Assigned::assignment_faults, crate::specs::Assigned::assignment_from, crate::specs::Parts::faults_inside))]
+pub(crate) fn assignment_field(alloc: Global, body: &Value) -> Result<Assignment, WhichFault>
+    ensures { Answers WhichFault.Memory (assignment_faults (tree_of body.now)) (assignment_from (tree_of body.now)) result }
+{
+    match object_in(body, WhichField::Assignment.member()) {
+        Ok(assigned) => assignment_in(alloc, assigned),
+        Err(flaw) => Err(fault(WhichField::Assignment, flaw)),
+    }
+}
+
+// The object of that name, which has to be there.
+#[tactic(auto, unfolding(crate::specs::Assigned::object_in, json_fields::specs::Fields::required))]
+fn object_in<'a>(body: &'a Value, name: &[u8]) -> Result<&'a Value, Flaw>
+    ensures { map_ok (λ v. tree_of v.now) result ≡ object_in name.now (tree_of body.now) }
+{
+    match fields::present(body, name) {
+        Some(value) => fields::object_in(value),
+        None => Err(Flaw::Missing),
+    }
+}
+
+#[tactic(auto, unfolding(crate::specs::Assigned::members_faults))]
+fn assignment_in(alloc: Global, assigned: &Value) -> Result<Assignment, WhichFault>
+    ensures { Answers WhichFault.Memory (members_faults (tree_of assigned.now)) (pairs_from (tree_of assigned.now)) result }
+{
+    if !are_assigned(assigned) {
+        return Err(WhichFault::WrongType {
+            field: WhichField::Assignment,
+        });
+    }
+    let pairs = pairs_in(alloc, assigned)?;
+    Ok(Assignment::make(pairs))
+}
+
+// Whether each member is named as an attribute and is a text.
+fn are_assigned(assigned: &Value) -> bool
+    ensures { result ≡ list_all is_assigned (members_in (tree_of assigned.now)) }
+{
+    each_is_assigned(members_in(assigned))
+}
+
+#[tactic(auto, unfolding(crate::specs::Assigned::members_in))]
+fn members_in(assigned: &Value) -> &[(Txt, Value)]
+    ensures { map (λ p. (p.0, tree_of p.1)) result.now ≡ members_in (tree_of assigned.now) }
+{
+    match assigned {
+        Value::Obj(members) => members.as_slice(),
+        _ => &[],
+    }
+}
+
+fn each_is_assigned(members: &[(Txt, Value)]) -> bool
+    ensures { result ≡ list_all (λ p. is_assigned (p.0, tree_of p.1)) members.now }
+{
+    members.iter().all(|member| is_assigned(member))
+}
+
+fn is_assigned(member: &(Txt, Value)) -> bool
+    ensures { result ≡ is_assigned (member.now.0, tree_of member.now.1) }
+{
+    is_attribute(&member.0) && is_text(&member.1)
+}
+
+fn is_attribute(name: &Txt) -> bool
+    ensures { result ≡ is_some (attr_named name.now) }
+{
+    attr_named(name.as_bytes()).is_some()
+}
+
+#[tactic(auto, unfolding(crate::specs::Assigned::is_text))]
+fn is_text(value: &Value) -> bool
+    ensures { result ≡ is_text (tree_of value.now) }
+{
+    match fields::text_in(value) {
+        Ok(_) => true,
+        Err(_) => false,
+    }
+}
+
+/// How many attributes there are.
+const ATTRIBUTES: u8 = 22;
+
+// The attributes that have a text, in the order of their numbers.
+fn pairs_in(alloc: Global, assigned: &Value) -> Result<List<(Attr, Txt)>, AllocError>
+    ensures { IfOk result (λ ps. ps ≡ pairs_from (tree_of assigned.now)) }
+{
+    let mut pairs = List::new(alloc);
+    for before in 0..ATTRIBUTES {
+        push_numbered(&mut pairs, before + 1, assigned)?;
+    }
+    Ok(pairs)
+}
+
+// Appends the attribute of that number, where it has a text.
+fn push_numbered(
+    pairs: &mut List<(Attr, Txt)>,
+    number: u8,
+    assigned: &Value,
+) -> Result<(), AllocError>
+    ensures { OnOk result (pairs.new ≡ pairs.old ++ option_to_list (pair_numbered (tree_of assigned.now) number)) }
+{
+    match Attr::with_number(number) {
+        Some(attr) => push_pair(pairs, attr, assigned),
+        None => Ok(()),
+    }
+}
+
+fn push_pair(pairs: &mut List<(Attr, Txt)>, attr: Attr, assigned: &Value) -> Result<(), AllocError>
+    ensures { OnOk result (pairs.new ≡ pairs.old ++ option_to_list (pair_of (tree_of assigned.now) attr)) }
+{
+    match text_of(assigned, attr) {
+        Some(text) => pairs.push((attr, text.copy()?)),
+        None => Ok(()),
+    }
+}
+
+// The text of the attribute, where it has one.
+fn text_of(assigned: &Value, attr: Attr) -> Option<&Txt>
+    ensures { option_map (λ t. t.now) result ≡ value_or None (optional as_text (present (name_of attr) (tree_of assigned.now))) }
+{
+    match fields::text(assigned, attr.name()) {
+        Ok(text) => text,
+        Err(_) => None,
+    }
+}

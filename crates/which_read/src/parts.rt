@@ -1,0 +1,147 @@
+ghost use Rattle.std.specs.Prelude.{◌≡◌, ◌++◌, ◌∷◌, [], List, OnOk, pos};
+ghost use Rattle.exact_json.specs.Forms.{HasForms};
+ghost use Rattle.exact_json.specs.View.{tree_of};
+ghost use Rattle.json_fields.specs.Answers.{Answers, map_ok};
+ghost use Rattle.json_fields.specs.Fields.{as_whole, present, required};
+ghost use Rattle.which_read.specs.Parts.{fault_of, list_fault, number_faults, number_from, text_faults, text_from, texts_faults, texts_from};
+ghost use Rattle.which_read.specs.Paths.{item_of, member_name};
+ghost use Rattle.which_read.specs.declared.fault.WhichFault.{WhichFault};
+
+use crate::fault::WhichFault;
+use crate::field::WhichField;
+use exact_json::Value;
+use json_fields as fields;
+use json_fields::{Bounds, Flaw, ListFlaw};
+use rtb_num::{List, Txt};
+use std::alloc::{AllocError, Global};
+
+// The flaw of the field.
+pub(crate) fn fault(field: WhichField, flaw: Flaw) -> WhichFault
+    ensures { result ≡ fault_of field flaw }
+{
+    match flaw {
+        Flaw::Missing => WhichFault::Missing { field },
+        Flaw::WrongType => WhichFault::WrongType { field },
+        Flaw::Range | Flaw::Price(_) => WhichFault::Range { field },
+    }
+}
+
+// A text that has to be there.
+#[tactic(auto, unfolding(crate::specs::Parts::faults_at, crate::specs::Parts::text_faults, crate::specs::Parts::text_from))]
+pub(crate) fn text_field(object: &Value, field: WhichField) -> Result<Txt, WhichFault>
+    ensures { Answers WhichFault.Memory (text_faults field (tree_of object.now)) (text_from (member_name field) (tree_of object.now)) result }
+{
+    match fields::required_text(object, field.member()) {
+        Ok(text) => Ok(text.copy()?),
+        Err(flaw) => Err(fault(field, flaw)),
+    }
+}
+
+// A whole number that has to be there, within bounds from 0 on.
+#[tactic(auto, unfolding(crate::specs::Parts::faults_at, crate::specs::Parts::number_faults, crate::specs::Parts::number_from))]
+pub(crate) fn number_field(
+    object: &Value,
+    field: WhichField,
+    bounds: &Bounds,
+) -> Result<u32, WhichFault>
+    requires forms { HasForms (tree_of object.now) }
+    ensures { Answers WhichFault.Memory (number_faults bounds.now field (tree_of object.now)) (number_from bounds.now (member_name field) (tree_of object.now)) result }
+{
+    match required_whole(object, field.member(), bounds) {
+        Ok(n) => Ok(n.unsigned_abs()),
+        Err(flaw) => Err(fault(field, flaw)),
+    }
+}
+
+#[tactic(auto, using(crate::proofs::Required::there, crate::proofs::Required::absent, crate::proofs::Required::flawed))]
+fn required_whole(object: &Value, name: &[u8], bounds: &Bounds) -> Result<i32, Flaw>
+    requires forms { HasForms (tree_of object.now) }
+    ensures { result ≡ required (as_whole bounds.now) (present name.now (tree_of object.now)) }
+{
+    match fields::whole_number(object, name, bounds) {
+        Ok(Some(n)) => Ok(n),
+        Ok(None) => Err(Flaw::Missing),
+        Err(flaw) => Err(flaw),
+    }
+}
+
+// A list of texts, which may be absent.
+#[tactic(auto, using(json_fields::proofs::First::firsts_mapped), unfolding(crate::specs::Parts::texts_faults, crate::specs::Parts::texts_from))]
+pub(crate) fn texts_field(
+    alloc: Global,
+    object: &Value,
+    field: WhichField,
+) -> Result<List<Txt>, WhichFault>
+    ensures { Answers WhichFault.Memory (texts_faults field (tree_of object.now)) (texts_from (member_name field) (tree_of object.now)) result }
+{
+    match fields::texts(alloc, object, field.member()) {
+        Ok(texts) => Ok(texts),
+        Err(flaw) => Err(list_fault(field, flaw)),
+    }
+}
+
+fn list_fault(field: WhichField, flaw: ListFlaw) -> WhichFault
+    ensures { result ≡ list_fault field flaw }
+{
+    match flaw {
+        ListFlaw::Whole(flaw) => fault(field, flaw),
+        ListFlaw::Item(place, flaw) => fault(field.item(place), flaw),
+        ListFlaw::Memory => WhichFault::Memory,
+    }
+}
+
+// What two fields hold, or the fault of the first that has one. A value of a type parameter is let go of in one
+// step, so a reader that ends in this lets go of nothing field by field.
+#[tactic(auto, using(json_fields::proofs::First::firsts))]
+pub(crate) fn both<A: Drop, B: Drop>(
+    first: Result<A, WhichFault>,
+    second: Result<B, WhichFault>,
+) -> Result<(A, B), WhichFault>
+    ensures { (a b : List WhichFault) (x : A) (y : B) → Answers WhichFault.Memory a x first → Answers WhichFault.Memory b y second → Answers WhichFault.Memory (a ++ b) (x, y) result }
+{
+    match first {
+        Ok(first) => match second {
+            Ok(second) => Ok((first, second)),
+            Err(fault) => Err(fault),
+        },
+        Err(fault) => Err(fault),
+    }
+}
+
+// What was read, or the first fault.
+#[tactic(auto, using(json_fields::proofs::First::firsts))]
+pub(crate) fn unless_faulty<A: Drop>(
+    read: Result<A, WhichFault>,
+    right: Result<(), WhichFault>,
+) -> Result<A, WhichFault>
+    ensures { (a b : _) (x : A) → Answers WhichFault.Memory a x read → Answers WhichFault.Memory b tt right → Answers WhichFault.Memory (a ++ b) x result }
+{
+    match read {
+        Ok(read) => match right {
+            Ok(()) => Ok(read),
+            Err(fault) => Err(fault),
+        },
+        Err(fault) => Err(fault),
+    }
+}
+
+// The items of a list, unless one could not be read.
+pub(crate) fn filled<T: Drop>(
+    items: Vec<T>,
+    read: Result<(), WhichFault>,
+) -> Result<List<T>, WhichFault>
+    ensures { result ≡ map_ok (λ _. items.items) read }
+{
+    match read {
+        Ok(()) => Ok(List::from_vec(items)),
+        Err(fault) => Err(fault),
+    }
+}
+
+// Appends one more.
+pub(crate) fn push<T: Drop>(items: &mut Vec<T>, item: T) -> Result<(), AllocError>
+    ensures { OnOk result (items.new.items ≡ items.old.items ++ item ∷ []) }
+{
+    items.push(item)?;
+    Ok(())
+}

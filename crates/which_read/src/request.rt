@@ -1,0 +1,88 @@
+#![tactic(auto, using(json_fields::proofs::First::firsts), unfolding(crate::specs::Request::which_faults))]
+
+ghost use Rattle.std.specs.Prelude.{◌≡◌, ◌≤◌, length, map, IfOk};
+ghost use Rattle.exact_json.specs.Docs.{doc_tree};
+ghost use Rattle.exact_json.specs.Forms.{HasForms};
+ghost use Rattle.exact_json.specs.View.{tree_of};
+ghost use Rattle.json_fields.specs.Answers.{Answers};
+ghost use Rattle.json_fields.specs.Items.{each_at};
+ghost use Rattle.which_read.specs.Request.{made_of, making_faults, request_faults, which_faults, which_from};
+ghost use Rattle.which_read.specs.declared.fault.WhichFault.{WhichFault};
+
+use crate::assigned::assignment_field;
+use crate::expressions::{Written, expressions_field, make_all};
+use crate::fault::WhichFault;
+use crate::field::WhichField;
+use crate::parts::{both, number_field};
+use cnf_match::CnfExpr;
+use exact_json::{Doc, Value};
+use json_fields as fields;
+use json_fields::Bounds;
+use rtb_num::List;
+use std::alloc::Global;
+use target_expr::Assignment;
+
+/// What is asked: the best expressions for an assignment.
+#[derive(Drop)]
+pub struct Request {
+    /// How many are wanted at most: 1 to 4,096.
+    pub n: u32,
+    pub assignment: Assignment,
+    /// Up to 4,096, in the order in which they are written.
+    pub expressions: List<CnfExpr>,
+}
+
+/// The request in a JSON text, or the first of its faults in the order in which the fields are read; behind all of
+/// them come the faults of the expressions, in their order.
+pub fn read_request(alloc: Global, doc: &Doc) -> Result<Request, WhichFault>
+    ensures answer { Answers WhichFault.Memory (which_faults (doc_tree doc.now)) (which_from (doc_tree doc.now)) result }
+    ensures few { IfOk result (λ r. length r.expressions ≤ 4096) }
+{
+    match fields::object_in(doc.root()) {
+        Ok(body) => request_in(alloc, body),
+        Err(_) => Err(WhichFault::NotObject),
+    }
+}
+
+// How many expressions may be wanted.
+const N: Bounds = Bounds {
+    least: 1,
+    greatest: 4_096,
+};
+
+#[tactic(auto, using(json_fields::proofs::First::firsts), unfolding(crate::specs::Request::request_faults))]
+fn request_in(alloc: Global, body: &Value) -> Result<Request, WhichFault>
+    requires forms { HasForms (tree_of body.now) }
+    ensures { Answers WhichFault.Memory (request_faults (tree_of body.now)) (which_from (tree_of body.now)) result }
+{
+    let n = number_field(body, WhichField::N, &N)?;
+    let read = both(
+        assignment_field(alloc, body),
+        expressions_field(alloc, body),
+    );
+    match read {
+        Ok((assignment, written)) => made_of(alloc, n, assignment, written),
+        Err(fault) => Err(fault),
+    }
+}
+
+// The request of these parts, once the expressions are made.
+fn made_of(
+    alloc: Global,
+    n: u32,
+    assignment: Assignment,
+    written: List<Written>,
+) -> Result<Request, WhichFault>
+    ensures { Answers WhichFault.Memory (each_at making_faults written) (record { n = n; assignment = assignment; expressions = map made_of written }) result }
+{
+    let made = make_all(alloc, written.as_slice());
+    drop(written);
+    match made {
+        Ok(expressions) => Ok(Request {
+            n,
+            assignment,
+            expressions,
+        }),
+        Err(fault) => Err(fault),
+    }
+}

@@ -1,0 +1,13 @@
+use Rattle.std.proofs.Common.{◌∙◌, ap, [], ◌∷◌}
+use Rattle.std.specs.Prelude.{decimal}
+use Rattle.json_out.specs.Inside.{put_member}
+use Rattle.json_out.specs.Texts.{Member}
+use Rattle.json_out.specs.Writer.{end}
+use Rattle.json_out.proofs.Objects.{members_are, object_ends}
+use Rattle.which_run.proofs.answer.put_one.Goals as goal
+
+pub returns : goal.returns
+returns c =
+    let only : Member = (c.args.name.now, decimal c.args.n) in
+    let is = c.in_ok-put_number.ensures.ok ∙ ap (λ v. put_member v only) c.in_ok-obj.ensures.ok ∙ members_are c.args.writer.now [] (only ∷ []) in
+    c.in_ok-end.ensures.ok ∙ ap end is ∙ object_ends c.args.writer.now (only ∷ [])
