@@ -1,0 +1,4 @@
+mod Ends
+mod Files
+mod Gathered
+mod Users

@@ -1,0 +1,3 @@
+pub mod Gathering
+pub mod Lines
+pub mod Writing
