@@ -1,6 +1,6 @@
 -- The numbers that are drawn, and what is drawn for a campaign and for a request. The generator is the linear
 -- congruence of Knuth's MMIX, of which the upper 31 bits are taken.
-use Rattle.std.specs.Prelude.{ℕ, ◌+◌, ◌*◌, ◌/◌, ◌%◌, ◌^◌, ◌==◌, Option, None, Some, if◌then◌else◌}
+use Rattle.std.specs.Prelude.{ℕ, ◌+◌, ◌*◌, ◌/◌, ◌%◌, ◌^◌, ◌==◌, None, Some, if◌then◌else◌}
 use Rattle.loadgen.specs.declared.campaign.CampaignDraws.{CampaignDraws}
 use Rattle.loadgen.specs.declared.request.RequestDraws.{RequestDraws}
 

@@ -4,29 +4,29 @@ use Rattle.rtb_num.specs.Amounts.{micros_text}
 use Rattle.loadgen.specs.declared.campaign.CampaignDraws.{CampaignDraws}
 use Rattle.loadgen.specs.declared.request.RequestDraws.{RequestDraws}
 
--- a text and a number behind it
-unfoldable pub numbered : List ℕ → ℕ → List ℕ
-numbered before n = before ++ decimal n
+-- a number between two texts
+unfoldable pub numbered : List ℕ → ℕ → List ℕ → List ℕ
+numbered before n after = before ++ decimal n ++ after
 
--- a text and a price behind it
+-- a price behind a text
 unfoldable pub priced : List ℕ → ℕ → List ℕ
 priced before price = before ++ micros_text price
 
 -- the predicate that refuses a system
 abbrev pub refusal_of : ℕ → List ℕ
-refusal_of o = numbered (codes ",{\"attr\":\"os\",\"not\":[\"o") o ++ codes "\"]}"
+refusal_of o = numbered (codes ",{\"attr\":\"os\",\"not\":[\"o") o (codes "\"]}")
 
 abbrev pub refused_system : Option ℕ → List ℕ
 refused_system None = []
 refused_system (Some o) = refusal_of o
 
 abbrev pub campaign_text : CampaignDraws → List ℕ
-campaign_text c = priced (codes "{\"seat\":\"g\",\"adomain\":\"g.example\",\"bid\":") c.bid ++ numbered (codes ",\"budget\":") c.budget
-    ++ numbered (codes ",\"adm\":\"g\",\"crid\":\"g\",\"target\":[[{\"attr\":\"country\",\"in\":[\"c") c.country ++ codes "\"]}" ++ refused_system c.system ++ codes "]]}"
+campaign_text c = priced (codes "{\"seat\":\"g\",\"adomain\":\"g.example\",\"bid\":") c.bid ++ numbered (codes ",\"budget\":") c.budget (codes ",\"adm\":\"g\",\"crid\":\"g\",\"target\":[[")
+    ++ numbered (codes "{\"attr\":\"country\",\"in\":[\"c") c.country (codes "\"]}") ++ refused_system c.system ++ codes "]]}"
 
 -- the member that tells a system
 abbrev pub system_of : ℕ → List ℕ
-system_of o = numbered (codes ",\"os\":\"o") o ++ codes "\""
+system_of o = numbered (codes ",\"os\":\"o") o (codes "\"")
 
 abbrev pub told_system : Option ℕ → List ℕ
 told_system None = []
@@ -34,5 +34,5 @@ told_system (Some o) = system_of o
 
 -- the request of this number
 abbrev pub request_text : ℕ → RequestDraws → List ℕ
-request_text j r = numbered (codes "{\"id\":\"r") j ++ priced (codes "\",\"imp\":[{\"id\":\"1\",\"bidfloor\":") r.floor
-    ++ numbered (codes ",\"banner\":{}}],\"device\":{\"geo\":{\"country\":\"c") r.country ++ codes "\"}" ++ told_system r.system ++ codes "}}"
+request_text j r = numbered (codes "{\"id\":\"r") j (codes "\",") ++ priced (codes "\"imp\":[{\"id\":\"1\",\"bidfloor\":") r.floor
+    ++ numbered (codes ",\"banner\":{}}],\"device\":{\"geo\":{\"country\":\"c") r.country (codes "\"}") ++ told_system r.system ++ codes "}}"

@@ -19,10 +19,23 @@ pub(crate) fn write_campaign(alloc: Global, draws: CampaignDraws) -> Result<Txt,
     ensures { IfOk result (λ body. body ≡ campaign_text draws) }
 {
     let mut body = Txt::new(alloc);
-    put_price(b"{\"seat\":\"g\",\"adomain\":\"g.example\",\"bid\":", draws.bid, &mut body)?;
-    put_number(b",\"budget\":", draws.budget, &mut body)?;
-    put_number(b",\"adm\":\"g\",\"crid\":\"g\",\"target\":[[{\"attr\":\"country\",\"in\":[\"c", draws.country, &mut body)?;
-    body.extend(b"\"]}")?;
+    put_price(
+        b"{\"seat\":\"g\",\"adomain\":\"g.example\",\"bid\":",
+        draws.bid,
+        &mut body,
+    )?;
+    put_number(
+        b",\"budget\":",
+        draws.budget,
+        b",\"adm\":\"g\",\"crid\":\"g\",\"target\":[[",
+        &mut body,
+    )?;
+    put_number(
+        b"{\"attr\":\"country\",\"in\":[\"c",
+        draws.country,
+        b"\"]}",
+        &mut body,
+    )?;
     refuse_system(draws.system, &mut body)?;
     body.extend(b"]]}")?;
     Ok(body)
@@ -40,7 +53,5 @@ fn refuse_system(system: Option<u32>, body: &mut Txt) -> Result<(), AllocError>
 fn refuse(system: u32, body: &mut Txt) -> Result<(), AllocError>
     ensures { OnOk result (body.new ≡ body.old ++ refusal_of system) }
 {
-    put_number(b",{\"attr\":\"os\",\"not\":[\"o", system, body)?;
-    body.extend(b"\"]}")?;
-    Ok(())
+    put_number(b",{\"attr\":\"os\",\"not\":[\"o", system, b"\"]}", body)
 }

@@ -11,6 +11,7 @@ use std::marker::Model;
 
 // The factor and the addend of Knuth's MMIX.
 const FACTOR: u64 = 6_364_136_223_846_793_005;
+
 const ADDEND: u64 = 1_442_695_040_888_963_407;
 
 /// A state that leads to all numbers that are drawn from it. It is no source of secrets: each number tells the rest.

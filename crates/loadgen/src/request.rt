@@ -14,14 +14,26 @@ pub(crate) struct RequestDraws {
     pub system: Option<u32>,
 }
 
-pub(crate) fn write_request(alloc: Global, number: u32, draws: RequestDraws) -> Result<Txt, AllocError>
+pub(crate) fn write_request(
+    alloc: Global,
+    number: u32,
+    draws: RequestDraws,
+) -> Result<Txt, AllocError>
     ensures { IfOk result (λ body. body ≡ request_text number draws) }
 {
     let mut body = Txt::new(alloc);
-    put_number(b"{\"id\":\"r", number, &mut body)?;
-    put_price(b"\",\"imp\":[{\"id\":\"1\",\"bidfloor\":", draws.floor, &mut body)?;
-    put_number(b",\"banner\":{}}],\"device\":{\"geo\":{\"country\":\"c", draws.country, &mut body)?;
-    body.extend(b"\"}")?;
+    put_number(b"{\"id\":\"r", number, b"\",", &mut body)?;
+    put_price(
+        b"\"imp\":[{\"id\":\"1\",\"bidfloor\":",
+        draws.floor,
+        &mut body,
+    )?;
+    put_number(
+        b",\"banner\":{}}],\"device\":{\"geo\":{\"country\":\"c",
+        draws.country,
+        b"\"}",
+        &mut body,
+    )?;
     tell_system(draws.system, &mut body)?;
     body.extend(b"}}")?;
     Ok(body)
@@ -39,7 +51,5 @@ fn tell_system(system: Option<u32>, body: &mut Txt) -> Result<(), AllocError>
 fn tell(system: u32, body: &mut Txt) -> Result<(), AllocError>
     ensures { OnOk result (body.new ≡ body.old ++ system_of system) }
 {
-    put_number(b",\"os\":\"o", system, body)?;
-    body.extend(b"\"")?;
-    Ok(())
+    put_number(b",\"os\":\"o", system, b"\"", body)
 }
