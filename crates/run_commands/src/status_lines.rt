@@ -35,11 +35,8 @@ fn line(status: Status) -> &'static [u8]
         Status::NotEmpty => b"rtbx: not empty\n",
         Status::WriteFailed => b"rtbx: write failed\n",
         Status::TraceTooLong => b"rtbx: trace too long\n",
-        Status::Done
-        | Status::Refused
-        | Status::Damaged
-        | Status::NotWritten
-        | Status::TraceTorn => b"",
+        Status::Done | Status::Refused | Status::Damaged | Status::NotWritten | Status::TraceTorn =>
+            b"",
     }
 }
 
