@@ -9,6 +9,7 @@
 mod answers;
 mod bodies;
 mod commands;
+mod compactions;
 mod conversations;
 mod exchanges;
 mod journals;
@@ -117,6 +118,9 @@ fn answer_of_exchanges(
         return Ok(true);
     }
     if runs::answer(alloc, call, args, out)? {
+        return Ok(true);
+    }
+    if compactions::answer(alloc, call, args, out)? {
         return Ok(true);
     }
     try_runs::answer(alloc, call, args, out)

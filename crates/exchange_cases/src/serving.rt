@@ -1,4 +1,4 @@
-//! Calls of `one_worker`: links of messages to an exchange over a journal on an empty disk.
+//! Calls of `one_worker`: links of messages to an exchange over a journal, mostly on an empty disk.
 //!
 //! A link's field has its messages, `METHOD TARGET BODY`, with ` ; ` between two; `bodies.rt` says what BODY
 //! stands for. Each comes at the moment 1000.
@@ -21,13 +21,18 @@ const STOPS: usize = 7;
 /// - `serve_door | CALLS | CALLS | LINK | ..`: what was sent on each link that came back, with ` / ` behind each,
 ///   how the door ended, and what is told of the journal then. The disk's calls and the calls for a link that have
 ///   these numbers fail.
+/// - `serve_journal | JOURNAL | LINK | ..`: the same over a disk with these bytes, of which no call fails.
 /// - `serve_crash | LINK | LINK`: eight letters for each stop of the disk, at each call of the last link's messages
 ///   in turn, and last not at all: what a crash leaves by the picks 0 to 7 says what the journal says before these
 ///   messages, `b`, or after them, `a`.
 pub fn answer(alloc: Global, call: &[u8], args: &[Txt], out: &mut Txt) -> Result<bool, AllocError> {
     match args {
         [disk, door, links @ ..] if call == b"serve_door".as_slice() => {
-            done(put_served(alloc, disk.as_bytes(), door.as_bytes(), links, out))
+            let empty = Txt::new(alloc);
+            done(put_served(alloc, &empty, disk.as_bytes(), door.as_bytes(), links, out))
+        }
+        [journal, links @ ..] if call == b"serve_journal".as_slice() => {
+            done(put_served(alloc, journal, b"", b"", links, out))
         }
         [before, ..] if call == b"serve_crash".as_slice() => {
             done(put_crashes(alloc, before, args, out))
@@ -38,15 +43,17 @@ pub fn answer(alloc: Global, call: &[u8], args: &[Txt], out: &mut Txt) -> Result
 
 fn put_served(
     alloc: Global,
+    journal: &Txt,
     disk_fails: &[u8],
     door_fails: &[u8],
     links: &[Txt],
     out: &mut Txt,
 ) -> Result<(), AllocError> {
     let fails = numbers_in(alloc, disk_fails)?;
+    let content = journal.copy()?;
     let public = public_text(alloc)?;
     let door = door_of(alloc, links, numbers_in(alloc, door_fails)?)?;
-    let disk = MemDisk::new(alloc, Txt::new(alloc), fails);
+    let disk = MemDisk::new(alloc, content, fails);
     match Exchange::open(alloc, disk, TTL) {
         Ok(exchange) => {
             let served = serve_door(alloc, exchange, door, &NoPause, &public);

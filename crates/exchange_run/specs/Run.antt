@@ -7,12 +7,14 @@ use Rattle.link_door.specs.declared.link.Link.{Ghosts as LinkGhosts}
 use Rattle.rtb_disk.specs.declared.disk.Disk.{Ghosts as DiskGhosts}
 use Rattle.rtb_io.specs.Statuses.{code_of}
 use Rattle.rtb_io.specs.declared.status.Status.TheVariants as status
+use Rattle.run_commands.specs.Compact.{RunsCompact}
 use Rattle.run_commands.specs.Endings.{Ends, EndsBy}
 use Rattle.run_commands.specs.Recover.{Recovers}
 use Rattle.run_commands.specs.Serve.{Serves}
 use Rattle.run_words.specs.CommandLines.{command_line, is_question}
 use Rattle.run_words.specs.declared.commands.CommandLine.{CommandLine}
 use Rattle.run_words.specs.declared.commands.CommandLine.TheVariants as line
+use Rattle.run_words.specs.declared.compact.CompactOptions.{CompactOptions}
 use Rattle.run_words.specs.declared.recover.RecoverOptions.{RecoverOptions}
 use Rattle.run_words.specs.declared.serve.ServeOptions.{ServeOptions}
 use Rattle.exchange_run.specs.Answer.{HalfTold, Told}
@@ -49,32 +51,36 @@ Shows written written' code = ((text : List ℕ) × Ends status.Done text writte
 abbrev pub IsQuestion : CommandLine → Type 0
 IsQuestion (line.Serve options) = ⊥
 IsQuestion (line.Recover options) = ⊥
+IsQuestion (line.Compact options) = ⊥
 IsQuestion (line.Help topic) = Unit {0}
 IsQuestion line.Version = Unit {0}
 
 -- nothing was asked of the world
-pub record IsApart {Disk Door : Type 0} (calls calls' : List WorldCall) (disks disks' : Option (List Disk)) (left left' : Option (List Door)) (count count' : ℕ) (given : List Door) (back : Option Disk) : Type 0 where
+pub record IsApart {Disk Door : Type 0} (calls calls' : List WorldCall) (disks disks' : Option (List Disk)) (left left' : Option (List Door)) (count count' : ℕ) (given : List Door) (back second : Option Disk) : Type 0 where
   pub calls_are : calls' ≡ calls
   pub disks_are : disks' ≡ disks
   pub doors_are : left' ≡ left
   pub count_is : count' ≡ count
   pub no_door : given ≡ []
   pub no_disk : back ≡ None
+  pub no_second : second ≡ None
 
 -- What the run comes to by its words. `calls` is what the world was asked for so far, `disks` and `left` are the disks
 -- and the doors that it has, `count` is its count of faults, and `given` and `back` are the doors and the disk that are
--- given back.
+-- given back, and `second` the disk that `compact` reads.
 pub data Runs {Disk Door Link : Type 0} (G : DiskGhosts Disk) (H : DoorGhosts Door Link) (K : LinkGhosts Link) (words : List (List ℕ))
-    (calls calls' : List WorldCall) (disks disks' : Option (List Disk)) (left left' : Option (List Door)) (count count' : ℕ) (written written' : Option (List ℕ)) (code : ℕ) (given : List Door) (back : Option Disk) : Type 0 where
-  tries : names_try words ≡ true → IsApart calls calls' disks disks' left left' count count' given back
-      → Runs G H K words calls calls' disks disks' left left' count count' written written' code given back
-  serves : (options : ServeOptions) → words_of words ≡ Some (other (line.Serve options)) → Serves G H K options calls calls' disks disks' left left' count count' written written' code given back
-      → Runs G H K words calls calls' disks disks' left left' count count' written written' code given back
-  recovers : (options : RecoverOptions) → words_of words ≡ Some (other (line.Recover options)) → left' ≡ left → given ≡ [] → Recovers G options.journal calls calls' disks disks' count count' written written' code back
-      → Runs G H K words calls calls' disks disks' left left' count count' written written' code given back
-  shows : (asked : CommandLine) → IsQuestion asked → words_of words ≡ Some (other asked) → IsApart calls calls' disks disks' left left' count count' given back → Shows written written' code
-      → Runs G H K words calls calls' disks disks' left left' count count' written written' code given back
-  unnamed : words_of words ≡ None → IsApart calls calls' disks disks' left left' count count' given back → EndsBy status.Usage written written' code
-      → Runs G H K words calls calls' disks disks' left left' count count' written written' code given back
-  starved : IsApart calls calls' disks disks' left left' count count' given back → EndsBy status.Memory written written' code
-      → Runs G H K words calls calls' disks disks' left left' count count' written written' code given back
+    (calls calls' : List WorldCall) (disks disks' : Option (List Disk)) (left left' : Option (List Door)) (count count' : ℕ) (written written' : Option (List ℕ)) (code : ℕ) (given : List Door) (back second : Option Disk) : Type 0 where
+  tries : names_try words ≡ true → IsApart calls calls' disks disks' left left' count count' given back second
+      → Runs G H K words calls calls' disks disks' left left' count count' written written' code given back second
+  serves : (options : ServeOptions) → words_of words ≡ Some (other (line.Serve options)) → second ≡ None → Serves G H K options calls calls' disks disks' left left' count count' written written' code given back
+      → Runs G H K words calls calls' disks disks' left left' count count' written written' code given back second
+  recovers : (options : RecoverOptions) → words_of words ≡ Some (other (line.Recover options)) → left' ≡ left → given ≡ [] → second ≡ None → Recovers G options.journal calls calls' disks disks' count count' written written' code back
+      → Runs G H K words calls calls' disks disks' left left' count count' written written' code given back second
+  compacts : (options : CompactOptions) → words_of words ≡ Some (other (line.Compact options)) → left' ≡ left → given ≡ [] → RunsCompact G options calls calls' disks disks' count count' written written' code back second
+      → Runs G H K words calls calls' disks disks' left left' count count' written written' code given back second
+  shows : (asked : CommandLine) → IsQuestion asked → words_of words ≡ Some (other asked) → IsApart calls calls' disks disks' left left' count count' given back second → Shows written written' code
+      → Runs G H K words calls calls' disks disks' left left' count count' written written' code given back second
+  unnamed : words_of words ≡ None → IsApart calls calls' disks disks' left left' count count' given back second → EndsBy status.Usage written written' code
+      → Runs G H K words calls calls' disks disks' left left' count count' written written' code given back second
+  starved : IsApart calls calls' disks disks' left left' count count' given back second → EndsBy status.Memory written written' code
+      → Runs G H K words calls calls' disks disks' left left' count count' written written' code given back second

@@ -9,14 +9,14 @@ use link_door::{Door, Link, Pause, World};
 use rtb_disk::Disk;
 use rtb_io::Status;
 use rtb_num::{Sink, Source, Txt};
-use run_commands::{Outcome, end_with, recover, serve, tell};
+use run_commands::{Outcome, compact, end_with, recover, serve, tell};
 use run_words::{CommandLine, WordsFault, command_line, help_text, is_question, version_text};
 use std::alloc::{AllocError, Global};
 
 /// Runs the command that the words name, the first of which is its name, and gives back all that the world
 /// handed out.
 ///
-/// `try` is `try_run`; `serve` and `recover` are those of `run_commands`. `--help` and `--version`, alone or
+/// `try` is `try_run`; `serve`, `recover` and `compact` are those of `run_commands`. `--help` and `--version`, alone or
 /// behind the name of a command, print a text. Other words end with status 2 and its line.
 pub fn run<W: World, P: Pause, S: Source, K: Sink>(
     alloc: Global,
@@ -26,7 +26,7 @@ pub fn run<W: World, P: Pause, S: Source, K: Sink>(
     source: &mut S,
     sink: &mut K,
 ) -> Outcome<W>
-    ensures runs { Runs ⟦<W::Disk as Disk>⟧ ⟦<W::Door as Door>⟧ ⟦<<W::Door as Door>::Link as Link>⟧ words.now (W.asked world.old) (W.asked world.new) (W.disks_left world.old) (W.disks_left world.new) (W.doors_left world.old) (W.doors_left world.new) (W.faults world.old) (W.faults world.new) (K.written sink.old) (K.written sink.new) result.status result.doors result.disk }
+    ensures runs { Runs ⟦<W::Disk as Disk>⟧ ⟦<W::Door as Door>⟧ ⟦<<W::Door as Door>::Link as Link>⟧ words.now (W.asked world.old) (W.asked world.new) (W.disks_left world.old) (W.disks_left world.new) (W.doors_left world.old) (W.doors_left world.new) (W.faults world.old) (W.faults world.new) (K.written sink.old) (K.written sink.new) result.status result.doors result.disk result.other }
     ensures cause { RisesOnlyWhere (result.status ≡ code_of NotWritten) (K.faults sink.old) (K.faults sink.new) }
 
     // With `try` and its campaigns it is `try_run`; the source is for that command alone.
@@ -61,7 +61,7 @@ fn run_other<W: World, P: Pause, K: Sink>(
     sink: &mut K,
 ) -> Outcome<W>
     requires { names_try words.now ≡ false }
-    ensures runs { Runs ⟦<W::Disk as Disk>⟧ ⟦<W::Door as Door>⟧ ⟦<<W::Door as Door>::Link as Link>⟧ words.now (W.asked world.old) (W.asked world.new) (W.disks_left world.old) (W.disks_left world.new) (W.doors_left world.old) (W.doors_left world.new) (W.faults world.old) (W.faults world.new) (K.written sink.old) (K.written sink.new) result.status result.doors result.disk }
+    ensures runs { Runs ⟦<W::Disk as Disk>⟧ ⟦<W::Door as Door>⟧ ⟦<<W::Door as Door>::Link as Link>⟧ words.now (W.asked world.old) (W.asked world.new) (W.disks_left world.old) (W.disks_left world.new) (W.doors_left world.old) (W.doors_left world.new) (W.faults world.old) (W.faults world.new) (K.written sink.old) (K.written sink.new) result.status result.doors result.disk result.other }
     ensures cause { RisesOnlyWhere (result.status ≡ code_of NotWritten) (K.faults sink.old) (K.faults sink.new) }
 {
     match command_line(alloc, words) {
@@ -92,12 +92,13 @@ fn run_line<W: World, P: Pause, K: Sink>(
     pause: &P,
     sink: &mut K,
 ) -> Outcome<W>
-    ensures runs { (words : List (List ℕ)) → words_of words ≡ Some (other line.now) → Runs ⟦<W::Disk as Disk>⟧ ⟦<W::Door as Door>⟧ ⟦<<W::Door as Door>::Link as Link>⟧ words (W.asked world.old) (W.asked world.new) (W.disks_left world.old) (W.disks_left world.new) (W.doors_left world.old) (W.doors_left world.new) (W.faults world.old) (W.faults world.new) (K.written sink.old) (K.written sink.new) result.status result.doors result.disk }
+    ensures runs { (words : List (List ℕ)) → words_of words ≡ Some (other line.now) → Runs ⟦<W::Disk as Disk>⟧ ⟦<W::Door as Door>⟧ ⟦<<W::Door as Door>::Link as Link>⟧ words (W.asked world.old) (W.asked world.new) (W.disks_left world.old) (W.disks_left world.new) (W.doors_left world.old) (W.doors_left world.new) (W.faults world.old) (W.faults world.new) (K.written sink.old) (K.written sink.new) result.status result.doors result.disk result.other }
     ensures cause { RisesOnlyWhere (result.status ≡ code_of NotWritten) (K.faults sink.old) (K.faults sink.new) }
 {
     match line {
         CommandLine::Serve(options) => serve(alloc, options, world, pause, sink),
         CommandLine::Recover(options) => recover(alloc, options, world, sink),
+        CommandLine::Compact(options) => compact(alloc, options, world, sink),
         CommandLine::Help(topic) => {
             let text = help_text(alloc, *topic);
             Outcome::without_world(alloc, show(text, sink).code())

@@ -11,7 +11,7 @@ use std::alloc::{AllocError, Global};
 /// Of words that are of no command, appends a line that says what is wrong, and one that shows a right
 /// command, or where there is no word, one for each command. Of a command it appends nothing.
 ///
-/// What it says of the options of `serve` and `recover` is what `clap` says.
+/// What it says of the options of `serve`, `recover` and `compact` is what `clap` says.
 pub fn explain(alloc: Global, words: &[Txt], out: &mut Txt) -> Result<(), AllocError>
     ensures ok { OnOk result ((said : List ℕ) × (out.new ≡ out.old ++ explanation said words.now)) }
     ensures err { OnErr result (out.new ≡ out.old) }
@@ -62,6 +62,9 @@ fn put_what_is_wrong(said: &[u8], words: &[Txt], out: &mut Txt) -> Result<(), Al
             if name.as_bytes() == b"recover".as_slice() {
                 return put_about_options(said, RECOVER_EXAMPLE, out);
             }
+            if name.as_bytes() == b"compact".as_slice() {
+                return put_about_options(said, COMPACT_EXAMPLE, out);
+            }
             put_about_word(name, b" is no command\n", out)
         }
     }
@@ -75,6 +78,9 @@ const SERVE_EXAMPLE: &[u8] =
 const RECOVER_EXAMPLE: &[u8] =
     b"rtbx: a right command is: rtbx recover --journal exchange.journal\n";
 
+const COMPACT_EXAMPLE: &[u8] =
+    b"rtbx: a right command is: rtbx compact --journal exchange.journal --into compacted.journal\n";
+
 fn put_examples(out: &mut Txt) -> Result<(), AllocError>
     ensures ok { OnOk result (out.new ≡ out.old ++ examples) }
     ensures front { (more : List ℕ) × (out.new ≡ out.old ++ more) }
@@ -83,6 +89,7 @@ fn put_examples(out: &mut Txt) -> Result<(), AllocError>
     out.extend(EXAMPLE)?;
     out.extend(SERVE_EXAMPLE)?;
     out.extend(RECOVER_EXAMPLE)?;
+    out.extend(COMPACT_EXAMPLE)?;
     Ok(())
 }
 

@@ -1,3 +1,4 @@
+pub mod Compact
 pub mod Endings
 pub mod Journals
 pub mod Recover

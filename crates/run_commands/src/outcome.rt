@@ -13,8 +13,10 @@ pub struct Outcome<W: World> {
     pub status: u8,
     /// The doors, in the order in which the world gave them.
     pub doors: List<W::Door>,
-    /// The disk of the journal.
+    /// The disk of the journal; of `compact`, of the one that is written.
     pub disk: Option<W::Disk>,
+    /// The disk of the journal that `compact` reads.
+    pub other: Option<W::Disk>,
 }
 
 impl<W: World> Outcome<W> {
@@ -23,11 +25,13 @@ impl<W: World> Outcome<W> {
         ensures status { result.status ≡ status }
         ensures doors { result.doors ≡ [] }
         ensures disk { result.disk ≡ None }
+        ensures other { result.other ≡ None }
     {
         Outcome {
             status,
             doors: List::new(alloc),
             disk: None,
+            other: None,
         }
     }
 
@@ -36,11 +40,33 @@ impl<W: World> Outcome<W> {
         ensures status { result.status ≡ code_of status }
         ensures doors { result.doors ≡ [] }
         ensures disk { result.disk ≡ Some disk }
+        ensures other { result.other ≡ None }
     {
         Outcome {
             status: status.code(),
             doors: List::new(alloc),
             disk: Some(disk),
+            other: None,
+        }
+    }
+
+    /// A run that was handed out the disk of a journal to read, and no more or one to write, and no door.
+    pub fn with_other(
+        alloc: Global,
+        status: Status,
+        other: W::Disk,
+        disk: Option<W::Disk>,
+    ) -> Outcome<W>
+        ensures status { result.status ≡ code_of status }
+        ensures doors { result.doors ≡ [] }
+        ensures disk { result.disk ≡ disk }
+        ensures other { result.other ≡ Some other }
+    {
+        Outcome {
+            status: status.code(),
+            doors: List::new(alloc),
+            disk,
+            other: Some(other),
         }
     }
 }

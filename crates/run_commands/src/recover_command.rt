@@ -1,4 +1,4 @@
-ghost use Rattle.std.specs.Prelude.{◌≡◌, [], MatchResult};
+ghost use Rattle.std.specs.Prelude.{◌≡◌, [], MatchResult, None};
 ghost use Rattle.recovery.specs.Openings.{IsUnwritten};
 ghost use Rattle.rtb_base.specs.Faults.{RisesOnlyWhere};
 ghost use Rattle.rtb_io.specs.Statuses.{code_of};
@@ -32,6 +32,7 @@ pub fn recover<W: World, K: Sink>(
 ) -> Outcome<W>
     ensures recovers { Recovers ⟦<W::Disk as Disk>⟧ options.now.journal (W.asked world.old) (W.asked world.new) (W.disks_left world.old) (W.disks_left world.new) (W.faults world.old) (W.faults world.new) (K.written sink.old) (K.written sink.new) result.status result.disk }
     ensures doors { result.doors ≡ [] }
+    ensures other { result.other ≡ None }
     ensures others { W.doors_left world.new ≡ W.doors_left world.old }
     ensures cause { RisesOnlyWhere (result.status ≡ code_of NotWritten) (K.faults sink.old) (K.faults sink.new) }
 {

@@ -34,6 +34,7 @@ pub fn serve<W: World, P: Pause, K: Sink>(
     sink: &mut K,
 ) -> Outcome<W>
     ensures serves { Serves ⟦<W::Disk as Disk>⟧ ⟦<W::Door as Door>⟧ ⟦<<W::Door as Door>::Link as Link>⟧ options.now (W.asked world.old) (W.asked world.new) (W.disks_left world.old) (W.disks_left world.new) (W.doors_left world.old) (W.doors_left world.new) (W.faults world.old) (W.faults world.new) (K.written sink.old) (K.written sink.new) result.status result.doors result.disk }
+    ensures other { result.other ≡ None }
     ensures cause { RisesOnlyWhere (result.status ≡ code_of NotWritten) (K.faults sink.old) (K.faults sink.new) }
 {
     match world.disk(&options.journal) {
@@ -52,6 +53,7 @@ fn serve_disk<W: World, P: Pause, K: Sink>(
     disk: W::Disk,
 ) -> Outcome<W>
     ensures serves { (disks : Option (List W.Disk)) (asked : List Asked) → HandsOut disks (W.disks_left world.old) (disk ∷ []) → W.asked world.old ≡ asked ++ asked_for.Disk options.now.journal ∷ [] → Serves ⟦<W::Disk as Disk>⟧ ⟦<W::Door as Door>⟧ ⟦<<W::Door as Door>::Link as Link>⟧ options.now asked (W.asked world.new) disks (W.disks_left world.new) (W.doors_left world.old) (W.doors_left world.new) (W.faults world.old) (W.faults world.new) (K.written sink.old) (K.written sink.new) result.status result.doors result.disk }
+    ensures other { result.other ≡ None }
     ensures cause { RisesOnlyWhere (result.status ≡ code_of NotWritten) (K.faults sink.old) (K.faults sink.new) }
 {
     match Exchange::open(alloc, disk, options.ttl) {
@@ -71,6 +73,7 @@ fn serve_exchange<W: World, P: Pause, K: Sink>(
 ) -> Outcome<W>
     ensures listens { (disk : W.Disk) → Opens ⟦<W::Disk as Disk>⟧ ⟦<W::Door as Door>⟧ ⟦<<W::Door as Door>::Link as Link>⟧ options.now disk exchange → Listens ⟦<W::Disk as Disk>⟧ ⟦<W::Door as Door>⟧ ⟦<<W::Door as Door>::Link as Link>⟧ options.now disk (W.asked world.old) (W.asked world.new) (W.doors_left world.old) (W.doors_left world.new) (W.faults world.old) (W.faults world.new) (K.written sink.old) (K.written sink.new) result.status result.doors result.disk }
     ensures disks { W.disks_left world.new ≡ W.disks_left world.old }
+    ensures other { result.other ≡ None }
     ensures cause { RisesOnlyWhere (result.status ≡ code_of NotWritten) (K.faults sink.old) (K.faults sink.new) }
 {
     match world.doors(alloc, &options.listen, 1) {
@@ -82,6 +85,7 @@ fn serve_exchange<W: World, P: Pause, K: Sink>(
                 status: status.code(),
                 doors: list_with(room, door),
                 disk: Some(disk),
+                other: None,
             }
         }
         Err(fault) => {

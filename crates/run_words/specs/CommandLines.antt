@@ -3,8 +3,9 @@ use Rattle.std.specs.Prelude.{◌||◌, Bool, false, List, [], ◌∷◌, Option
 use Rattle.std.specs.Str.{bytes_eq}
 use Rattle.clap.specs.Words.{Text}
 use Rattle.run_words.specs.Commands.{recover_options, serve_options}
+use Rattle.run_words.specs.Compact.{compact_options}
 use Rattle.run_words.specs.declared.commands.CommandLine.{CommandLine}
-use Rattle.run_words.specs.declared.commands.CommandLine.TheVariants.{Serve, Recover, Help, Version}
+use Rattle.run_words.specs.declared.commands.CommandLine.TheVariants.{Serve, Recover, Compact, Help, Version}
 use Rattle.run_words.specs.declared.commands.Topic.{Topic}
 use Rattle.run_words.specs.declared.commands.Topic.TheVariants as topic
 
@@ -35,10 +36,14 @@ serve_line words rest = or_else (asked topic.Serve rest) (option_map Serve (serv
 abbrev pub recover_line : List Text → List Text → Option CommandLine
 recover_line words rest = or_else (asked topic.Recover rest) (option_map Recover (recover_options words))
 
+abbrev pub compact_line : List Text → List Text → Option CommandLine
+compact_line words rest = or_else (asked topic.Compact rest) (option_map Compact (compact_options words))
+
 -- what the words ask for, the first of which names the command; campaigns behind `try` are not read by `clap`
 abbrev pub command_line : List Text → Option CommandLine
 command_line [] = None
 command_line (name ∷ rest) =
     if bytes_eq name (codes "serve") then serve_line (name ∷ rest) rest
     else (if bytes_eq name (codes "recover") then recover_line (name ∷ rest) rest
-    else (if bytes_eq name (codes "try") then asked topic.Try rest else asked topic.Program (name ∷ rest)))
+    else (if bytes_eq name (codes "compact") then compact_line (name ∷ rest) rest
+    else (if bytes_eq name (codes "try") then asked topic.Try rest else asked topic.Program (name ∷ rest))))

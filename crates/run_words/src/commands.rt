@@ -1,8 +1,9 @@
 ghost use Rattle.std.specs.Prelude.{◌≡◌, ◌||◌, MatchResult, None, Some, codes};
 ghost use Rattle.std.specs.Str.{bytes_eq};
-ghost use Rattle.run_words.specs.CommandLines.{about, asked, command_line, is_question, recover_line, serve_line};
+ghost use Rattle.run_words.specs.CommandLines.{about, asked, command_line, compact_line, is_question, recover_line, serve_line};
 ghost use Rattle.run_words.specs.declared.fault.WordsFault.TheVariants.{Usage};
 
+use crate::compact::{CompactOptions, compact_options};
 use crate::fault::WordsFault;
 use crate::recover::{RecoverOptions, recover_options};
 use crate::serve::{ServeOptions, serve_options};
@@ -18,6 +19,8 @@ pub enum Topic {
     Serve,
     /// The command `recover`.
     Recover,
+    /// The command `compact`.
+    Compact,
     /// The command `try`.
     Try,
 }
@@ -29,6 +32,8 @@ pub enum CommandLine {
     Serve(ServeOptions),
     /// `recover` with its options.
     Recover(RecoverOptions),
+    /// `compact` with its options.
+    Compact(CompactOptions),
     /// `--help`, alone or behind a command's name.
     Help(Topic),
     /// `--version`, likewise.
@@ -47,6 +52,9 @@ pub fn command_line(alloc: Global, words: &[Txt]) -> Result<CommandLine, WordsFa
             }
             if name.as_bytes() == b"recover".as_slice() {
                 return recover_line(alloc, words, rest);
+            }
+            if name.as_bytes() == b"compact".as_slice() {
+                return compact_line(alloc, words, rest);
             }
             if name.as_bytes() == b"try".as_slice() {
                 return question(Topic::Try, rest);
@@ -85,6 +93,18 @@ fn recover_line(alloc: Global, words: &[Txt], rest: &[Txt]) -> Result<CommandLin
         Some(line) => Ok(line),
         None => match recover_options(alloc, words) {
             Ok(options) => Ok(CommandLine::Recover(options)),
+            Err(fault) => Err(fault),
+        },
+    }
+}
+
+fn compact_line(alloc: Global, words: &[Txt], rest: &[Txt]) -> Result<CommandLine, WordsFault>
+    ensures { MatchResult result (λ line. compact_line words.now rest.now ≡ Some line) (λ e. e ≡ Usage → compact_line words.now rest.now ≡ None) }
+{
+    match asked(Topic::Compact, rest) {
+        Some(line) => Ok(line),
+        None => match compact_options(alloc, words) {
+            Ok(options) => Ok(CommandLine::Compact(options)),
             Err(fault) => Err(fault),
         },
     }

@@ -1,6 +1,7 @@
 //! Texts for a person, of which no contract speaks.
 use crate::address::has_port_0;
 use crate::commands::Topic;
+use crate::compact::compact_command;
 use crate::fault::WordsFault;
 use crate::recover::recover_command;
 use crate::serve::serve_command;
@@ -46,6 +47,9 @@ const SERVE_ABOUT: &str = "Serves the exchange over HTTP, with one worker, until
 const RECOVER_ABOUT: &str =
     "Reads a journal, changes nothing, and prints the counts of its exchange";
 
+const COMPACT_ABOUT: &str =
+    "Writes a journal anew, without old sales: to another file, while nobody serves it";
+
 const TRY_ABOUT: &str =
     "Sells one bid request of standard input to the campaigns BID or BID@DOMAIN";
 
@@ -54,6 +58,7 @@ Examples:
   rtbx try 2.50@news.example 1.00 < request.json
   rtbx serve --listen 127.0.0.1:8080 --journal exchange.journal --public http://ads.example
   rtbx recover --journal exchange.journal
+  rtbx compact --journal exchange.journal --into compacted.journal
   rtbx serve --help";
 
 const SERVE_END: &str = "\
@@ -71,6 +76,10 @@ const RECOVER_END: &str = "\
 Example:
   rtbx recover --journal exchange.journal";
 
+const COMPACT_END: &str = "\
+Example:
+  rtbx compact --journal exchange.journal --into compacted.journal --keep 1000000";
+
 // The command with what is told of it.
 fn told_command<'a>(alloc: Global, topic: Topic) -> Result<Command<'a>, AllocError> {
     match topic {
@@ -81,6 +90,12 @@ fn told_command<'a>(alloc: Global, topic: Topic) -> Result<Command<'a>, AllocErr
             "rtbx recover",
             RECOVER_ABOUT,
             RECOVER_END,
+        ),
+        Topic::Compact => told(
+            compact_command(alloc),
+            "rtbx compact",
+            COMPACT_ABOUT,
+            COMPACT_END,
         ),
         Topic::Try => told(try_command(alloc), "rtbx try", TRY_ABOUT, TRY_END),
     }
@@ -124,7 +139,8 @@ fn commands<'a>(alloc: Global) -> Result<Vec<Command<'a>>, AllocError> {
     let try_command = named(alloc, "try", TRY_ABOUT);
     let serve = named(alloc, "serve", SERVE_ABOUT);
     let recover = named(alloc, "recover", RECOVER_ABOUT);
-    Ok(vec![in alloc; try_command, serve, recover]?)
+    let compact = named(alloc, "compact", COMPACT_ABOUT);
+    Ok(vec![in alloc; try_command, serve, recover, compact]?)
 }
 
 // For its help alone: its words are read by hand.
@@ -155,6 +171,7 @@ fn refusal_of<'a>(alloc: Global, words: &'a [&'a str]) -> Result<Txt, AllocError
     match words {
         ["serve", ..] => refusal_by(alloc, serve_command(alloc), words),
         ["recover", ..] => refusal_by(alloc, recover_command(alloc), words),
+        ["compact", ..] => refusal_by(alloc, compact_command(alloc), words),
         _ => Ok(Txt::new(alloc)),
     }
 }
@@ -167,13 +184,36 @@ fn refusal_by<'a>(
     match command {
         Ok(command) => match command.try_get_matches_from(words) {
             Ok(matches) => {
-                let refusal = port_refusal(alloc, &matches);
+                let refusal = value_refusal(alloc, &matches);
                 drop(matches);
                 refusal
             }
             Err(error) => told_refusal(alloc, error),
         },
         Err(error) => Err(error),
+    }
+}
+
+// What is wrong with the paths or with the port, where something is.
+fn value_refusal(alloc: Global, matches: &ArgMatches<'_>) -> Result<Txt, AllocError> {
+    if has_one_path(matches) {
+        return Txt::from_slice(alloc, b"--into has to name another file than --journal");
+    }
+    port_refusal(alloc, matches)
+}
+
+// Whether what is to be written is what is read.
+fn has_one_path(matches: &ArgMatches<'_>) -> bool {
+    match matches.get_str("into") {
+        Some(into) => is_path(matches.get_str("journal"), into),
+        None => false,
+    }
+}
+
+fn is_path(given: Option<&str>, path: &str) -> bool {
+    match given {
+        Some(given) => given.as_bytes() == path.as_bytes(),
+        None => false,
     }
 }
 

@@ -3,6 +3,7 @@
 
 mod address;
 mod commands;
+mod compact;
 mod fault;
 mod help;
 mod matched;
@@ -12,6 +13,7 @@ mod serve;
 mod texts;
 
 pub use commands::{CommandLine, Topic, command_line, is_question};
+pub use compact::{CompactOptions, compact_options};
 pub use fault::WordsFault;
 pub use help::{help_text, refusal_line, version_text};
 pub use recover::{RecoverOptions, recover_options};

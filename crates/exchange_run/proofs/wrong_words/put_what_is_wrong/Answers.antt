@@ -60,14 +60,28 @@ returns-in-empty-clause-ok c =
 pub returns-in-empty-clause-front : goal.returns-in-empty-clause-front
 returns-in-empty-clause-front c = c.put_examples.ensures.front
 
-pub returns-else-eq-3-clause-ok : goal.returns-else-eq-3-clause-ok
-returns-else-eq-3-clause-ok c =
+pub returns-then-eq-4-clause-ok : goal.returns-then-eq-4-clause-ok
+returns-then-eq-4-clause-ok c =
     let words = begun c.args.words.now c.name-item.result c.in-len1-up.len_at_least c.name-item.is in
     let is_try = tested false _ _ c.name-item.result (codes "try") c.if-eq.ensures c.as_bytes.ensures.value c.as_slice.ensures in
     let is_serve = tested false _ _ c.name-item.result (codes "serve") c.if-eq-2.ensures c.as_bytes-in-len1-up.ensures.value c.as_slice-in-len1-up.ensures in
     let is_recover = tested false _ _ c.name-item.result (codes "recover") c.if-eq-3.ensures c.as_bytes-in-len1-up-2.ensures.value c.as_slice-in-len1-up-2.ensures in
-    let wrong = ap (what_is_wrong c.args.said.now) words ∙ cond-false _ _ _ is_try ∙ cond-false _ _ _ is_serve ∙ cond-false _ _ _ is_recover in
+    let is_compact = tested true _ _ c.name-item.result (codes "compact") c.if-eq-4.ensures c.as_bytes-in-len1-up-3.ensures.value c.as_slice-in-len1-up-3.ensures in
+    let wrong = ap (what_is_wrong c.args.said.now) words ∙ cond-false _ _ _ is_try ∙ cond-false _ _ _ is_serve ∙ cond-false _ _ _ is_recover ∙ cond-true _ _ _ is_compact in
+    subst (λ (t : List ℕ). OnOk c.put_about_options-then-eq-4.result (c.put_about_options-then-eq-4.new.out ≡ c.args.out.now ++ t)) (sym wrong) c.put_about_options-then-eq-4.ensures.ok
+
+pub returns-then-eq-4-clause-front : goal.returns-then-eq-4-clause-front
+returns-then-eq-4-clause-front c = c.put_about_options-then-eq-4.ensures.front
+
+pub returns-else-eq-4-clause-ok : goal.returns-else-eq-4-clause-ok
+returns-else-eq-4-clause-ok c =
+    let words = begun c.args.words.now c.name-item.result c.in-len1-up.len_at_least c.name-item.is in
+    let is_try = tested false _ _ c.name-item.result (codes "try") c.if-eq.ensures c.as_bytes.ensures.value c.as_slice.ensures in
+    let is_serve = tested false _ _ c.name-item.result (codes "serve") c.if-eq-2.ensures c.as_bytes-in-len1-up.ensures.value c.as_slice-in-len1-up.ensures in
+    let is_recover = tested false _ _ c.name-item.result (codes "recover") c.if-eq-3.ensures c.as_bytes-in-len1-up-2.ensures.value c.as_slice-in-len1-up-2.ensures in
+    let is_compact = tested false _ _ c.name-item.result (codes "compact") c.if-eq-4.ensures c.as_bytes-in-len1-up-3.ensures.value c.as_slice-in-len1-up-3.ensures in
+    let wrong = ap (what_is_wrong c.args.said.now) words ∙ cond-false _ _ _ is_try ∙ cond-false _ _ _ is_serve ∙ cond-false _ _ _ is_recover ∙ cond-false _ _ _ is_compact in
     subst (λ (t : List ℕ). OnOk c.put_about_word.result (c.put_about_word.new.out ≡ c.args.out.now ++ t)) (sym wrong) c.put_about_word.ensures.ok
 
-pub returns-else-eq-3-clause-front : goal.returns-else-eq-3-clause-front
-returns-else-eq-3-clause-front c = c.put_about_word.ensures.front
+pub returns-else-eq-4-clause-front : goal.returns-else-eq-4-clause-front
+returns-else-eq-4-clause-front c = c.put_about_word.ensures.front

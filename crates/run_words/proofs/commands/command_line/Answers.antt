@@ -3,7 +3,7 @@ use Rattle.std.specs.Prelude.{MatchResult, Option, Some, None, codes}
 use Rattle.std.specs.Str.{bytes_eq}
 use Rattle.std.proofs.lemmas.Bool.{cond-true, cond-false}
 use Rattle.std.proofs.lemmas.List.{take_all}
-use Rattle.run_words.specs.CommandLines.{asked, command_line, recover_line, serve_line}
+use Rattle.run_words.specs.CommandLines.{asked, command_line, compact_line, recover_line, serve_line}
 use Rattle.run_words.specs.declared.commands.CommandLine.{CommandLine}
 use Rattle.run_words.specs.declared.commands.Topic.TheVariants as topic
 use Rattle.run_words.specs.declared.fault.WordsFault.TheVariants.{Usage}
@@ -45,15 +45,26 @@ returns-then-eq-3 c =
     let e = begun words c.name-item.result c.in-len1-up.len_at_least c.name-item.is in
     let is_serve = tested false _ _ c.name-item.result (codes "serve") c.if-eq.ensures c.as_bytes.ensures.value c.as_slice.ensures in
     let is_recover = tested false _ _ c.name-item.result (codes "recover") c.if-eq-2.ensures c.as_bytes-in-len1-up.ensures.value c.as_slice-in-len1-up.ensures in
-    let is_try = tested true _ _ c.name-item.result (codes "try") c.if-eq-3.ensures c.as_bytes-in-len1-up-2.ensures.value c.as_slice-in-len1-up-2.ensures in
-    let line = ap command_line e ∙ cond-false _ _ _ is_serve ∙ cond-false _ _ _ is_recover ∙ cond-true _ _ _ is_try in
-    subst (λ (x : Option CommandLine). MatchResult c.question.result (λ l. x ≡ Some l) (λ f. f ≡ Usage → x ≡ None)) (sym line) c.question.ensures
+    let is_compact = tested true _ _ c.name-item.result (codes "compact") c.if-eq-3.ensures c.as_bytes-in-len1-up-2.ensures.value c.as_slice-in-len1-up-2.ensures in
+    let line = ap command_line e ∙ cond-false _ _ _ is_serve ∙ cond-false _ _ _ is_recover ∙ cond-true _ _ _ is_compact ∙ ap (λ ws. compact_line ws rest) (sym e) in
+    subst (λ (x : Option CommandLine). MatchResult c.compact_line.result (λ l. x ≡ Some l) (λ f. f ≡ Usage → x ≡ None)) (sym line) c.compact_line.ensures
 
-pub returns-else-eq-3 : goal.returns-else-eq-3
-returns-else-eq-3 c =
+pub returns-then-eq-4 : goal.returns-then-eq-4
+returns-then-eq-4 c =
     let e = begun c.args.words.now c.name-item.result c.in-len1-up.len_at_least c.name-item.is in
     let is_serve = tested false _ _ c.name-item.result (codes "serve") c.if-eq.ensures c.as_bytes.ensures.value c.as_slice.ensures in
     let is_recover = tested false _ _ c.name-item.result (codes "recover") c.if-eq-2.ensures c.as_bytes-in-len1-up.ensures.value c.as_slice-in-len1-up.ensures in
-    let is_try = tested false _ _ c.name-item.result (codes "try") c.if-eq-3.ensures c.as_bytes-in-len1-up-2.ensures.value c.as_slice-in-len1-up-2.ensures in
-    let line = ap command_line e ∙ cond-false _ _ _ is_serve ∙ cond-false _ _ _ is_recover ∙ cond-false _ _ _ is_try ∙ ap (asked topic.Program) (sym e) in
+    let is_compact = tested false _ _ c.name-item.result (codes "compact") c.if-eq-3.ensures c.as_bytes-in-len1-up-2.ensures.value c.as_slice-in-len1-up-2.ensures in
+    let is_try = tested true _ _ c.name-item.result (codes "try") c.if-eq-4.ensures c.as_bytes-in-len1-up-3.ensures.value c.as_slice-in-len1-up-3.ensures in
+    let line = ap command_line e ∙ cond-false _ _ _ is_serve ∙ cond-false _ _ _ is_recover ∙ cond-false _ _ _ is_compact ∙ cond-true _ _ _ is_try in
+    subst (λ (x : Option CommandLine). MatchResult c.question.result (λ l. x ≡ Some l) (λ f. f ≡ Usage → x ≡ None)) (sym line) c.question.ensures
+
+pub returns-else-eq-4 : goal.returns-else-eq-4
+returns-else-eq-4 c =
+    let e = begun c.args.words.now c.name-item.result c.in-len1-up.len_at_least c.name-item.is in
+    let is_serve = tested false _ _ c.name-item.result (codes "serve") c.if-eq.ensures c.as_bytes.ensures.value c.as_slice.ensures in
+    let is_recover = tested false _ _ c.name-item.result (codes "recover") c.if-eq-2.ensures c.as_bytes-in-len1-up.ensures.value c.as_slice-in-len1-up.ensures in
+    let is_compact = tested false _ _ c.name-item.result (codes "compact") c.if-eq-3.ensures c.as_bytes-in-len1-up-2.ensures.value c.as_slice-in-len1-up-2.ensures in
+    let is_try = tested false _ _ c.name-item.result (codes "try") c.if-eq-4.ensures c.as_bytes-in-len1-up-3.ensures.value c.as_slice-in-len1-up-3.ensures in
+    let line = ap command_line e ∙ cond-false _ _ _ is_serve ∙ cond-false _ _ _ is_recover ∙ cond-false _ _ _ is_compact ∙ cond-false _ _ _ is_try ∙ ap (asked topic.Program) (sym e) in
     subst (λ (x : Option CommandLine). MatchResult c.question-in-len1-up.result (λ l. x ≡ Some l) (λ f. f ≡ Usage → x ≡ None)) (sym line) c.question-in-len1-up.ensures
