@@ -4,9 +4,10 @@ use Rattle.std.specs.Str.{bytes_eq}
 use Rattle.clap.specs.Words.{Text}
 use Rattle.run_words.specs.Commands.{recover_options, serve_options}
 use Rattle.run_words.specs.declared.commands.CommandLine.{CommandLine}
-use Rattle.run_words.specs.declared.commands.CommandLine.TheVariants.{Serve, Recover, Help, Version}
+use Rattle.run_words.specs.declared.commands.CommandLine.TheVariants.{Serve, Recover, Which, Help, Version}
 use Rattle.run_words.specs.declared.commands.Topic.{Topic}
 use Rattle.run_words.specs.declared.commands.Topic.TheVariants as topic
+use Rattle.run_words.specs.Which.{which_given}
 
 -- `--help` and `--version`
 abbrev pub about : Topic → Text → Option CommandLine
@@ -35,10 +36,18 @@ serve_line words rest = or_else (asked topic.Serve rest) (option_map Serve (serv
 abbrev pub recover_line : List Text → List Text → Option CommandLine
 recover_line words rest = or_else (asked topic.Recover rest) (option_map Recover (recover_options words))
 
+-- `which`, or what is asked about it behind its name
+abbrev pub which_line : List Text → List Text → Option CommandLine
+which_line words rest = or_else (asked topic.Which rest) (option_map (λ given. Which) (which_given words))
+
+-- what words ask for whose first names none of the commands below
+abbrev pub further_line : List Text → Text → List Text → Option CommandLine
+further_line words name rest = if bytes_eq name (codes "which") then which_line words rest else asked topic.Program words
+
 -- what the words ask for, the first of which names the command; campaigns behind `try` are not read by `clap`
 abbrev pub command_line : List Text → Option CommandLine
 command_line [] = None
 command_line (name ∷ rest) =
     if bytes_eq name (codes "serve") then serve_line (name ∷ rest) rest
     else (if bytes_eq name (codes "recover") then recover_line (name ∷ rest) rest
-    else (if bytes_eq name (codes "try") then asked topic.Try rest else asked topic.Program (name ∷ rest)))
+    else (if bytes_eq name (codes "try") then asked topic.Try rest else further_line (name ∷ rest) name rest))
