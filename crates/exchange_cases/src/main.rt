@@ -25,6 +25,7 @@ mod serving;
 mod small_service;
 mod sockets;
 mod try_runs;
+mod which_runs;
 
 use case_lines::{Areas, run_cases};
 use rtb_num::{Sink, StdSink, StdSource, Txt};
@@ -120,8 +121,11 @@ fn answer_of_exchanges(
     if runs::answer(alloc, call, args, out)? {
         return Ok(true);
     }
+    if try_runs::answer(alloc, call, args, out)? {
+        return Ok(true);
+    }
     if compactions::answer(alloc, call, args, out)? {
         return Ok(true);
     }
-    try_runs::answer(alloc, call, args, out)
+    which_runs::answer(alloc, call, args, out)
 }

@@ -18,6 +18,9 @@ recover_example = codes "rtbx: a right command is: rtbx recover --journal exchan
 abbrev pub compact_example : List ℕ
 compact_example = codes "rtbx: a right command is: rtbx compact --journal exchange.journal --into compacted.journal\n"
 
+abbrev pub which_example : List ℕ
+which_example = codes "rtbx: a right command is: rtbx which < expressions.json\n"
+
 -- the word that is wrong, written as a string of JSON, and what it is not
 abbrev pub about_word : List ℕ → List ℕ → List ℕ
 about_word word why = codes "rtbx: " ++ string_text word ++ why ++ example_line
@@ -43,14 +46,21 @@ about_options said example = codes "rtbx: " ++ said ++ codes "\n" ++ example
 abbrev pub examples : List ℕ
 examples = codes "rtbx: no command is named\n" ++ example_line ++ serve_example ++ recover_example ++ compact_example
 
+abbrev pub all_examples : List ℕ
+all_examples = examples ++ which_example
+
+-- what is wrong with words of no command whose first names none of those below
+abbrev pub further_wrong : List ℕ → List ℕ → List ℕ
+further_wrong said name = if bytes_eq name (codes "which") then about_options said which_example else about_word name (codes " is no command\n")
+
 -- what is wrong with the words of no command, and a right command; `said` is what `clap` says of options
 abbrev pub what_is_wrong : List ℕ → List (List ℕ) → List ℕ
-what_is_wrong said [] = examples
+what_is_wrong said [] = all_examples
 what_is_wrong said (name ∷ words) =
     if bytes_eq name (codes "try") then about_campaigns words
     else (if bytes_eq name (codes "serve") then about_options said serve_example
     else (if bytes_eq name (codes "recover") then about_options said recover_example
-    else (if bytes_eq name (codes "compact") then about_options said compact_example else about_word name (codes " is no command\n"))))
+    else (if bytes_eq name (codes "compact") then about_options said compact_example else further_wrong said name)))
 
 -- the same, and of a command nothing
 abbrev pub explanation : List ℕ → List (List ℕ) → List ℕ

@@ -5,4 +5,5 @@ pub mod Exchange
 pub mod Making
 pub mod Answer
 pub mod View
+pub mod Plan
 pub mod Run

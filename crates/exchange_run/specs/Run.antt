@@ -1,5 +1,5 @@
 -- What the words of `rtbx` ask for, and what a run of them comes to.
-use Rattle.std.specs.Prelude.{◌≡◌, ◌≢◌, ◌⊎◌, ◌&&◌, not, ℕ, List, [], ◌∷◌, Bool, true, false, Option, None, Some, if◌then◌else◌, option_map, codes}
+use Rattle.std.specs.Prelude.{◌≡◌, ◌≢◌, ◌⊎◌, ◌&&◌, ◌||◌, not, ℕ, List, [], ◌∷◌, Bool, true, false, Option, None, Some, if◌then◌else◌, option_map, codes}
 use Rattle.std.specs.Str.{bytes_eq}
 use Rattle.link_door.specs.declared.asked.Asked.{Asked as WorldCall}
 use Rattle.link_door.specs.declared.door.Door.{Ghosts as DoorGhosts}
@@ -52,8 +52,27 @@ abbrev pub IsQuestion : CommandLine → Type 0
 IsQuestion (line.Serve options) = ⊥
 IsQuestion (line.Recover options) = ⊥
 IsQuestion (line.Compact options) = ⊥
+IsQuestion line.Which = ⊥
 IsQuestion (line.Help topic) = Unit {0}
 IsQuestion line.Version = Unit {0}
+
+-- `which` was asked
+abbrev pub is_which : CommandLine → Bool
+is_which (line.Serve options) = false
+is_which (line.Recover options) = false
+is_which (line.Compact options) = false
+is_which line.Which = true
+is_which (line.Help topic) = false
+is_which line.Version = false
+
+abbrev pub asks_which : Option Asked → Bool
+asks_which None = false
+asks_which (Some (sale campaigns)) = false
+asks_which (Some (other line)) = is_which line
+
+-- the commands that read the source
+abbrev pub takes_input : List (List ℕ) → Bool
+takes_input words = names_try words || asks_which (words_of words)
 
 -- nothing was asked of the world
 pub record IsApart {Disk Door : Type 0} (calls calls' : List WorldCall) (disks disks' : Option (List Disk)) (left left' : Option (List Door)) (count count' : ℕ) (given : List Door) (back second : Option Disk) : Type 0 where
@@ -79,6 +98,8 @@ pub data Runs {Disk Door Link : Type 0} (G : DiskGhosts Disk) (H : DoorGhosts Do
   compacts : (options : CompactOptions) → words_of words ≡ Some (other (line.Compact options)) → left' ≡ left → given ≡ [] → RunsCompact G options calls calls' disks disks' count count' written written' code back second
       → Runs G H K words calls calls' disks disks' left left' count count' written written' code given back second
   shows : (asked : CommandLine) → IsQuestion asked → words_of words ≡ Some (other asked) → IsApart calls calls' disks disks' left left' count count' given back second → Shows written written' code
+      → Runs G H K words calls calls' disks disks' left left' count count' written written' code given back second
+  plans : asks_which (words_of words) ≡ true → IsApart calls calls' disks disks' left left' count count' given back second
       → Runs G H K words calls calls' disks disks' left left' count count' written written' code given back second
   unnamed : words_of words ≡ None → IsApart calls calls' disks disks' left left' count count' given back second → EndsBy status.Usage written written' code
       → Runs G H K words calls calls' disks disks' left left' count count' written written' code given back second

@@ -2,9 +2,11 @@ ghost use Rattle.std.specs.Prelude.{◌≡◌, ◌⊎◌, ℕ, List, None, Some,
 ghost use Rattle.rtb_base.specs.Faults.{RisesOnlyWhere};
 ghost use Rattle.rtb_io.specs.Statuses.{code_of};
 ghost use Rattle.rtb_io.specs.declared.status.Status.TheVariants.{Memory, NotWritten, Usage};
-ghost use Rattle.exchange_run.specs.Run.{Runs, Shows, Tries, names_try, other, words_of};
+ghost use Rattle.exchange_run.specs.Run.{Runs, Shows, Tries, asks_which, is_which, names_try, other, takes_input, words_of};
+ghost use Rattle.exchange_run.specs.Plan.{Plans};
 
 use crate::try_command::try_run;
+use crate::which_command::run_which;
 use link_door::{Door, Link, Pause, World};
 use rtb_disk::Disk;
 use rtb_io::Status;
@@ -16,7 +18,7 @@ use std::alloc::{AllocError, Global};
 /// Runs the command that the words name, the first of which is its name, and gives back all that the world
 /// handed out.
 ///
-/// `try` is `try_run`; `serve`, `recover` and `compact` are those of `run_commands`. `--help` and `--version`, alone or
+/// `try` is `try_run` and `which` `run_which`; `serve`, `recover` and `compact` are those of `run_commands`. `--help` and `--version`, alone or
 /// behind the name of a command, print a text. Other words end with status 2 and its line.
 pub fn run<W: World, P: Pause, S: Source, K: Sink>(
     alloc: Global,
@@ -29,9 +31,10 @@ pub fn run<W: World, P: Pause, S: Source, K: Sink>(
     ensures runs { Runs ⟦<W::Disk as Disk>⟧ ⟦<W::Door as Door>⟧ ⟦<<W::Door as Door>::Link as Link>⟧ words.now (W.asked world.old) (W.asked world.new) (W.disks_left world.old) (W.disks_left world.new) (W.doors_left world.old) (W.doors_left world.new) (W.faults world.old) (W.faults world.new) (K.written sink.old) (K.written sink.new) result.status result.doors result.disk result.other }
     ensures cause { RisesOnlyWhere (result.status ≡ code_of NotWritten) (K.faults sink.old) (K.faults sink.new) }
 
-    // With `try` and its campaigns it is `try_run`; the source is for that command alone.
+    // With `try` and its campaigns it is `try_run`, and with `which` `run_which`; the source is for those alone.
     ensures tries { names_try words.now ≡ true → Tries words.now (S.left source.old) (S.left source.new) (S.faults source.old) (S.faults source.new) (K.written sink.old) (K.written sink.new) result.status }
-    ensures unread { names_try words.now ≡ false → source.new ≡ source.old }
+    ensures plans { asks_which (words_of words.now) ≡ true → Plans (S.left source.old) (S.left source.new) (S.faults source.old) (S.faults source.new) (K.written sink.old) (K.written sink.new) result.status }
+    ensures unread { takes_input words.now ≡ false → source.new ≡ source.old }
 
     // It is usage exactly where the words are of no command, unless the sink fails or memory is refused.
     ensures usage { words_of words.now ≡ None → (result.status ≡ code_of Usage) ⊎ (result.status ≡ code_of NotWritten) ⊎ (result.status ≡ code_of Memory) }
@@ -40,7 +43,7 @@ pub fn run<W: World, P: Pause, S: Source, K: Sink>(
     if is_try(words) {
         return Outcome::without_world(alloc, try_run(alloc, words, source, sink));
     }
-    run_other(alloc, words, world, pause, sink)
+    run_other(alloc, words, world, pause, source, sink)
 }
 
 fn is_try(words: &[Txt]) -> bool
@@ -53,20 +56,23 @@ fn is_try(words: &[Txt]) -> bool
 }
 
 // The same, of words that name no campaigns.
-fn run_other<W: World, P: Pause, K: Sink>(
+fn run_other<W: World, P: Pause, S: Source, K: Sink>(
     alloc: Global,
     words: &[Txt],
     world: &mut W,
     pause: &P,
+    source: &mut S,
     sink: &mut K,
 ) -> Outcome<W>
     requires { names_try words.now ≡ false }
     ensures runs { Runs ⟦<W::Disk as Disk>⟧ ⟦<W::Door as Door>⟧ ⟦<<W::Door as Door>::Link as Link>⟧ words.now (W.asked world.old) (W.asked world.new) (W.disks_left world.old) (W.disks_left world.new) (W.doors_left world.old) (W.doors_left world.new) (W.faults world.old) (W.faults world.new) (K.written sink.old) (K.written sink.new) result.status result.doors result.disk result.other }
     ensures cause { RisesOnlyWhere (result.status ≡ code_of NotWritten) (K.faults sink.old) (K.faults sink.new) }
+    ensures plans { asks_which (words_of words.now) ≡ true → Plans (S.left source.old) (S.left source.new) (S.faults source.old) (S.faults source.new) (K.written sink.old) (K.written sink.new) result.status }
+    ensures unread { asks_which (words_of words.now) ≡ false → source.new ≡ source.old }
 {
     match command_line(alloc, words) {
         Ok(line) => {
-            let outcome = run_line(alloc, &line, world, pause, sink);
+            let outcome = run_line(alloc, &line, world, pause, source, sink);
             drop(line);
             outcome
         }
@@ -85,15 +91,18 @@ fn status_of(fault: WordsFault) -> Status
 }
 
 // Runs what is read by `clap`.
-fn run_line<W: World, P: Pause, K: Sink>(
+fn run_line<W: World, P: Pause, S: Source, K: Sink>(
     alloc: Global,
     line: &CommandLine,
     world: &mut W,
     pause: &P,
+    source: &mut S,
     sink: &mut K,
 ) -> Outcome<W>
     ensures runs { (words : List (List ℕ)) → words_of words ≡ Some (other line.now) → Runs ⟦<W::Disk as Disk>⟧ ⟦<W::Door as Door>⟧ ⟦<<W::Door as Door>::Link as Link>⟧ words (W.asked world.old) (W.asked world.new) (W.disks_left world.old) (W.disks_left world.new) (W.doors_left world.old) (W.doors_left world.new) (W.faults world.old) (W.faults world.new) (K.written sink.old) (K.written sink.new) result.status result.doors result.disk result.other }
     ensures cause { RisesOnlyWhere (result.status ≡ code_of NotWritten) (K.faults sink.old) (K.faults sink.new) }
+    ensures plans { is_which line.now ≡ true → Plans (S.left source.old) (S.left source.new) (S.faults source.old) (S.faults source.new) (K.written sink.old) (K.written sink.new) result.status }
+    ensures unread { is_which line.now ≡ false → source.new ≡ source.old }
 {
     match line {
         CommandLine::Serve(options) => serve(alloc, options, world, pause, sink),
@@ -107,6 +116,7 @@ fn run_line<W: World, P: Pause, K: Sink>(
             let text = version_text(alloc);
             Outcome::without_world(alloc, show(text, sink).code())
         }
+        CommandLine::Which => Outcome::without_world(alloc, run_which(alloc, source, sink)),
     }
 }
 

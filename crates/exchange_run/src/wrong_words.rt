@@ -1,5 +1,5 @@
 ghost use Rattle.std.specs.Prelude.{◌≡◌, ◌<◌, ◌++◌, ℕ, List, None, Some, find, get_or, is_some, length, not, option_map, OnOk, OnErr, [], codes};
-ghost use Rattle.exchange_run.specs.Explain.{about_campaign, about_campaigns, about_options, about_word, examples, explanation, what_is_wrong, wrong_campaign};
+ghost use Rattle.exchange_run.specs.Explain.{about_campaign, about_campaigns, about_options, about_word, all_examples, examples, explanation, further_wrong, what_is_wrong, wrong_campaign};
 ghost use Rattle.run_words.specs.CommandLines.{command_line};
 
 use crate::words::{MAX_CAMPAIGNS, is_campaign};
@@ -51,7 +51,7 @@ fn put_what_is_wrong(said: &[u8], words: &[Txt], out: &mut Txt) -> Result<(), Al
     ensures front { (more : List ℕ) × (out.new ≡ out.old ++ more) }
 {
     match words {
-        [] => put_examples(out),
+        [] => put_all_examples(out),
         [name, rest @ ..] => {
             if name.as_bytes() == b"try".as_slice() {
                 return put_about_campaigns(rest, out);
@@ -65,9 +65,20 @@ fn put_what_is_wrong(said: &[u8], words: &[Txt], out: &mut Txt) -> Result<(), Al
             if name.as_bytes() == b"compact".as_slice() {
                 return put_about_options(said, COMPACT_EXAMPLE, out);
             }
-            put_about_word(name, b" is no command\n", out)
+            put_further(said, name, out)
         }
     }
+}
+
+// Appends what is wrong where the first word names none of those commands, or a front of it.
+fn put_further(said: &[u8], name: &Txt, out: &mut Txt) -> Result<(), AllocError>
+    ensures ok { OnOk result (out.new ≡ out.old ++ further_wrong said.now name.now) }
+    ensures front { (more : List ℕ) × (out.new ≡ out.old ++ more) }
+{
+    if name.as_bytes() == b"which".as_slice() {
+        return put_about_options(said, WHICH_EXAMPLE, out);
+    }
+    put_about_word(name, b" is no command\n", out)
 }
 
 const EXAMPLE: &[u8] = b"rtbx: a right command is: rtbx try 2.50@news.example 1.00\n";
@@ -80,6 +91,17 @@ const RECOVER_EXAMPLE: &[u8] =
 
 const COMPACT_EXAMPLE: &[u8] =
     b"rtbx: a right command is: rtbx compact --journal exchange.journal --into compacted.journal\n";
+
+const WHICH_EXAMPLE: &[u8] = b"rtbx: a right command is: rtbx which < expressions.json\n";
+
+fn put_all_examples(out: &mut Txt) -> Result<(), AllocError>
+    ensures ok { OnOk result (out.new ≡ out.old ++ all_examples) }
+    ensures front { (more : List ℕ) × (out.new ≡ out.old ++ more) }
+{
+    put_examples(out)?;
+    out.extend(WHICH_EXAMPLE)?;
+    Ok(())
+}
 
 fn put_examples(out: &mut Txt) -> Result<(), AllocError>
     ensures ok { OnOk result (out.new ≡ out.old ++ examples) }

@@ -4,7 +4,8 @@ use crate::auctions::{Asked, Shop, StateShop, ask_times};
 use crate::cases::NamedWork;
 use crate::messages::Piece;
 use crate::named_work::bench_run;
-use crate::{book, messages, turns};
+use crate::plans::Plan;
+use crate::{book, messages, plans, turns};
 use case_lines::run_cases;
 use rtb_disk::FileDisk;
 use rtb_io::{ReadFault, Status, read_all};
@@ -61,6 +62,9 @@ fn run<T: Threads + Wait + Sync>(rt: &HostRuntime, threads: &T, job: &[Txt]) -> 
     }
     if name == b"cases".as_slice() {
         return Ok(try_cases(rt, words));
+    }
+    if let Some(plan) = Plan::from_word(name) {
+        return Ok(run_plans(rt, plan, words));
     }
     Ok(run_work(rt, job))
 }
@@ -253,6 +257,41 @@ fn read_bytes(rt: &HostRuntime, size: u32) -> Result<Txt, ReadFault> {
 
 fn tell_messages(rt: &HostRuntime, piece: Piece, times: u32, bytes: &[u8]) -> Status {
     let Ok(line) = messages::line(rt.alloc(), piece, times, bytes) else {
+        return Status::Memory;
+    };
+    let mut sink = StdSink::new(io::writer(rt));
+    match sink.write(line.as_bytes()) {
+        Ok(_) => Status::Done,
+        Err(_) => Status::NotWritten,
+    }
+}
+
+// ---- plans
+
+/// The most bytes of a request for the best expressions.
+const MOST_REQUEST: usize = 16_777_216;
+
+fn run_plans(rt: &HostRuntime, plan: Plan, words: &[Txt]) -> Status {
+    let [times] = words else {
+        return Status::Usage;
+    };
+    let Some(times) = number_in(times) else {
+        return Status::Usage;
+    };
+    let mut source = StdSource::new(rt.reader());
+    match read_all(rt.alloc(), &mut source, MOST_REQUEST) {
+        Ok(bytes) => {
+            let status = tell_plans(rt, plan, times, bytes.as_bytes());
+            drop(bytes);
+            status
+        }
+        Err(ReadFault::Failed) => Status::NotRead,
+        Err(ReadFault::Memory) => Status::Memory,
+    }
+}
+
+fn tell_plans(rt: &HostRuntime, plan: Plan, times: u32, bytes: &[u8]) -> Status {
+    let Ok(line) = plans::line(rt.alloc(), plan, times, bytes) else {
         return Status::Memory;
     };
     let mut sink = StdSink::new(io::writer(rt));

@@ -17,7 +17,9 @@
 //! - `settle CAMPAIGNS COUNT`: the same with the state that workers share, by one worker: a look at the version, a
 //!   find, and a sale of what was found;
 //! - `message N SIZE`, and `head` and `link` with the same words: work on a message, so many bytes of standard
-//!   input, done so many times (`messages.rt`).
+//!   input, done so many times (`messages.rt`);
+//! - `which N`, and `which_find N`: what is left of standard input is a request for the best expressions, which is
+//!   answered so many times, or in whose index is found so many times (`plans.rt`).
 //!
 //! What it prints is the same on every run, and never a time: the caller measures.
 #![tactic(auto)]
@@ -29,6 +31,7 @@ mod cases;
 mod jobs;
 mod messages;
 mod named_work;
+mod plans;
 mod turns;
 
 use rtb_io::Status;

@@ -5,9 +5,10 @@ use Rattle.clap.specs.Words.{Text}
 use Rattle.run_words.specs.Commands.{recover_options, serve_options}
 use Rattle.run_words.specs.Compact.{compact_options}
 use Rattle.run_words.specs.declared.commands.CommandLine.{CommandLine}
-use Rattle.run_words.specs.declared.commands.CommandLine.TheVariants.{Serve, Recover, Compact, Help, Version}
+use Rattle.run_words.specs.declared.commands.CommandLine.TheVariants.{Compact, Help, Recover, Serve, Version, Which}
 use Rattle.run_words.specs.declared.commands.Topic.{Topic}
 use Rattle.run_words.specs.declared.commands.Topic.TheVariants as topic
+use Rattle.run_words.specs.Which.{which_given}
 
 -- `--help` and `--version`
 abbrev pub about : Topic → Text → Option CommandLine
@@ -39,6 +40,14 @@ recover_line words rest = or_else (asked topic.Recover rest) (option_map Recover
 abbrev pub compact_line : List Text → List Text → Option CommandLine
 compact_line words rest = or_else (asked topic.Compact rest) (option_map Compact (compact_options words))
 
+-- `which`, or what is asked about it behind its name
+abbrev pub which_line : List Text → List Text → Option CommandLine
+which_line words rest = or_else (asked topic.Which rest) (option_map (λ given. Which) (which_given words))
+
+-- what words ask for whose first names none of the commands below
+abbrev pub further_line : List Text → Text → List Text → Option CommandLine
+further_line words name rest = if bytes_eq name (codes "which") then which_line words rest else asked topic.Program words
+
 -- what the words ask for, the first of which names the command; campaigns behind `try` are not read by `clap`
 abbrev pub command_line : List Text → Option CommandLine
 command_line [] = None
@@ -46,4 +55,4 @@ command_line (name ∷ rest) =
     if bytes_eq name (codes "serve") then serve_line (name ∷ rest) rest
     else (if bytes_eq name (codes "recover") then recover_line (name ∷ rest) rest
     else (if bytes_eq name (codes "compact") then compact_line (name ∷ rest) rest
-    else (if bytes_eq name (codes "try") then asked topic.Try rest else asked topic.Program (name ∷ rest))))
+    else (if bytes_eq name (codes "try") then asked topic.Try rest else further_line (name ∷ rest) name rest)))

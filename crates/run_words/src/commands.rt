@@ -1,12 +1,13 @@
 ghost use Rattle.std.specs.Prelude.{◌≡◌, ◌||◌, MatchResult, None, Some, codes};
 ghost use Rattle.std.specs.Str.{bytes_eq};
-ghost use Rattle.run_words.specs.CommandLines.{about, asked, command_line, compact_line, is_question, recover_line, serve_line};
+ghost use Rattle.run_words.specs.CommandLines.{about, asked, command_line, compact_line, further_line, is_question, recover_line, serve_line, which_line};
 ghost use Rattle.run_words.specs.declared.fault.WordsFault.TheVariants.{Usage};
 
 use crate::compact::{CompactOptions, compact_options};
 use crate::fault::WordsFault;
 use crate::recover::{RecoverOptions, recover_options};
 use crate::serve::{ServeOptions, serve_options};
+use crate::which::which_words;
 use rtb_num::Txt;
 use std::alloc::Global;
 
@@ -23,6 +24,8 @@ pub enum Topic {
     Compact,
     /// The command `try`.
     Try,
+    /// The command `which`.
+    Which,
 }
 
 /// What words ask for, where they are of no command that is read by hand.
@@ -32,6 +35,8 @@ pub enum CommandLine {
     Serve(ServeOptions),
     /// `recover` with its options.
     Recover(RecoverOptions),
+    /// `which`, which has none.
+    Which,
     /// `compact` with its options.
     Compact(CompactOptions),
     /// `--help`, alone or behind a command's name.
@@ -59,8 +64,35 @@ pub fn command_line(alloc: Global, words: &[Txt]) -> Result<CommandLine, WordsFa
             if name.as_bytes() == b"try".as_slice() {
                 return question(Topic::Try, rest);
             }
-            question(Topic::Program, words)
+            further_line(alloc, words, name, rest)
         }
+    }
+}
+
+// What words ask for whose first names none of those commands.
+fn further_line(
+    alloc: Global,
+    words: &[Txt],
+    name: &Txt,
+    rest: &[Txt],
+) -> Result<CommandLine, WordsFault>
+    ensures { MatchResult result (λ line. further_line words.now name.now rest.now ≡ Some line) (λ e. e ≡ Usage → further_line words.now name.now rest.now ≡ None) }
+{
+    if name.as_bytes() == b"which".as_slice() {
+        return which_line(alloc, words, rest);
+    }
+    question(Topic::Program, words)
+}
+
+fn which_line(alloc: Global, words: &[Txt], rest: &[Txt]) -> Result<CommandLine, WordsFault>
+    ensures { MatchResult result (λ line. which_line words.now rest.now ≡ Some line) (λ e. e ≡ Usage → which_line words.now rest.now ≡ None) }
+{
+    match asked(Topic::Which, rest) {
+        Some(line) => Ok(line),
+        None => match which_words(alloc, words) {
+            Ok(()) => Ok(CommandLine::Which),
+            Err(fault) => Err(fault),
+        },
     }
 }
 

@@ -6,6 +6,7 @@ use crate::fault::WordsFault;
 use crate::recover::recover_command;
 use crate::serve::serve_command;
 use crate::texts::texts;
+use crate::which::which_command;
 use clap::{Arg, ArgMatches, Command, Error};
 use rtb_num::Txt;
 use std::alloc::{AllocError, Global};
@@ -53,12 +54,16 @@ const COMPACT_ABOUT: &str =
 const TRY_ABOUT: &str =
     "Sells one bid request of standard input to the campaigns BID or BID@DOMAIN";
 
+const WHICH_ABOUT: &str =
+    "Prints the best expressions of standard input for an assignment, and why";
+
 const PROGRAM_END: &str = "\
 Examples:
   rtbx try 2.50@news.example 1.00 < request.json
   rtbx serve --listen 127.0.0.1:8080 --journal exchange.journal --public http://ads.example
   rtbx recover --journal exchange.journal
   rtbx compact --journal exchange.journal --into compacted.journal
+  rtbx which < expressions.json
   rtbx serve --help";
 
 const SERVE_END: &str = "\
@@ -80,6 +85,10 @@ const COMPACT_END: &str = "\
 Example:
   rtbx compact --journal exchange.journal --into compacted.journal --keep 1000000";
 
+const WHICH_END: &str = "\
+Example:
+  rtbx which < expressions.json";
+
 // The command with what is told of it.
 fn told_command<'a>(alloc: Global, topic: Topic) -> Result<Command<'a>, AllocError> {
     match topic {
@@ -98,6 +107,7 @@ fn told_command<'a>(alloc: Global, topic: Topic) -> Result<Command<'a>, AllocErr
             COMPACT_END,
         ),
         Topic::Try => told(try_command(alloc), "rtbx try", TRY_ABOUT, TRY_END),
+        Topic::Which => told(which_command(alloc), "rtbx which", WHICH_ABOUT, WHICH_END),
     }
 }
 
@@ -140,7 +150,8 @@ fn commands<'a>(alloc: Global) -> Result<Vec<Command<'a>>, AllocError> {
     let serve = named(alloc, "serve", SERVE_ABOUT);
     let recover = named(alloc, "recover", RECOVER_ABOUT);
     let compact = named(alloc, "compact", COMPACT_ABOUT);
-    Ok(vec![in alloc; try_command, serve, recover, compact]?)
+    let which = named(alloc, "which", WHICH_ABOUT);
+    Ok(vec![in alloc; try_command, serve, recover, compact, which]?)
 }
 
 // For its help alone: its words are read by hand.
@@ -172,6 +183,7 @@ fn refusal_of<'a>(alloc: Global, words: &'a [&'a str]) -> Result<Txt, AllocError
         ["serve", ..] => refusal_by(alloc, serve_command(alloc), words),
         ["recover", ..] => refusal_by(alloc, recover_command(alloc), words),
         ["compact", ..] => refusal_by(alloc, compact_command(alloc), words),
+        ["which", ..] => refusal_by(alloc, which_command(alloc), words),
         _ => Ok(Txt::new(alloc)),
     }
 }

@@ -11,6 +11,7 @@ mod options;
 mod recover;
 mod serve;
 mod texts;
+mod which;
 
 pub use commands::{CommandLine, Topic, command_line, is_question};
 pub use compact::{CompactOptions, compact_options};

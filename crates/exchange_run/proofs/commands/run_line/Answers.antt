@@ -1,6 +1,7 @@
 use Rattle.std.proofs.Common.{◌∙◌, Some, ap, refl, subst, sym}
 use Rattle.run_words.specs.declared.commands.CommandLine.TheVariants as line
-use Rattle.exchange_run.specs.Run.{Shows, compacts, other, recovers, serves, shows}
+use Rattle.exchange_run.specs.Plan.{Plans}
+use Rattle.exchange_run.specs.Run.{Shows, asks_which, compacts, other, plans, recovers, serves, shows}
 use Rattle.exchange_run.proofs.commands.run_line.Goals as goal
 
 pub returns-in-Serve-clause-runs : goal.returns-in-Serve-clause-runs
@@ -28,3 +29,15 @@ returns-in-Version-clause-runs g c = λ words is.
     shows line.Version tt (is ∙ ap (λ l. Some (other l)) c.in-Version.is)
     (record { calls_are = refl; disks_are = refl; doors_are = refl; count_is = refl; no_door = h.doors; no_disk = h.disk; no_second = h.other })
     (subst (λ code. Shows (g.K.Sink.written c.args.sink.now) (g.K.Sink.written c.show-in-Version.new.sink) code) (sym (h.status ∙ c.code-in-Version.ensures)) c.show-in-Version.ensures.shows)
+
+pub returns-in-Which-clause-runs : goal.returns-in-Which-clause-runs
+returns-in-Which-clause-runs g c = λ words is.
+    let h = c.without_world-in-Which.ensures in
+    plans (ap asks_which (is ∙ ap (λ l. Some (other l)) c.in-Which.is))
+    (record { calls_are = refl; disks_are = refl; doors_are = refl; count_is = refl; no_door = h.doors; no_disk = h.disk; no_second = h.other })
+
+pub returns-in-Which-clause-plans : goal.returns-in-Which-clause-plans
+returns-in-Which-clause-plans g c = λ asked.
+    let r = c.run_which in
+    subst (λ code. Plans (g.S.Source.left c.args.source.now) (g.S.Source.left r.new.source) (g.S.Source.faults c.args.source.now) (g.S.Source.faults r.new.source)
+    (g.K.Sink.written c.args.sink.now) (g.K.Sink.written r.new.sink) code) (sym c.without_world-in-Which.ensures.status) r.ensures.plans

@@ -1,5 +1,28 @@
-use Rattle.exchange_run.proofs.Asking.{other_words}
+use Rattle.std.proofs.Common.{◌≡◌, ap, refl, subst, sym, ◌∙◌}
+use Rattle.rtb_io.specs.Statuses.{code_of}
+use Rattle.rtb_io.specs.declared.status.Status.TheVariants.{Memory}
+use Rattle.run_commands.specs.Endings.{EndsBy, line_of}
+use Rattle.exchange_run.specs.Plan.{short_of_memory}
+use Rattle.exchange_run.specs.Run.{asks_which}
+use Rattle.exchange_run.proofs.Asking.{other_words, short_of_memory_by}
 use Rattle.exchange_run.proofs.commands.run_other.Goals as goal
 
 pub returns-in-Ok-clause-runs : goal.returns-in-Ok-clause-runs
 returns-in-Ok-clause-runs g c = c.run_line-outcome.ensures.runs c.args.words.now (other_words c.args.words.now c.in-Ok.line c.requires c.in-Ok.ensures)
+
+pub returns-in-Ok-clause-plans : goal.returns-in-Ok-clause-plans
+returns-in-Ok-clause-plans g c = λ asked. c.run_line-outcome.ensures.plans (sym (ap asks_which (other_words c.args.words.now c.in-Ok.line c.requires c.in-Ok.ensures)) ∙ asked)
+
+pub returns-in-Ok-clause-unread : goal.returns-in-Ok-clause-unread
+returns-in-Ok-clause-unread g c = λ asked. c.run_line-outcome.ensures.unread (sym (ap asks_which (other_words c.args.words.now c.in-Ok.line c.requires c.in-Ok.ensures)) ∙ asked)
+
+pub returns-in-Err-clause-plans : goal.returns-in-Err-clause-plans
+returns-in-Err-clause-plans g c = λ asked.
+    let short = c.status_of.ensures.memory (short_of_memory_by c.args.words.now c.in-Err.fault c.requires c.in-Err.ensures asked) in
+    let went = subst (λ s. EndsBy s (g.K.Sink.written c.args.sink.now) (g.K.Sink.written c.end_with.new.sink) (code_of c.end_with.result)) short c.end_with.ensures.ends in
+    record {
+      end = Memory;
+      text = line_of Memory;
+      plan = short_of_memory refl refl refl;
+      went = subst (λ code. EndsBy Memory (g.K.Sink.written c.args.sink.now) (g.K.Sink.written c.end_with.new.sink) code) (sym (c.without_world.ensures.status ∙ c.code.ensures)) went;
+    }

@@ -3,7 +3,7 @@ use Rattle.std.specs.Prelude.{OnOk, codes}
 use Rattle.std.specs.Str.{bytes_eq}
 use Rattle.std.proofs.lemmas.Bool.{cond-true, cond-false}
 use Rattle.std.proofs.lemmas.List.{take_all}
-use Rattle.exchange_run.specs.Explain.{what_is_wrong, examples}
+use Rattle.exchange_run.specs.Explain.{all_examples, what_is_wrong}
 use Rattle.exchange_run.proofs.wrong_words.put_what_is_wrong.Goals as goal
 
 -- Words of which one is first.
@@ -16,7 +16,7 @@ begun (word ∷ words) name some e =
 tested : (b : Bool) (bytes text name word : List ℕ) → b ≡ bytes_eq bytes text → bytes ≡ name → text ≡ word → bytes_eq name word ≡ b
 tested b bytes text name word e p q = ap (λ x. bytes_eq x word) (sym p) ∙ ap (λ x. bytes_eq bytes x) (sym q) ∙ sym e
 
-none : (said : List ℕ) (words : List (List ℕ)) → length words < 1 → examples ≡ what_is_wrong said words
+none : (said : List ℕ) (words : List (List ℕ)) → length words < 1 → all_examples ≡ what_is_wrong said words
 none said [] few = refl
 none said (word ∷ words) few = absurd (omega arith)
 
@@ -55,10 +55,10 @@ returns-then-eq-3-clause-front c = c.put_about_options-then-eq-3.ensures.front
 
 pub returns-in-empty-clause-ok : goal.returns-in-empty-clause-ok
 returns-in-empty-clause-ok c =
-    subst (λ (t : List ℕ). OnOk c.put_examples.result (c.put_examples.new.out ≡ c.args.out.now ++ t)) (none c.args.said.now c.args.words.now c.in-empty.len_below) c.put_examples.ensures.ok
+    subst (λ (t : List ℕ). OnOk c.put_all_examples.result (c.put_all_examples.new.out ≡ c.args.out.now ++ t)) (none c.args.said.now c.args.words.now c.in-empty.len_below) c.put_all_examples.ensures.ok
 
 pub returns-in-empty-clause-front : goal.returns-in-empty-clause-front
-returns-in-empty-clause-front c = c.put_examples.ensures.front
+returns-in-empty-clause-front c = c.put_all_examples.ensures.front
 
 pub returns-then-eq-4-clause-ok : goal.returns-then-eq-4-clause-ok
 returns-then-eq-4-clause-ok c =
@@ -81,7 +81,7 @@ returns-else-eq-4-clause-ok c =
     let is_recover = tested false _ _ c.name-item.result (codes "recover") c.if-eq-3.ensures c.as_bytes-in-len1-up-2.ensures.value c.as_slice-in-len1-up-2.ensures in
     let is_compact = tested false _ _ c.name-item.result (codes "compact") c.if-eq-4.ensures c.as_bytes-in-len1-up-3.ensures.value c.as_slice-in-len1-up-3.ensures in
     let wrong = ap (what_is_wrong c.args.said.now) words ∙ cond-false _ _ _ is_try ∙ cond-false _ _ _ is_serve ∙ cond-false _ _ _ is_recover ∙ cond-false _ _ _ is_compact in
-    subst (λ (t : List ℕ). OnOk c.put_about_word.result (c.put_about_word.new.out ≡ c.args.out.now ++ t)) (sym wrong) c.put_about_word.ensures.ok
+    subst (λ (t : List ℕ). OnOk c.put_further.result (c.put_further.new.out ≡ c.args.out.now ++ t)) (sym wrong) c.put_further.ensures.ok
 
 pub returns-else-eq-4-clause-front : goal.returns-else-eq-4-clause-front
-returns-else-eq-4-clause-front c = c.put_about_word.ensures.front
+returns-else-eq-4-clause-front c = c.put_further.ensures.front

@@ -3,9 +3,8 @@ use Rattle.std.specs.Prelude.{MatchResult, Option, Some, None, codes}
 use Rattle.std.specs.Str.{bytes_eq}
 use Rattle.std.proofs.lemmas.Bool.{cond-true, cond-false}
 use Rattle.std.proofs.lemmas.List.{take_all}
-use Rattle.run_words.specs.CommandLines.{asked, command_line, compact_line, recover_line, serve_line}
+use Rattle.run_words.specs.CommandLines.{command_line, compact_line, further_line, recover_line, serve_line}
 use Rattle.run_words.specs.declared.commands.CommandLine.{CommandLine}
-use Rattle.run_words.specs.declared.commands.Topic.TheVariants as topic
 use Rattle.run_words.specs.declared.fault.WordsFault.TheVariants.{Usage}
 use Rattle.run_words.proofs.commands.command_line.Goals as goal
 
@@ -61,10 +60,12 @@ returns-then-eq-4 c =
 
 pub returns-else-eq-4 : goal.returns-else-eq-4
 returns-else-eq-4 c =
-    let e = begun c.args.words.now c.name-item.result c.in-len1-up.len_at_least c.name-item.is in
+    let words = c.args.words.now in
+    let rest = take (length words - 1) (drop 1 words) in
+    let e = begun words c.name-item.result c.in-len1-up.len_at_least c.name-item.is in
     let is_serve = tested false _ _ c.name-item.result (codes "serve") c.if-eq.ensures c.as_bytes.ensures.value c.as_slice.ensures in
     let is_recover = tested false _ _ c.name-item.result (codes "recover") c.if-eq-2.ensures c.as_bytes-in-len1-up.ensures.value c.as_slice-in-len1-up.ensures in
     let is_compact = tested false _ _ c.name-item.result (codes "compact") c.if-eq-3.ensures c.as_bytes-in-len1-up-2.ensures.value c.as_slice-in-len1-up-2.ensures in
     let is_try = tested false _ _ c.name-item.result (codes "try") c.if-eq-4.ensures c.as_bytes-in-len1-up-3.ensures.value c.as_slice-in-len1-up-3.ensures in
-    let line = ap command_line e ∙ cond-false _ _ _ is_serve ∙ cond-false _ _ _ is_recover ∙ cond-false _ _ _ is_compact ∙ cond-false _ _ _ is_try ∙ ap (asked topic.Program) (sym e) in
-    subst (λ (x : Option CommandLine). MatchResult c.question-in-len1-up.result (λ l. x ≡ Some l) (λ f. f ≡ Usage → x ≡ None)) (sym line) c.question-in-len1-up.ensures
+    let line = ap command_line e ∙ cond-false _ _ _ is_serve ∙ cond-false _ _ _ is_recover ∙ cond-false _ _ _ is_compact ∙ cond-false _ _ _ is_try ∙ ap (λ ws. further_line ws c.name-item.result rest) (sym e) in
+    subst (λ (x : Option CommandLine). MatchResult c.further_line.result (λ l. x ≡ Some l) (λ f. f ≡ Usage → x ≡ None)) (sym line) c.further_line.ensures

@@ -1,0 +1,123 @@
+//! Work on a request for the best expressions.
+ghost use Rattle.std.specs.Prelude.{◌≡◌, ◌≤◌, ◌<◌, length};
+
+use cnf_match::CnfIndex;
+use exact_json::read;
+use rtb_base::Steps;
+use rtb_num::{Txt, write_decimal};
+use std::alloc::{AllocError, Global};
+use std::marker::Brand;
+use std::sync::ledger::{Blank, Ledger};
+use target_expr::Assignment;
+use which_read::{Request, read_request};
+use which_run::which_text;
+
+/// What is done with a request.
+#[derive(Clone, Copy)]
+pub enum Plan {
+    /// It is answered.
+    Answer,
+    /// It is read once, and what is true is found in its index.
+    Find,
+}
+
+impl Plan {
+    /// The work that the word names.
+    pub fn from_word(word: &[u8]) -> Option<Plan> {
+        if word == b"which".as_slice() {
+            return Some(Plan::Answer);
+        }
+        if word == b"which_find".as_slice() {
+            return Some(Plan::Find);
+        }
+        None
+    }
+}
+
+/// The line that answers the work on the request, done so many times: a checksum, 0 where nothing is found in it.
+pub fn line(alloc: Global, plan: Plan, times: u32, bytes: &[u8]) -> Result<Txt, AllocError> {
+    let sum = match plan {
+        Plan::Answer => answers(alloc, times, bytes),
+        Plan::Find => finds(alloc, times, bytes),
+    };
+    sum_line(alloc, sum?)
+}
+
+fn sum_line(alloc: Global, sum: u64) -> Result<Txt, AllocError> {
+    let mut line = Txt::from_slice(alloc, b"sum=")?;
+    write_decimal(sum, &mut line)?;
+    line.extend(b"\n")?;
+    Ok(line)
+}
+
+// How many bytes the answers had.
+fn answers(alloc: Global, times: u32, bytes: &[u8]) -> Result<u64, AllocError> {
+    let mut sum: u64 = 0;
+    for _ in 0..times {
+        sum = sum.wrapping_add(answer_size(alloc, bytes)?);
+    }
+    Ok(sum)
+}
+
+fn answer_size(alloc: Global, bytes: &[u8]) -> Result<u64, AllocError> {
+    let reply = which_text(alloc, bytes)?;
+    let size = reply.text.len() as u64;
+    drop(reply);
+    Ok(size)
+}
+
+// The sum of the numbers that were found.
+fn finds(alloc: Global, times: u32, bytes: &[u8]) -> Result<u64, AllocError> {
+    match read(alloc, bytes) {
+        Ok(doc) => {
+            let request = read_request(alloc, &doc);
+            drop(doc);
+            match request {
+                Ok(request) => {
+                    let sum = finds_in(alloc, times, &request);
+                    drop(request);
+                    sum
+                }
+                Err(_) => Ok(0),
+            }
+        }
+        Err(_) => Ok(0),
+    }
+}
+
+fn finds_in(alloc: Global, times: u32, request: &Request) -> Result<u64, AllocError>
+    requires few { length request.now.expressions ≤ 4096 }
+{
+    let index = CnfIndex::build(alloc, &request.expressions)?;
+    let sum = sum_of::<Brand>(alloc, times, &index, &request.assignment, Blank::new(1));
+    drop(index);
+    sum
+}
+
+fn sum_of<L: Ledger>(
+    alloc: Global,
+    times: u32,
+    index: &CnfIndex,
+    assignment: &Assignment,
+    blank: Blank,
+) -> Result<u64, AllocError>
+    requires name { blank.name ≡ L.name }
+    requires parts { blank.parts ≡ L.parts }
+    requires some { 0 < blank.parts }
+{
+    let mut steps = Steps::<L>::new(blank);
+    let mut sum: u64 = 0;
+    for _ in 0..times {
+        let found = index.find(alloc, assignment, &mut steps)?;
+        sum = added(sum, found.as_slice());
+    }
+    Ok(sum)
+}
+
+fn added(sum: u64, numbers: &[u32]) -> u64 {
+    let mut sum = sum;
+    for number in numbers {
+        sum = sum.wrapping_add(u64::from(*number));
+    }
+    sum
+}
