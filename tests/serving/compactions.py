@@ -123,7 +123,7 @@ def serve(step, program, target, state):
     forgotten = error(410, "forgotten") if gone >= 6 else settled(6, "billed")
     user = ',"user":{"id":"user-6"}'
     sold_once = gone < 6 or any(sale.user == b"user-6" and sale.campaign == 1 and sale.state in ("held", "billed") for sale in state.sales)
-    next_sale = won(last + 1, 2, "1.01") if sold_once else won(last + 1, 1, "2.01")
+    next_sale = won(last + 1, 2, "0.01") if sold_once else won(last + 1, 1, "2.01")
     with running(program, target) as server:
         converse(
             server,
