@@ -1,0 +1,202 @@
+-- What is given for a message, and messages in a row.
+use Rattle.std.proofs.Common.{◌≡◌, inl, ℕ, ◌+◌, ◌≤◌, ◌&&◌, cond, true, false, Bool, List, [], ◌∷◌, ◌++◌, length, refl, sym, ◌∙◌, ap, subst, arith, length-append, Option, Some, None, option_to_list, Result, Ok, Err}
+use Rattle.std.specs.Prelude.{All, IfOk, IsTrue, OnErr}
+use Rattle.std.proofs.lemmas.List.Elements.{All-append, All-cons, All-nil, filter_map-append}
+use Rattle.auction_core.specs.Draft.{is_valid_command}
+use Rattle.command_read.specs.Commands.{IsCommandOf}
+use Rattle.command_read.specs.Memory.{UnlessMemory}
+use Rattle.command_read.specs.declared.fault.CommandFault.{CommandFault}
+use Rattle.command_read.specs.declared.fault.CommandFault.TheVariants as unread
+use Rattle.conj_index.specs.Campaigns.{Campaigns}
+use Rattle.conj_index.specs.Content.{IsIndexOf}
+use Rattle.door_worker.specs.Answers.{Answered, Answers, AreDurable, ArePublished, Goes, IsDurable, IsPublished, IsRight, LeadsTo, calls_of, is_answer, is_edit, is_store_failed, request_of, store_failed}
+use Rattle.door_worker.specs.Working.{AnswersOne, Concludes, Entered, IsGivenFor, IsGivenUnread, IsKnown, IsTold, Tells, call_at}
+use Rattle.door_worker.proofs.Going.{durable_now, durable_on, goes_called, goes_fails, goes_none, goes_on, goes_waits, published_on, stable_on, worker_is}
+use Rattle.exchange_shared.specs.Seats.{Calls, Fails, MayBeSettled, Seat, Waits, effects_in}
+use Rattle.exchange_state.proofs.Owning.{count_append}
+use Rattle.exchange_state.specs.declared.state.Settled.{Settled}
+use Rattle.exchange_state.specs.Tickets.{IsVersionOf, matches}
+use Rattle.exchange_state.specs.Views.{calls, stable}
+use Rattle.http_wire.specs.declared.message.Message.{Message}
+use Rattle.index_versions.specs.declared.version.Version.{Version}
+use Rattle.plain_exchange.specs.declared.commands.Command.{Command}
+use Rattle.plain_exchange.specs.declared.commands.Command.TheVariants as command
+use Rattle.plain_exchange.specs.declared.commands.Reply.{Reply}
+use Rattle.plain_exchange.specs.History.{Call}
+use Rattle.rtb_types.specs.declared.request.BidRequest.{BidRequest}
+use Rattle.rtb_types.specs.Valid.{is_valid}
+use Rattle.session.specs.declared.service.Given.{Given}
+use Rattle.session.specs.declared.service.Given.TheVariants as given
+
+-- ---- commands
+
+-- what is read of a message can be asked
+pub valid_as_read : {E : Type 0} (c : Command) → ((r : BidRequest) → ◌≡◌ {A = Result Command E} (Ok c) (Ok (command.Auction r)) → IsTrue (is_valid r)) → IsTrue (is_valid_command c)
+valid_as_read (command.Auction r) h = h r refl
+valid_as_read (command.Add facts expr) h = refl
+valid_as_read (command.Change n facts expr) h = refl
+valid_as_read (command.Pause n) h = refl
+valid_as_read (command.Resume n) h = refl
+valid_as_read (command.Report n) h = refl
+valid_as_read (command.Bill n) h = refl
+valid_as_read (command.Lose n) h = refl
+
+-- what was found in a version that the seat has seen may be settled
+pub may_settle : (s : Seat) (v : Version) (r : BidRequest) (c : Command) (found : List (List ℕ)) → IsVersionOf s.origin (calls s.seen) v → c ≡ command.Auction r
+    → ((added : Campaigns) → IsIndexOf added v.index → found ≡ matches added r) → MayBeSettled s v found c
+may_settle s v r c found version auction found_are = record { version = version; request = r; auction = auction; found_are = found_are _ version.content }
+
+-- ---- a command
+
+pub entered : {E : Type 0} (c : Command) (moment : ℕ) (s t : Seat) (r : Result Settled E) → IfOk r (Calls c moment s t) → IfOk r (Entered c moment s t)
+entered c moment s t (Ok x) k = record { goes = goes_called s t c moment x.reply k.gains; upto = k.upto }
+entered c moment s t (Err e) k = tt
+
+pub not_entered : {T E : Type 0} (s t : Seat) (r : Result T E) → OnErr r (Waits s t) → OnErr r (Goes [] 0 s t)
+not_entered s t (Ok x) w = tt
+not_entered s t (Err e) w = goes_waits s t w
+
+-- a turn before it found
+entered_at : (c : Command) (moment : ℕ) (s m t : Seat) (x : Settled) → Goes [] 0 s m → Entered c moment m t x → Entered c moment s t x
+entered_at c moment s m t x g e = record {
+  goes = goes_on [] (call_at s.worker c moment x.reply ∷ []) 0 0 s m t g (subst (λ (w : ℕ). Goes (call_at w c moment x.reply ∷ []) 0 m t) (worker_is [] 0 s m g) e.goes);
+  upto = e.upto;
+}
+
+pub entered_later : {E : Type 0} (c : Command) (moment : ℕ) (s m t : Seat) (r : Result Settled E) → Waits s m → IfOk r (Entered c moment m t) → IfOk r (Entered c moment s t)
+entered_later c moment s m t (Ok x) w e = entered_at c moment s m t x (goes_waits s m w) e
+entered_later c moment s m t (Err f) w e = tt
+
+pub not_entered_later : {T E : Type 0} (s m t : Seat) (r : Result T E) → Waits s m → OnErr r (Goes [] 0 m t) → OnErr r (Goes [] 0 s t)
+not_entered_later s m t (Ok x) w g = tt
+not_entered_later s m t (Err e) w g = goes_on [] [] 0 0 s m t (goes_waits s m w) g
+
+-- ---- one message
+
+none_failed : (n : ℕ) → 0 + n ≡ n
+none_failed n = omega arith
+
+-- the effects are durable, and this is told of the reply
+pub told : (public : List ℕ) (command : Command) (reply : Reply) (s m t : Seat) (gave : Given) → Goes [] 0 s m → effects_in s.origin s.seen ≤ stable m.seen → Tells public command reply m gave t → IsKnown m t
+    → Concludes public command reply s gave t
+told public command reply s m t gave g le x known = record {
+  given_is = by_given gave x.told;
+  goes = not_failed gave x.told;
+  durable = λ is. durable_on 0 [] 0 m t x.goes (stable_on [] 0 m t x.goes known) (durable_now 0 s m g le);
+  published = x.published;
+} where
+  by_given : (gave : Given) → IsTold (request_of command) public reply gave → IsGivenFor public command reply gave
+  by_given (given.Text answer entered) is = is
+  by_given given.StoreFailed is = tt
+  by_given given.MemoryLate is = tt
+  by_given given.Memory is = is
+
+  not_failed : (gave : Given) → IsTold (request_of command) public reply gave → Goes [] (cond (is_store_failed gave) 1 0) s t
+  not_failed (given.Text answer entered) is = goes_on [] [] 0 0 s m t g x.goes
+  not_failed given.StoreFailed is = absurd is
+  not_failed given.MemoryLate is = goes_on [] [] 0 0 s m t g x.goes
+  not_failed given.Memory is = absurd is
+
+pub store_failed_told : (public : List ℕ) (command : Command) (reply : Reply) (s t : Seat) → Fails s t → Concludes public command reply s given.StoreFailed t
+store_failed_told public command reply s t f = record {
+  given_is = tt;
+  goes = goes_fails s t f;
+  durable = λ is. absurd (cc is);
+  published = λ is. absurd (cc is);
+}
+
+-- a command that has its call, and what is given for it
+pub answered : (public : List ℕ) (moment : ℕ) (command : Command) (message : Message) (settled : Settled) (s m t : Seat) (gave : Given) → IsCommandOf message (Ok command) → Entered command moment s m settled
+    → Concludes public command settled.reply m gave t → IsKnown s t → AnswersOne public moment s message gave t
+answered public moment command message settled s m t gave read e c known = record {
+  call = Some (call_at s.worker command moment settled.reply);
+  right = by_given gave c.given_is;
+  goes = subst (λ (n : ℕ). Goes (call_at s.worker command moment settled.reply ∷ []) n s t) (none_failed (cond (is_store_failed gave) 1 0))
+      (goes_on (call_at s.worker command moment settled.reply ∷ []) [] 0 (cond (is_store_failed gave) 1 0) s m t e.goes c.goes);
+  durable = c.durable;
+  published = edited (is_answer gave) (is_edit command) c.published;
+  known = known;
+} where
+  by_given : (gave : Given) → IsGivenFor public command settled.reply gave → LeadsTo public s.worker moment message gave (Some (call_at s.worker command moment settled.reply))
+  by_given (given.Text answer true) (is, answer_is) = (record { read = read; worker = refl; moment_is = refl }, answer_is)
+  by_given (given.Text answer false) (is, answer_is) = absurd (cc is)
+  by_given given.StoreFailed is = record { read = read; worker = refl; moment_is = refl }
+  by_given given.MemoryLate is = record { read = read; worker = refl; moment_is = refl }
+  by_given given.Memory is = absurd is
+
+  edited : (a b : Bool) → (a ≡ true → b ≡ true → IsPublished 0 t.worker t.origin t.seen) → a && b ≡ true → IsPublished 0 t.worker t.origin t.seen
+  edited true b p is = p refl is
+  edited false b p is = absurd (cc is)
+
+-- a command for which memory was refused before its call
+pub unanswered : (public : List ℕ) (moment : ℕ) (message : Message) (s t : Seat) → Goes [] 0 s t → IsKnown s t → AnswersOne public moment s message given.Memory t
+unanswered public moment message s t g known = record {
+  call = None;
+  right = tt;
+  goes = g;
+  durable = λ is. absurd (cc is);
+  published = λ is. absurd (cc is);
+  known = known;
+}
+
+-- what is read as no command
+pub refused : (public : List ℕ) (moment : ℕ) (message : Message) (s : Seat) (f : CommandFault) (gave : Given) → s.turn ≡ false → UnlessMemory (IsCommandOf message) (Err f) → IsGivenUnread f gave → AnswersOne public moment s message gave s
+refused public moment message s (unread.Refused answer) gave free read is = subst (λ (g : Given). AnswersOne public moment s message g s) (sym is) (record {
+  call = None;
+  right = read;
+  goes = goes_none s free;
+  durable = λ no_call. absurd (cc no_call);
+  published = λ no_call. absurd (cc no_call);
+  known = inl refl;
+})
+refused public moment message s unread.Memory gave free read is = subst (λ (g : Given). AnswersOne public moment s message g s) (sym is)
+    (unanswered public moment message s s (goes_none s free) (inl refl))
+
+-- ---- messages in a row
+
+pub answers_none : (public : List ℕ) (s : Seat) → s.turn ≡ false → Answers public [] s s
+answers_none public s free = record { right = All-nil (IsRight public s.worker); goes = goes_none s free; durable = tt; published = tt }
+
+pub answers_one : (public text : List ℕ) (moment : ℕ) (message : Message) (gave : Given) (s t : Seat) (one : AnswersOne public moment s message gave t)
+    → Answers public (record { turn = record { message = message; given = gave; text = text }; moment = moment; call = one.call } ∷ []) s t
+answers_one public text moment message gave s t one =
+    let a : Answered = record { turn = record { message = message; given = gave; text = text }; moment = moment; call = one.call } in
+    record {
+      right = All-cons (IsRight public s.worker) a [] one.right (All-nil (IsRight public s.worker));
+      goes = counted one.call (is_store_failed gave) one.goes;
+      durable = (one.durable, tt);
+      published = (one.published, tt);
+    }
+  where
+    counted : (call : Option Call) (b : Bool) → Goes (option_to_list call) (cond b 1 0) s t
+        → Goes (calls_of (record { turn = record { message = message; given = gave; text = text }; moment = moment; call = call } ∷ [])) (0 + cond b 1 0) s t
+    counted (Some c) true g = g
+    counted (Some c) false g = g
+    counted None true g = g
+    counted None false g = g
+
+calls_then : (l m : List Answered) → calls_of (l ++ m) ≡ calls_of l ++ calls_of m
+calls_then l m = filter_map-append (λ (a : Answered). a.call) l m
+
+count_then : (l m : List Answered) → length (calls_of l) + length (calls_of m) ≡ length (calls_of (l ++ m))
+count_then l m = sym (ap length (calls_then l m) ∙ length-append (calls_of l) (calls_of m))
+
+durable_then : (i : ℕ) (l m : List Answered) (s t : Seat) → Goes (calls_of m) i s t → stable s.seen ≤ stable t.seen → AreDurable l s.worker s.origin s.seen → AreDurable m t.worker t.origin t.seen → AreDurable (l ++ m) t.worker t.origin t.seen
+durable_then i [] m s t g le d e = e
+durable_then i (a ∷ l) m s t g le d e =
+    (λ is. subst (λ (n : ℕ). IsDurable n t.worker t.origin t.seen) (count_then l m) (durable_on (length (calls_of l)) (calls_of m) i s t g le (d.0 is)), durable_then i l m s t g le d.1 e)
+
+published_then : (i : ℕ) (l m : List Answered) (s t : Seat) → Goes (calls_of m) i s t → ArePublished l s.worker s.origin s.seen → ArePublished m t.worker t.origin t.seen → ArePublished (l ++ m) t.worker t.origin t.seen
+published_then i [] m s t g d e = e
+published_then i (a ∷ l) m s t g d e =
+    (λ is. subst (λ (n : ℕ). IsPublished n t.worker t.origin t.seen) (count_then l m) (published_on (length (calls_of l)) (calls_of m) i s t g (d.0 is)), published_then i l m s t g d.1 e)
+
+pub answers_then : (public : List ℕ) (l m : List Answered) (s t u : Seat) → Answers public l s t → Answers public m t u → IsKnown t u → Answers public (l ++ m) s u
+answers_then public l m s t u a b known = record {
+  right = All-append (IsRight public s.worker) l m a.right (subst (λ (w : ℕ). All (IsRight public w) m) (worker_is (calls_of l) (store_failed l) s t a.goes) b.right);
+  goes = subst (λ (c : List Call). Goes c (store_failed (l ++ m)) s u) (sym (calls_then l m))
+      (subst (λ (n : ℕ). Goes (calls_of l ++ calls_of m) n s u) (sym (count_append (λ (x : Answered). is_store_failed x.turn.given) l m))
+      (goes_on (calls_of l) (calls_of m) (store_failed l) (store_failed m) s t u a.goes b.goes));
+  durable = durable_then (store_failed m) l m t u b.goes (stable_on (calls_of m) (store_failed m) t u b.goes known) a.durable b.durable;
+  published = published_then (store_failed m) l m t u b.goes a.published b.published;
+}

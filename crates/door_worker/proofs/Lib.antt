@@ -1,0 +1,4 @@
+pub mod Going
+pub mod Answering
+pub mod Talking
+pub mod Holding

@@ -1,0 +1,8 @@
+use Rattle.door_worker.proofs.Answering.{entered, not_entered}
+use Rattle.door_worker.proofs.messages.settle.Goals as goal
+
+pub returns-clause-entered : goal.returns-clause-entered
+returns-clause-entered g c = entered _ _ _ _ _ c.settle.ensures.settled
+
+pub returns-clause-none : goal.returns-clause-none
+returns-clause-none g c = not_entered _ _ _ c.settle.ensures.unsettled

@@ -1,0 +1,297 @@
+//! One message answered.
+ghost use Rattle.std.specs.Prelude.{◌≡◌, ◌<◌, [], true, Ok, IfOk, IsTrue, OnErr, OnOk};
+ghost use Rattle.auction_core.specs.Draft.{is_simple, is_valid_command};
+ghost use Rattle.command_read.specs.Commands.{IsCommandOf};
+ghost use Rattle.conj_index.specs.Campaigns.{Campaigns};
+ghost use Rattle.conj_index.specs.Content.{IsIndexOf};
+ghost use Rattle.door_worker.specs.Answers.{Goes, IsPublished, is_edit};
+ghost use Rattle.door_worker.specs.Working.{AnswersOne, Concludes, Entered, Tells};
+ghost use Rattle.exchange_shared.specs.Seats.{IsOrdered, MayBeSettled, MayCall, effects_in, lock_of};
+ghost use Rattle.exchange_state.specs.Tickets.{matches, version_in};
+ghost use Rattle.http_wire.specs.declared.message.Message.{Message as AMessage};
+ghost use Rattle.plain_exchange.specs.declared.commands.Command.TheVariants.{Auction as AnAuction};
+ghost use Rattle.session.specs.Talk.{IsGivable};
+
+use crate::commands::{given_for, given_unread, is_edit, request_in};
+use crate::worker::Tools;
+use auction_core::{Command, Reply};
+use command_read::read_command;
+use exchange_shared::{Exchange, Found, Seat, Settled, StoreFailed, Ticket};
+use http_wire::Message;
+use link_door::Pause;
+use rtb_base::Steps;
+use rtb_disk::Disk;
+use rtb_types::BidRequest;
+use session::Given;
+use std::alloc::AllocError;
+use std::marker::Brand;
+use std::sync::Wait;
+use std::sync::ledger::{Blank, Ledger};
+
+/// Answers the message, which is taken up at the moment.
+#[tactic(auto, using(crate::proofs::Answering::valid_as_read))]
+pub(crate) fn answer<'e, D: Disk, R: Wait, P: Pause>(
+    exchange: &Exchange<D>,
+    tools: &Tools<'e, R, P>,
+    seat: Seat<D>,
+    message: &Message,
+    moment: u64,
+) -> (Seat<D>, Given)
+    requires seat { MayCall (lock_of exchange.now) seat }
+    ensures seat { MayCall (lock_of exchange.now) result.0 }
+    ensures answers { AnswersOne tools.now.public.now moment seat message.now result.1 result.0 }
+    ensures writable { IsGivable result.1 }
+{
+    match read_command(tools.alloc, message) {
+        Ok(command) => {
+            let answered = answer_command(exchange, tools, seat, &command, moment);
+            drop(command);
+            answered
+        }
+        Err(fault) => (seat, given_unread(fault)),
+    }
+}
+
+fn answer_command<'e, D: Disk, R: Wait, P: Pause>(
+    exchange: &Exchange<D>,
+    tools: &Tools<'e, R, P>,
+    seat: Seat<D>,
+    command: &Command,
+    moment: u64,
+) -> (Seat<D>, Given)
+    requires seat { MayCall (lock_of exchange.now) seat }
+    requires valid { IsTrue (is_valid_command command.now) }
+    ensures seat { MayCall (lock_of exchange.now) result.0 }
+    ensures answers { (message : AMessage) → IsCommandOf message (Ok command.now) → AnswersOne tools.now.public.now moment seat message result.1 result.0 }
+    ensures writable { IsGivable result.1 }
+{
+    let (seat, settled) = enter(exchange, tools, seat, command, moment);
+    match settled {
+        Ok(settled) => conclude(exchange, tools, seat, command, settled),
+        Err(AllocError) => (seat, Given::Memory),
+    }
+}
+
+// Carries the command out in a turn of the exchange.
+fn enter<'e, D: Disk, R: Wait, P: Pause>(
+    exchange: &Exchange<D>,
+    tools: &Tools<'e, R, P>,
+    seat: Seat<D>,
+    command: &Command,
+    moment: u64,
+) -> (Seat<D>, Result<Settled, AllocError>)
+    requires seat { MayCall (lock_of exchange.now) seat }
+    requires valid { IsTrue (is_valid_command command.now) }
+    ensures seat { MayCall (lock_of exchange.now) result.0 }
+    ensures entered { IfOk result.1 (Entered command.now moment seat result.0) }
+    ensures none { OnErr result.1 (Goes [] 0 seat result.0) }
+    ensures order { IsOrdered result.0.origin result.0.seen }
+{
+    match command {
+        Command::Auction(request) => sell(exchange, tools, seat, command, request, moment),
+        _ => edit_or_report(exchange, tools, seat, command, moment),
+    }
+}
+
+// Sells over the campaigns that are found in the present version.
+fn sell<'e, D: Disk, R: Wait, P: Pause>(
+    exchange: &Exchange<D>,
+    tools: &Tools<'e, R, P>,
+    seat: Seat<D>,
+    command: &Command,
+    request: &BidRequest,
+    moment: u64,
+) -> (Seat<D>, Result<Settled, AllocError>)
+    requires seat { MayCall (lock_of exchange.now) seat }
+    requires valid { IsTrue (is_valid_command command.now) }
+    requires auction { command.now ≡ AnAuction request.now }
+    ensures seat { MayCall (lock_of exchange.now) result.0 }
+    ensures entered { IfOk result.1 (Entered command.now moment seat result.0) }
+    ensures none { OnErr result.1 (Goes [] 0 seat result.0) }
+    ensures order { IsOrdered result.0.origin result.0.seen }
+{
+    let (seat, ticket) = exchange.begin(tools.rt, seat);
+    match ticket {
+        Ok(ticket) => match find::<R, P, Brand>(tools, &ticket, request, Blank::new(1)) {
+            Ok(found) => {
+                tools.pause.between(tools.number);
+                settle::<D, R, P, Brand>(
+                    exchange,
+                    tools,
+                    seat,
+                    ticket,
+                    found,
+                    command,
+                    moment,
+                    Blank::new(1),
+                )
+            }
+            Err(AllocError) => {
+                drop(ticket);
+                (seat, Err(AllocError))
+            }
+        },
+        Err(AllocError) => (seat, Err(AllocError)),
+    }
+}
+
+// What is found in the ticket's version. The steps are not counted.
+fn find<'e, R: Wait, P: Pause, L: Ledger>(
+    tools: &Tools<'e, R, P>,
+    ticket: &Ticket,
+    request: &BidRequest,
+    blank: Blank,
+) -> Result<Found, AllocError>
+    requires name { blank.name ≡ L.name }
+    requires parts { blank.parts ≡ L.parts }
+    requires some { 0 < blank.parts }
+    ensures { IfOk result (λ f. (added : Campaigns) → IsIndexOf added (version_in ticket.now).index → f.lists ≡ matches added request.now) }
+{
+    let mut steps = Steps::<L>::new(blank);
+    ticket.find(tools.alloc, request, &mut steps)
+}
+
+fn settle<'e, D: Disk, R: Wait, P: Pause, L: Ledger>(
+    exchange: &Exchange<D>,
+    tools: &Tools<'e, R, P>,
+    seat: Seat<D>,
+    ticket: Ticket,
+    found: Found,
+    command: &Command,
+    moment: u64,
+    blank: Blank,
+) -> (Seat<D>, Result<Settled, AllocError>)
+    requires name { blank.name ≡ L.name }
+    requires parts { blank.parts ≡ L.parts }
+    requires some { 0 < blank.parts }
+    requires seat { MayCall (lock_of exchange.now) seat }
+    requires valid { IsTrue (is_valid_command command.now) }
+    requires found { MayBeSettled seat (version_in ticket) found.lists command.now }
+    ensures seat { MayCall (lock_of exchange.now) result.0 }
+    ensures entered { IfOk result.1 (Entered command.now moment seat result.0) }
+    ensures none { OnErr result.1 (Goes [] 0 seat result.0) }
+    ensures order { IsOrdered result.0.origin result.0.seen }
+{
+    let mut steps = Steps::<L>::new(blank);
+    exchange.settle(tools.rt, seat, ticket, found, command, moment, &mut steps)
+}
+
+// Carries out a command that needs nothing found.
+fn edit_or_report<'e, D: Disk, R: Wait, P: Pause>(
+    exchange: &Exchange<D>,
+    tools: &Tools<'e, R, P>,
+    seat: Seat<D>,
+    command: &Command,
+    moment: u64,
+) -> (Seat<D>, Result<Settled, AllocError>)
+    requires seat { MayCall (lock_of exchange.now) seat }
+    requires simple { IsTrue (is_simple command.now) }
+    ensures seat { MayCall (lock_of exchange.now) result.0 }
+    ensures entered { IfOk result.1 (Entered command.now moment seat result.0) }
+    ensures none { OnErr result.1 (Goes [] 0 seat result.0) }
+    ensures order { IsOrdered result.0.origin result.0.seen }
+{
+    exchange.simple(tools.rt, seat, command, moment)
+}
+
+// Waits until the effects are durable, and tells what is given for the reply.
+fn conclude<'e, D: Disk, R: Wait, P: Pause>(
+    exchange: &Exchange<D>,
+    tools: &Tools<'e, R, P>,
+    seat: Seat<D>,
+    command: &Command,
+    settled: Settled,
+) -> (Seat<D>, Given)
+    requires seat { MayCall (lock_of exchange.now) seat }
+    requires upto { settled.upto ≡ effects_in seat.origin seat.seen }
+    ensures seat { MayCall (lock_of exchange.now) result.0 }
+    ensures concluded { Concludes tools.now.public.now command.now settled.reply seat result.1 result.0 }
+    ensures order { IsOrdered result.0.origin result.0.seen }
+    ensures writable { IsGivable result.1 }
+{
+    let Settled { reply, upto } = settled;
+    let concluded = make_durable(exchange, tools, seat, command, &reply, upto);
+    drop(reply);
+    concluded
+}
+
+fn make_durable<'e, D: Disk, R: Wait, P: Pause>(
+    exchange: &Exchange<D>,
+    tools: &Tools<'e, R, P>,
+    seat: Seat<D>,
+    command: &Command,
+    reply: &Reply,
+    upto: u64,
+) -> (Seat<D>, Given)
+    requires seat { MayCall (lock_of exchange.now) seat }
+    requires upto { upto ≡ effects_in seat.origin seat.seen }
+    ensures seat { MayCall (lock_of exchange.now) result.0 }
+    ensures concluded { Concludes tools.now.public.now command.now reply.now seat result.1 result.0 }
+    ensures order { IsOrdered result.0.origin result.0.seen }
+    ensures writable { IsGivable result.1 }
+{
+    match exchange.make_durable(tools.rt, seat, upto) {
+        Ok(seat) => tell(exchange, tools, seat, command, reply),
+        Err(StoreFailed { seat }) => (seat, Given::StoreFailed),
+    }
+}
+
+// What is given for the reply, whose effects are durable, once a version is published where one is due.
+fn tell<'e, D: Disk, R: Wait, P: Pause>(
+    exchange: &Exchange<D>,
+    tools: &Tools<'e, R, P>,
+    seat: Seat<D>,
+    command: &Command,
+    reply: &Reply,
+) -> (Seat<D>, Given)
+    requires seat { MayCall (lock_of exchange.now) seat }
+    requires order { IsOrdered seat.origin seat.seen }
+    ensures seat { MayCall (lock_of exchange.now) result.0 }
+    ensures told { Tells tools.now.public.now command.now reply.now seat result.1 result.0 }
+    ensures order { IsOrdered result.0.origin result.0.seen }
+    ensures writable { IsGivable result.1 }
+{
+    let (seat, published) = publish_edit::<D, R, P, Brand>(
+        exchange,
+        tools,
+        seat,
+        command,
+        Blank::new(1),
+    );
+    match published {
+        Ok(()) => (
+            seat,
+            given_for(tools.alloc, request_in(command), reply, tools.public),
+        ),
+        Err(AllocError) => (seat, Given::MemoryLate),
+    }
+}
+
+// Behind an edit: publishes a version where one is due.
+fn publish_edit<'e, D: Disk, R: Wait, P: Pause, L: Ledger>(
+    exchange: &Exchange<D>,
+    tools: &Tools<'e, R, P>,
+    seat: Seat<D>,
+    command: &Command,
+    blank: Blank,
+) -> (Seat<D>, Result<(), AllocError>)
+    requires name { blank.name ≡ L.name }
+    requires parts { blank.parts ≡ L.parts }
+    requires some { 0 < blank.parts }
+    requires seat { MayCall (lock_of exchange.now) seat }
+    requires order { IsOrdered seat.origin seat.seen }
+    ensures seat { MayCall (lock_of exchange.now) result.0 }
+    ensures goes { Goes [] 0 seat result.0 }
+    ensures published { OnOk result.1 (is_edit command.now ≡ true → IsPublished 0 result.0.worker result.0.origin result.0.seen) }
+    ensures order { IsOrdered result.0.origin result.0.seen }
+{
+    if !is_edit(command) {
+        return (seat, Ok(()));
+    }
+    let mut steps = Steps::<L>::new(blank);
+    let (seat, published) = exchange.republish(tools.rt, tools.alloc, seat, &mut steps);
+    match published {
+        Ok(_) => (seat, Ok(())),
+        Err(AllocError) => (seat, Err(AllocError)),
+    }
+}
