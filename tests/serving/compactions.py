@@ -87,6 +87,8 @@ def recover_line(state):
 
 def try_compactions(program, folder):
     """A large journal is compacted with several numbers of sales to keep, and each result is served."""
+    folder = folder / "compactions"
+    folder.mkdir()
     source, target = folder / "old", folder / "new"
     before = journal(blocks_of(int(time.time() * 1000)))
     source.write_bytes(before)
