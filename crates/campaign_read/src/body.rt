@@ -22,7 +22,7 @@ use target_expr::{Expr, ExprFault, RawPred};
 
 /// The campaign in a JSON text, or the first of its faults in the order in which the fields are read;
 /// then come the faults of the facts, and then those of the target.
-pub fn read_campaign(alloc: Global, doc: &Doc) -> Result<(Facts, Expr), CampFault>
+pub fn read_campaign(alloc: Global, doc: &Doc<'_>) -> Result<(Facts, Expr), CampFault>
     ensures { Answers CampFault.Memory (campaign_faults (doc_tree doc.now)) (campaign_from (doc_tree doc.now)) result }
 {
     match fields::object_in(doc.root()) {
@@ -31,7 +31,7 @@ pub fn read_campaign(alloc: Global, doc: &Doc) -> Result<(Facts, Expr), CampFaul
     }
 }
 
-fn campaign_in(alloc: Global, body: &Value) -> Result<(Facts, Expr), CampFault>
+fn campaign_in(alloc: Global, body: &Value<'_>) -> Result<(Facts, Expr), CampFault>
     requires forms { HasForms (tree_of body.now) }
     ensures { Answers CampFault.Memory (body_faults (tree_of body.now)) (campaign_from (tree_of body.now)) result }
 {

@@ -28,7 +28,7 @@ const SECONDS: Bounds = Bounds {
 
 // The cap, which may be absent.
 #[tactic(auto, unfolding(crate::specs::Parts::faults_at, crate::specs::Cap::object_faults, crate::specs::Cap::object_from, crate::specs::Cap::cap_faults, crate::specs::Cap::cap_from))]
-pub(crate) fn cap_field(body: &Value) -> Result<Option<Cap>, CampFault>
+pub(crate) fn cap_field(body: &Value<'_>) -> Result<Option<Cap>, CampFault>
     requires forms { HasForms (tree_of body.now) }
     ensures { Answers CampFault.Memory (cap_faults (tree_of body.now)) (cap_from (tree_of body.now)) result }
 {
@@ -41,7 +41,7 @@ pub(crate) fn cap_field(body: &Value) -> Result<Option<Cap>, CampFault>
 
 // The two numbers of a cap, in the order in which they are read.
 #[tactic(auto, using(json_fields::proofs::First::firsts), unfolding(crate::specs::Cap::terms_faults, crate::specs::Cap::terms_from))]
-fn terms_of(cap: &Value) -> Result<Option<Cap>, CampFault>
+fn terms_of(cap: &Value<'_>) -> Result<Option<Cap>, CampFault>
     requires forms { HasForms (tree_of cap.now) }
     ensures { Answers CampFault.Memory (terms_faults (tree_of cap.now)) (terms_from (tree_of cap.now)) result }
 {
@@ -52,7 +52,7 @@ fn terms_of(cap: &Value) -> Result<Option<Cap>, CampFault>
 
 // A whole number that has to be there.
 #[tactic(auto, unfolding(crate::specs::Parts::faults_at, crate::specs::Cap::whole_in))]
-fn whole_field(object: &Value, field: CampField, bounds: &Bounds) -> Result<i32, CampFault>
+fn whole_field(object: &Value<'_>, field: CampField, bounds: &Bounds) -> Result<i32, CampFault>
     requires forms { HasForms (tree_of object.now) }
     ensures { Answers CampFault.Memory (faults_at field (whole_in (member_name field) bounds.now (tree_of object.now))) (value_or (pos 0) (whole_in (member_name field) bounds.now (tree_of object.now))) result }
 {
@@ -63,7 +63,7 @@ fn whole_field(object: &Value, field: CampField, bounds: &Bounds) -> Result<i32,
 }
 
 #[tactic(auto, using(crate::proofs::Required::there, crate::proofs::Required::absent, crate::proofs::Required::flawed), unfolding(crate::specs::Cap::whole_in))]
-fn required_whole(object: &Value, name: &[u8], bounds: &Bounds) -> Result<i32, Flaw>
+fn required_whole(object: &Value<'_>, name: &[u8], bounds: &Bounds) -> Result<i32, Flaw>
     requires forms { HasForms (tree_of object.now) }
     ensures { result ≡ whole_in name.now bounds.now (tree_of object.now) }
 {

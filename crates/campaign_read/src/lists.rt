@@ -57,7 +57,7 @@ impl ListField {
 // A list of texts, which may be absent.
 pub(crate) fn texts_field(
     alloc: Global,
-    object: &Value,
+    object: &Value<'_>,
     list: ListField,
 ) -> Result<List<Txt>, CampFault>
     ensures { Answers CampFault.Memory (list_faults list as_text (tree_of object.now)) (list_from list as_text (tree_of object.now)) result }
@@ -85,7 +85,7 @@ const ATTR: Bounds = Bounds {
 };
 
 // The attributes of the creative, which may be absent.
-pub(crate) fn attr_field(alloc: Global, object: &Value) -> Result<List<i32>, CampFault>
+pub(crate) fn attr_field(alloc: Global, object: &Value<'_>) -> Result<List<i32>, CampFault>
     requires forms { HasForms (tree_of object.now) }
     ensures { Answers CampFault.Memory (list_faults ListField.Attr (as_whole attr_bounds) (tree_of object.now)) (list_from ListField.Attr (as_whole attr_bounds) (tree_of object.now)) result }
 {

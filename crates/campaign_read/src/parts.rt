@@ -32,22 +32,26 @@ pub(crate) fn fault(field: CampField, flaw: Flaw) -> CampFault
 
 // A text.
 #[tactic(auto, unfolding(crate::specs::Parts::faults_at, crate::specs::Parts::text_faults, crate::specs::Parts::text_from))]
-pub(crate) fn text_field(object: &Value, field: CampField) -> Result<Txt, CampFault>
+pub(crate) fn text_field(
+    alloc: Global,
+    object: &Value<'_>,
+    field: CampField,
+) -> Result<Txt, CampFault>
     ensures { Answers CampFault.Memory (text_faults field (tree_of object.now)) (text_from (member_name field) (tree_of object.now)) result }
 {
     match fields::required_text(object, field.member()) {
-        Ok(text) => Ok(text.copy()?),
+        Ok(text) => Ok(Txt::from_slice(alloc, text)?),
         Err(flaw) => Err(fault(field, flaw)),
     }
 }
 
 // The fields other than the target, in the order in which they are read.
-pub(crate) fn parts_in(alloc: Global, body: &Value) -> Result<FactParts, CampFault>
+pub(crate) fn parts_in(alloc: Global, body: &Value<'_>) -> Result<FactParts, CampFault>
     requires forms { HasForms (tree_of body.now) }
     ensures { Answers CampFault.Memory (parts_faults (tree_of body.now)) (parts_from (tree_of body.now)) result }
 {
-    let read = text_field(body, CampField::Seat);
-    let read = both(read, text_field(body, CampField::Adomain));
+    let read = text_field(alloc, body, CampField::Seat);
+    let read = both(read, text_field(alloc, body, CampField::Adomain));
     let read = both(read, texts_field(alloc, body, ListField::Cat));
     let read = both(read, side_field(body, CampField::W));
     let read = both(read, side_field(body, CampField::H));
@@ -56,9 +60,9 @@ pub(crate) fn parts_in(alloc: Global, body: &Value) -> Result<FactParts, CampFau
     let read = both(read, amount_field(body, CampField::Bid));
     let read = both(read, texts_field(alloc, body, ListField::Deals));
     let read = both(read, amount_field(body, CampField::Budget));
-    let read = both(read, text_field(body, CampField::Adm));
-    let read = both(read, text_field(body, CampField::Crid));
-    let read = both(read, adid_field(body));
+    let read = both(read, text_field(alloc, body, CampField::Adm));
+    let read = both(read, text_field(alloc, body, CampField::Crid));
+    let read = both(read, adid_field(alloc, body));
     let read = both(read, cap_field(body));
     match read {
         Ok(read) => Ok(joined(read)),
@@ -138,7 +142,7 @@ const SIDE: Bounds = Bounds {
 
 // A side of the creative, which may be absent.
 #[tactic(auto, unfolding(crate::specs::Parts::faults_at, crate::specs::Parts::side_faults, crate::specs::Parts::side_from))]
-fn side_field(body: &Value, field: CampField) -> Result<Option<i32>, CampFault>
+fn side_field(body: &Value<'_>, field: CampField) -> Result<Option<i32>, CampFault>
     requires forms { HasForms (tree_of body.now) }
     ensures { Answers CampFault.Memory (side_faults field (tree_of body.now)) (side_from (member_name field) (tree_of body.now)) result }
 {
@@ -149,7 +153,7 @@ fn side_field(body: &Value, field: CampField) -> Result<Option<i32>, CampFault>
 }
 
 #[tactic(auto, unfolding(crate::specs::Parts::faults_at))]
-fn secure_field(body: &Value) -> Result<bool, CampFault>
+fn secure_field(body: &Value<'_>) -> Result<bool, CampFault>
     requires forms { HasForms (tree_of body.now) }
     ensures { Answers CampFault.Memory (faults_at CampField.Secure (or_absent false as_flag (present (member_name CampField.Secure) (tree_of body.now)))) (value_or false (or_absent false as_flag (present (member_name CampField.Secure) (tree_of body.now)))) result }
 {
@@ -161,7 +165,7 @@ fn secure_field(body: &Value) -> Result<bool, CampFault>
 
 // An amount in US dollars.
 #[tactic(auto, unfolding(crate::specs::Parts::faults_at, crate::specs::Parts::amount_faults, crate::specs::Parts::amount_from))]
-fn amount_field(body: &Value, field: CampField) -> Result<Micros, CampFault>
+fn amount_field(body: &Value<'_>, field: CampField) -> Result<Micros, CampFault>
     requires forms { HasForms (tree_of body.now) }
     ensures { Answers CampFault.Memory (amount_faults field (tree_of body.now)) (amount_from (member_name field) (tree_of body.now)) result }
 {
@@ -179,20 +183,20 @@ fn nanos(amount: Micros) -> Nanos
 }
 
 #[tactic(auto, unfolding(crate::specs::Parts::faults_at))]
-fn adid_field(body: &Value) -> Result<Option<Txt>, CampFault>
+fn adid_field(alloc: Global, body: &Value<'_>) -> Result<Option<Txt>, CampFault>
     ensures { Answers CampFault.Memory (faults_at CampField.Adid (optional as_text (present (member_name CampField.Adid) (tree_of body.now)))) (value_or None (optional as_text (present (member_name CampField.Adid) (tree_of body.now)))) result }
 {
     match fields::text(body, CampField::Adid.member()) {
-        Ok(found) => Ok(copy_of(found)?),
+        Ok(found) => Ok(copy_of(alloc, found)?),
         Err(flaw) => Err(fault(CampField::Adid, flaw)),
     }
 }
 
-fn copy_of(text: Option<&Txt>) -> Result<Option<Txt>, AllocError>
+fn copy_of(alloc: Global, text: Option<&[u8]>) -> Result<Option<Txt>, AllocError>
     ensures { IfOk result (λ t. t ≡ option_map (λ s. s.now) text.entry) }
 {
     match text {
-        Some(text) => Ok(Some(text.copy()?)),
+        Some(text) => Ok(Some(Txt::from_slice(alloc, text)?)),
         None => Ok(None),
     }
 }

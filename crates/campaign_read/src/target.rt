@@ -20,7 +20,10 @@ use target_expr::RawPred;
 
 // The target, where it is absent everything.
 #[tactic(auto, unfolding(crate::specs::Target::conjunctions_faults, crate::specs::Target::conjunctions_of, crate::specs::Target::target_faults, crate::specs::Target::target_from))]
-pub(crate) fn target_field(alloc: Global, body: &Value) -> Result<List<List<RawPred>>, CampFault>
+pub(crate) fn target_field(
+    alloc: Global,
+    body: &Value<'_>,
+) -> Result<List<List<RawPred>>, CampFault>
     ensures { Answers CampFault.Memory (target_faults (tree_of body.now)) (target_from (tree_of body.now)) result }
 {
     match fields::array(body, CampField::Target.member()) {
@@ -30,7 +33,7 @@ pub(crate) fn target_field(alloc: Global, body: &Value) -> Result<List<List<RawP
     }
 }
 
-fn all_conjunctions(alloc: Global, values: &[Value]) -> Result<Vec<List<RawPred>>, CampFault>
+fn all_conjunctions(alloc: Global, values: &[Value<'_>]) -> Result<Vec<List<RawPred>>, CampFault>
     ensures { Answers CampFault.Memory (each_at conjunction_at (map tree_of values.now)) (conjunctions_from (map tree_of values.now)) (map_ok (λ v. v.items) result) }
 {
     let mut conjunctions = Vec::with_capacity(alloc, values.len())?;
@@ -41,7 +44,7 @@ fn all_conjunctions(alloc: Global, values: &[Value]) -> Result<Vec<List<RawPred>
 }
 
 #[tactic(auto, unfolding(crate::specs::Parts::element_faults))]
-fn conjunction_entry(alloc: Global, i: usize, value: &Value) -> Result<List<RawPred>, CampFault>
+fn conjunction_entry(alloc: Global, i: usize, value: &Value<'_>) -> Result<List<RawPred>, CampFault>
     ensures { Answers CampFault.Memory (conjunction_at i (tree_of value.now)) (conjunction_from (value_or [] (as_array (tree_of value.now)))) result }
 {
     match fields::array_in(value) {
@@ -51,7 +54,7 @@ fn conjunction_entry(alloc: Global, i: usize, value: &Value) -> Result<List<RawP
 }
 
 #[tactic(auto, unfolding(crate::specs::Target::conjunction_faults, crate::specs::Target::conjunction_from))]
-fn all_preds(alloc: Global, i: usize, values: &[Value]) -> Result<Vec<RawPred>, CampFault>
+fn all_preds(alloc: Global, i: usize, values: &[Value<'_>]) -> Result<Vec<RawPred>, CampFault>
     ensures { Answers CampFault.Memory (conjunction_faults i (map tree_of values.now)) (conjunction_from (map tree_of values.now)) (map_ok (λ v. v.items) result) }
 {
     let mut preds = Vec::with_capacity(alloc, values.len())?;
@@ -62,7 +65,7 @@ fn all_preds(alloc: Global, i: usize, values: &[Value]) -> Result<Vec<RawPred>, 
 }
 
 #[tactic(auto, unfolding(crate::specs::Parts::element_faults))]
-fn pred_entry(alloc: Global, i: usize, j: usize, value: &Value) -> Result<RawPred, CampFault>
+fn pred_entry(alloc: Global, i: usize, j: usize, value: &Value<'_>) -> Result<RawPred, CampFault>
     ensures { Answers CampFault.Memory (pred_at i j (tree_of value.now)) (pred_from (tree_of value.now)) result }
 {
     match fields::object_in(value) {
@@ -71,10 +74,10 @@ fn pred_entry(alloc: Global, i: usize, j: usize, value: &Value) -> Result<RawPre
     }
 }
 
-fn pred_in(alloc: Global, i: usize, j: usize, pred: &Value) -> Result<RawPred, CampFault>
+fn pred_in(alloc: Global, i: usize, j: usize, pred: &Value<'_>) -> Result<RawPred, CampFault>
     ensures { Answers CampFault.Memory (pred_faults i j (tree_of pred.now)) (pred_from (tree_of pred.now)) result }
 {
-    let read = text_field(pred, CampField::PredicateAttr(i, j));
+    let read = text_field(alloc, pred, CampField::PredicateAttr(i, j));
     let read = unless_faulty(read, some_list(i, j, pred));
     let read = both(read, texts_field(alloc, pred, ListField::In(i, j)));
     let read = unless_faulty(read, one_list(i, j, pred));
@@ -103,7 +106,7 @@ fn unless_faulty<A: Drop>(
 }
 
 // The predicate of an attribute and two lists.
-fn chosen(read: ((Txt, List<Txt>), List<Txt>), pred: &Value) -> RawPred
+fn chosen(read: ((Txt, List<Txt>), List<Txt>), pred: &Value<'_>) -> RawPred
     ensures { result ≡ chosen read (has_not (tree_of pred.now)) }
 {
     let ((attr, admitted), excluded) = read;
@@ -116,7 +119,7 @@ fn chosen(read: ((Txt, List<Txt>), List<Txt>), pred: &Value) -> RawPred
 }
 
 // A predicate lists what it admits or what it excludes.
-fn some_list(i: usize, j: usize, pred: &Value) -> Result<(), CampFault>
+fn some_list(i: usize, j: usize, pred: &Value<'_>) -> Result<(), CampFault>
     ensures { Answers CampFault.Memory (fault_where (not (has_in (tree_of pred.now)) && not (has_not (tree_of pred.now))) (CampFault.Missing (CampField.In i j))) tt result }
 {
     if has_in(pred) {
@@ -130,20 +133,20 @@ fn some_list(i: usize, j: usize, pred: &Value) -> Result<(), CampFault>
     })
 }
 
-fn has_in(pred: &Value) -> bool
+fn has_in(pred: &Value<'_>) -> bool
     ensures { result ≡ has_in (tree_of pred.now) }
 {
     fields::present(pred, CampField::In(0, 0).member()).is_some()
 }
 
-fn has_not(pred: &Value) -> bool
+fn has_not(pred: &Value<'_>) -> bool
     ensures { result ≡ has_not (tree_of pred.now) }
 {
     fields::present(pred, CampField::Not(0, 0).member()).is_some()
 }
 
 // It does not list both.
-fn one_list(i: usize, j: usize, pred: &Value) -> Result<(), CampFault>
+fn one_list(i: usize, j: usize, pred: &Value<'_>) -> Result<(), CampFault>
     ensures { Answers CampFault.Memory (fault_where (has_in (tree_of pred.now) && has_not (tree_of pred.now)) (CampFault.WrongType (CampField.Not i j))) tt result }
 {
     if !has_in(pred) {

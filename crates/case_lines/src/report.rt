@@ -12,35 +12,37 @@ use std::alloc::{AllocError, Global};
 /// The longest list of cases, in bytes.
 const MOST_BYTES: usize = 4_194_304;
 
-/// The calls that a program of cases knows, by areas.
-pub trait Areas {
-    /// Appends the answer of a call to its arguments, or tells that no area has the call.
-    fn answer(alloc: Global, call: &[u8], args: &[Txt], out: &mut Txt) -> Result<bool, AllocError>;
-}
-
-/// Writes a report on the cases that it reads: each line that is answered otherwise than it says, with
-/// what came, and last `N cases, M differ`.
-pub fn run_cases<A: Areas, I: Source, O: Sink>(
-    alloc: Global,
-    source: &mut I,
-    sink: &mut O,
-) -> Status
+/// Writes a report on the cases that it reads: each line that is answered otherwise than it says, with what came, and
+/// last `N cases, M differ`. The function given appends the answer of a call to its arguments, or tells that the program
+/// has no such call.
+pub fn run_cases<
+    F: Fn(Global, &[u8], &[Txt], &mut Txt) -> Result<bool, AllocError>,
+    I: Source,
+    O: Sink,
+>(answer: &F, alloc: Global, source: &mut I, sink: &mut O) -> Status
+    requires callable { F.IsAlwaysCallable answer.now }
     ensures not_written { RisesOnlyWhere (result ≡ NotWritten) (O.faults sink.old) (O.faults sink.new) }
     ensures not_read { RisesOnlyWhere (result ≡ NotRead) (I.faults source.old) (I.faults source.new) }
 {
     match read_all(alloc, source, MOST_BYTES) {
-        Ok(input) => tell_report::<A, O>(alloc, input.as_bytes(), sink),
+        Ok(input) => tell_report(answer, alloc, input.as_bytes(), sink),
         Err(ReadFault::Failed) => Status::NotRead,
         Err(ReadFault::Memory) => Status::Memory,
     }
 }
 
 // Writes the report on this input.
-fn tell_report<A: Areas, O: Sink>(alloc: Global, input: &[u8], sink: &mut O) -> Status
+fn tell_report<F: Fn(Global, &[u8], &[Txt], &mut Txt) -> Result<bool, AllocError>, O: Sink>(
+    answer: &F,
+    alloc: Global,
+    input: &[u8],
+    sink: &mut O,
+) -> Status
+    requires callable { F.IsAlwaysCallable answer.now }
     ensures not_written { RisesOnlyWhere (result ≡ NotWritten) (O.faults sink.old) (O.faults sink.new) }
     ensures read { result ≢ NotRead }
 {
-    match report_on::<A>(alloc, input) {
+    match report_on(answer, alloc, input) {
         Ok(report) => match write_all(sink, report.as_bytes()) {
             Ok(()) => Status::Done,
             Err(_) => Status::NotWritten,
@@ -50,9 +52,15 @@ fn tell_report<A: Areas, O: Sink>(alloc: Global, input: &[u8], sink: &mut O) -> 
 }
 
 // Each line whose answer differs, with what came, and last `N cases, M differ`.
-fn report_on<A: Areas>(alloc: Global, input: &[u8]) -> Result<Txt, AllocError> {
+fn report_on<F: Fn(Global, &[u8], &[Txt], &mut Txt) -> Result<bool, AllocError>>(
+    answer: &F,
+    alloc: Global,
+    input: &[u8],
+) -> Result<Txt, AllocError>
+    requires callable { F.IsAlwaysCallable answer.now }
+{
     let mut report = Txt::new(alloc);
-    match put_report::<A>(alloc, input, &mut report) {
+    match put_report(answer, alloc, input, &mut report) {
         Ok(()) => Ok(report),
         Err(refused) => {
             drop(report);
@@ -61,23 +69,37 @@ fn report_on<A: Areas>(alloc: Global, input: &[u8]) -> Result<Txt, AllocError> {
     }
 }
 
-fn put_report<A: Areas>(alloc: Global, input: &[u8], report: &mut Txt) -> Result<(), AllocError> {
+fn put_report<F: Fn(Global, &[u8], &[Txt], &mut Txt) -> Result<bool, AllocError>>(
+    answer: &F,
+    alloc: Global,
+    input: &[u8],
+    report: &mut Txt,
+) -> Result<(), AllocError>
+    requires callable { F.IsAlwaysCallable answer.now }
+{
     if input.len() > MOST_BYTES {
         report.extend(b"there are more cases than are read\n")?;
     }
     match str::from_utf8(input) {
-        Ok(text) => put_lines::<A>(alloc, text, report),
+        Ok(text) => put_lines(answer, alloc, text, report),
         Err(_) => report.extend(b"the cases are not UTF-8\n0 cases, 0 differ\n"),
     }
 }
 
-fn put_lines<A: Areas>(alloc: Global, text: &str, report: &mut Txt) -> Result<(), AllocError> {
+fn put_lines<F: Fn(Global, &[u8], &[Txt], &mut Txt) -> Result<bool, AllocError>>(
+    answer: &F,
+    alloc: Global,
+    text: &str,
+    report: &mut Txt,
+) -> Result<(), AllocError>
+    requires callable { F.IsAlwaysCallable answer.now }
+{
     let mut cases: u64 = 0;
     let mut differ: u64 = 0;
     for line in text.lines() {
         if !line.is_empty() && !line.starts_with('#') {
             cases = cases.saturating_add(1);
-            if !agrees::<A>(alloc, line, report)? {
+            if !agrees(answer, alloc, line, report)? {
                 differ = differ.saturating_add(1);
             }
         }
@@ -89,20 +111,30 @@ fn put_lines<A: Areas>(alloc: Global, text: &str, report: &mut Txt) -> Result<()
 }
 
 // Whether a case is answered as it says. One that is not is told, with what came.
-fn agrees<A: Areas>(alloc: Global, line: &str, report: &mut Txt) -> Result<bool, AllocError> {
+fn agrees<F: Fn(Global, &[u8], &[Txt], &mut Txt) -> Result<bool, AllocError>>(
+    answer: &F,
+    alloc: Global,
+    line: &str,
+    report: &mut Txt,
+) -> Result<bool, AllocError>
+    requires callable { F.IsAlwaysCallable answer.now }
+{
     let mut came = Txt::new(alloc);
-    let told = try_case::<A>(alloc, line, &mut came, report);
+    let told = try_case(answer, alloc, line, &mut came, report);
     drop(came);
     told
 }
 
-fn try_case<A: Areas>(
+fn try_case<F: Fn(Global, &[u8], &[Txt], &mut Txt) -> Result<bool, AllocError>>(
+    answer: &F,
     alloc: Global,
     line: &str,
     came: &mut Txt,
     report: &mut Txt,
-) -> Result<bool, AllocError> {
-    if answer_to::<A>(alloc, line, came)? {
+) -> Result<bool, AllocError>
+    requires callable { F.IsAlwaysCallable answer.now }
+{
+    if answer_to(answer, alloc, line, came)? {
         return Ok(true);
     }
     report.extend(line.as_bytes())?;
@@ -113,34 +145,52 @@ fn try_case<A: Areas>(
 }
 
 // What a case was answered, and whether that is what it says.
-fn answer_to<A: Areas>(alloc: Global, line: &str, came: &mut Txt) -> Result<bool, AllocError> {
+fn answer_to<F: Fn(Global, &[u8], &[Txt], &mut Txt) -> Result<bool, AllocError>>(
+    answer: &F,
+    alloc: Global,
+    line: &str,
+    came: &mut Txt,
+) -> Result<bool, AllocError>
+    requires callable { F.IsAlwaysCallable answer.now }
+{
     let Some((asked, wanted)) = line.rsplit_once(" => ") else {
         return tell(b"no answer is given", came);
     };
     let mut fields = List::new(alloc);
     let mut expected = Txt::new(alloc);
-    let told = compare::<A>(alloc, asked, wanted, &mut fields, &mut expected, came);
+    let told = compare(
+        answer,
+        alloc,
+        asked,
+        wanted,
+        &mut fields,
+        &mut expected,
+        came,
+    );
     drop(fields);
     drop(expected);
     told
 }
 
 // Asks for the call of these fields, and compares what comes with what is wanted.
-fn compare<A: Areas>(
+fn compare<F: Fn(Global, &[u8], &[Txt], &mut Txt) -> Result<bool, AllocError>>(
+    answer: &F,
     alloc: Global,
     asked: &str,
     wanted: &str,
     fields: &mut List<Txt>,
     expected: &mut Txt,
     came: &mut Txt,
-) -> Result<bool, AllocError> {
+) -> Result<bool, AllocError>
+    requires callable { F.IsAlwaysCallable answer.now }
+{
     if !expand(wanted, expected)? {
         return tell(b"the answer is not in the notation", came);
     }
     if !put_fields(alloc, asked, fields)? {
         return tell(b"a field is not in the notation", came);
     }
-    if !ask::<A>(alloc, fields.as_slice(), came)? {
+    if !ask(answer, alloc, fields.as_slice(), came)? {
         return tell(b"no such call", came);
     }
     Ok(came.as_bytes() == expected.as_bytes())
@@ -175,9 +225,16 @@ fn put_field(alloc: Global, field: &str, fields: &mut List<Txt>) -> Result<bool,
 }
 
 // The first field is the call.
-fn ask<A: Areas>(alloc: Global, all: &[Txt], out: &mut Txt) -> Result<bool, AllocError> {
+fn ask<F: Fn(Global, &[u8], &[Txt], &mut Txt) -> Result<bool, AllocError>>(
+    answer: &F,
+    alloc: Global,
+    all: &[Txt],
+    out: &mut Txt,
+) -> Result<bool, AllocError>
+    requires callable { F.IsAlwaysCallable answer.now }
+{
     match all {
-        [call, args @ ..] => A::answer(alloc, call.as_bytes(), args, out),
+        [call, args @ ..] => answer(alloc, call.as_bytes(), args, out),
         [] => Ok(false),
     }
 }

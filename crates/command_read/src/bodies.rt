@@ -6,9 +6,10 @@ ghost use Rattle.exact_json.specs.Docs.{doc_tree};
 
 use crate::fault::CommandFault;
 use crate::refusals::{campaign_refusal, json_refusal, refuse, request_refusal};
+use bumpalo::Bump;
 use campaign::Facts;
 use campaign_read::read_campaign;
-use exact_json::{Doc, read};
+use exact_json::{Doc, read, room_for};
 use plain_exchange::Command;
 use rtb_read::read_request;
 use std::alloc::Global;
@@ -18,13 +19,22 @@ use target_expr::Expr;
 pub(crate) fn request_command(alloc: Global, body: &[u8]) -> Result<Command, CommandFault>
     ensures { UnlessMemory (IsOfBody request_command body.now) result }
 {
-    match read(alloc, body) {
+    let arena = Bump::try_with_capacity(alloc, room_for(body.len()))?;
+    let command = request_text(alloc, &arena, body);
+    drop(arena);
+    command
+}
+
+fn request_text(alloc: Global, arena: &Bump, body: &[u8]) -> Result<Command, CommandFault>
+    ensures { UnlessMemory (IsOfBody request_command body.now) result }
+{
+    match read(alloc, arena, body) {
         Ok(doc) => request_in(alloc, &doc),
         Err(fault) => refuse(json_refusal(alloc, fault)),
     }
 }
 
-fn request_in(alloc: Global, doc: &Doc) -> Result<Command, CommandFault>
+fn request_in(alloc: Global, doc: &Doc<'_>) -> Result<Command, CommandFault>
     ensures { UnlessMemory (λ found. found ≡ request_command (doc_tree doc.now)) result }
 {
     match read_request(alloc, doc) {
@@ -42,13 +52,27 @@ pub(crate) fn campaign_command(
 ) -> Result<Command, CommandFault>
     ensures { UnlessMemory (IsOfBody (campaign_command (add_or_change changed)) body.now) result }
 {
-    match read(alloc, body) {
+    let arena = Bump::try_with_capacity(alloc, room_for(body.len()))?;
+    let command = campaign_text(alloc, &arena, changed, body);
+    drop(arena);
+    command
+}
+
+fn campaign_text(
+    alloc: Global,
+    arena: &Bump,
+    changed: Option<u64>,
+    body: &[u8],
+) -> Result<Command, CommandFault>
+    ensures { UnlessMemory (IsOfBody (campaign_command (add_or_change changed)) body.now) result }
+{
+    match read(alloc, arena, body) {
         Ok(doc) => campaign_in(alloc, changed, &doc),
         Err(fault) => refuse(json_refusal(alloc, fault)),
     }
 }
 
-fn campaign_in(alloc: Global, changed: Option<u64>, doc: &Doc) -> Result<Command, CommandFault>
+fn campaign_in(alloc: Global, changed: Option<u64>, doc: &Doc<'_>) -> Result<Command, CommandFault>
     ensures { UnlessMemory (λ found. found ≡ campaign_command (add_or_change changed) (doc_tree doc.now)) result }
 {
     match read_campaign(alloc, doc) {

@@ -10,7 +10,7 @@ mod errands;
 mod journals;
 mod opened;
 
-use case_lines::{Areas, run_cases};
+use case_lines::run_cases;
 use rtb_num::{StdSink, StdSource, Txt};
 use std::alloc::{AllocError, Global};
 use std::io;
@@ -20,20 +20,16 @@ use std::process::ExitCode;
 fn main(rt: HostRuntime) -> ExitCode {
     let mut source = StdSource::new(rt.reader());
     let mut sink = StdSink::new(io::writer(&rt));
-    ExitCode::from(run_cases::<Storage, _, _>(rt.alloc(), &mut source, &mut sink).code())
+    ExitCode::from(run_cases(&answer, rt.alloc(), &mut source, &mut sink).code())
 }
 
 // The areas of the disk and the journal.
-struct Storage;
-
-impl Areas for Storage {
-    fn answer(alloc: Global, call: &[u8], args: &[Txt], out: &mut Txt) -> Result<bool, AllocError> {
-        if disks::answer(alloc, call, args, out)? {
-            return Ok(true);
-        }
-        if journals::answer(alloc, call, args, out)? {
-            return Ok(true);
-        }
-        crashes::answer(alloc, call, args, out)
+fn answer(alloc: Global, call: &[u8], args: &[Txt], out: &mut Txt) -> Result<bool, AllocError> {
+    if disks::answer(alloc, call, args, out)? {
+        return Ok(true);
     }
+    if journals::answer(alloc, call, args, out)? {
+        return Ok(true);
+    }
+    crashes::answer(alloc, call, args, out)
 }

@@ -18,3 +18,6 @@ pub mod Begins
 pub mod Known
 pub mod OneFault
 pub mod PlaceLaws
+pub mod OneMore
+pub mod Picked
+pub mod Runs

@@ -1,14 +1,51 @@
-ghost use Rattle.std.specs.Prelude.{◌≡◌, ◌<◌, ◌≤◌, ◌∷◌, false, length, option_map, IfOk};
+ghost use Rattle.std.specs.Prelude.{◌≡◌, ◌<◌, ◌≤◌, ◌∷◌, false, ◌+◌, length, drop, option_map, IfOk};
 ghost use Rattle.exact_json.specs.Gives.{Leaves};
-ghost use Rattle.exact_json.specs.Reading.{char_at, one_at, ones_at, skip_plain, tails_of};
+ghost use Rattle.exact_json.specs.Reading.{before, char_at, one_at, ones_at, skip_plain, tails_of};
 ghost use Rattle.exact_json.specs.Strings.{followers, in_range, is_plain};
 
+use crate::lanes::plain_front;
 use crate::stop::Stop;
 
-// What stands behind plain characters.
+// The bytes before the rest, which is an end of them.
+#[inline(always)]
+pub(crate) fn text_before<'a>(bytes: &'a [u8], rest: &[u8]) -> &'a [u8]
+    requires { length rest.now ≤ length bytes.now }
+    ensures { result.now ≡ before rest.now bytes.now }
+{
+    &bytes[..bytes.len() - rest.len()]
+}
+
+// What stands behind plain characters, which are passed 16 at a time while there are as many bytes.
+#[inline(always)]
+pub(crate) fn skip_plain(bytes: &[u8]) -> &[u8]
+    ensures value { result.now ≡ skip_plain bytes.now }
+    ensures shorter { length result.now ≤ length bytes.now }
+{
+    let mut left = bytes;
+    while left.len() >= 16 {
+        let count = plain_front(left);
+        if count < 16 {
+            return behind(left, count);
+        }
+        left = behind(left, 16);
+    }
+    skip_by_one(left)
+}
+
+// What stands behind so many bytes.
+#[inline(always)]
+fn behind(bytes: &[u8], count: usize) -> &[u8]
+    requires { count ≤ length bytes.now }
+    ensures value { result.now ≡ drop count bytes.now }
+    ensures len { length result.now + count ≡ length bytes.now }
+{
+    &bytes[count..]
+}
+
+// What stands behind plain characters, which are passed one by one.
 #[inline(always)]
 #[tactic(auto, unfolding(crate::specs::Reading::skip_plain))]
-pub(crate) fn skip_plain(bytes: &[u8]) -> &[u8]
+fn skip_by_one(bytes: &[u8]) -> &[u8]
     ensures value { result.now ≡ skip_plain bytes.now }
     ensures shorter { length result.now ≤ length bytes.now }
 {

@@ -1,73 +1,90 @@
-ghost use Rattle.std.specs.Prelude.{◌≡◌, ◌<◌, ◌≤◌, ◌++◌, ◌⊎◌, [], ◌∷◌, length, map, IfOk};
+ghost use Rattle.std.specs.Prelude.{◌≡◌, ◌≤◌, ◌++◌, ◌∷◌, length, map, take, drop, IfOk};
 ghost use Rattle.exact_json.specs.Gives.{Gives, Leaves, Reads};
 ghost use Rattle.exact_json.specs.Reading.{byte_then, end_of, entries_at, flat_at, is_space, mapped, member_at, more_at, quoted_at, skip, text_at, value_at, word_at, word_value_at};
 ghost use Rattle.exact_json.specs.Reading as reading;
-ghost use Rattle.exact_json.specs.View.{tree_of};
+ghost use Rattle.exact_json.specs.View.{pair_of, tree_of};
+ghost use Rattle.exact_json.specs.Held.{held};
 
+use crate::character::text_before;
 use crate::number::{is_digit, number_end};
+use crate::stacks::Stacks;
 use crate::stop::Stop;
 use crate::string::string_of;
-use crate::value::{Items, Members, Value};
-use rtb_num::Txt;
-use std::alloc::{AllocError, Global};
+use crate::value::{Member, Value};
+use bumpalo::Bump;
+use std::alloc::Global;
 
 // The value of a whole text that nests at most so deep.
 #[tactic(auto, unfolding(crate::specs::Reading::text_at))]
-pub(crate) fn text_of(alloc: Global, bytes: &[u8], depth: usize) -> Result<Value, Stop>
+pub(crate) fn text_of<'a>(
+    alloc: Global,
+    arena: &'a Bump,
+    bytes: &'a [u8],
+    depth: usize,
+) -> Result<Value<'a>, Stop>
     ensures { Reads result (text_at depth bytes.now) }
 {
-    let (value, rest) = value_of(alloc, skip_spaces(bytes), depth)?;
+    let mut stacks = Stacks::new(alloc, arena)?;
+    let read = value_of(&mut stacks, skip_spaces(bytes), depth);
+    drop(stacks);
+    let (value, rest) = read?;
     at_end(value, skip_spaces(rest))
 }
 
 // The value, where nothing stands behind it.
-fn at_end(value: Value, rest: &[u8]) -> Result<Value, Stop>
-    ensures { Reads result (end_of (tree_of value) rest.now) }
+fn at_end<'a>(value: Value<'a>, rest: &[u8]) -> Result<Value<'a>, Stop>
+    ensures { Reads result (end_of (tree_of value.entry) rest.now) }
 {
     if !rest.is_empty() {
-        drop(value);
         return Err(Stop::At(rest.len()));
     }
     Ok(value)
 }
 
+// The value at the front, and what stands behind it. The stacks are then as they were.
+#[inline(always)]
 #[cycle(reading)]
 #[tactic(auto, unfolding(crate::specs::Reading::value_at))]
-fn value_of(alloc: Global, bytes: &[u8], depth: usize) -> Result<(Value, &[u8]), Stop>
-    ensures { Gives tree_of result (value_at depth bytes.now) }
+fn value_of<'a>(
+    stacks: &mut Stacks<'a>,
+    bytes: &'a [u8],
+    depth: usize,
+) -> Result<(Value<'a>, &'a [u8]), Stop>
+    ensures gives { Gives tree_of result (value_at depth bytes.now) }
+    ensures held { IfOk result (λ _. held stacks.new ≡ held stacks.old) }
 {
     if depth == 0 {
-        return scalar_of(alloc, bytes);
+        return scalar_of(stacks, bytes);
     }
     let Some((first, rest)) = bytes.split_first() else {
         return Err(Stop::Short);
     };
     if *first == b'[' {
-        let (items, rest) = items_of(alloc, skip_spaces(rest), depth - 1)?;
+        let (items, rest) = items_of(stacks, skip_spaces(rest), depth - 1)?;
         return Ok((Value::Arr(items), rest));
     }
     if *first == b'{' {
-        let (members, rest) = members_of(alloc, skip_spaces(rest), depth - 1)?;
+        let (members, rest) = members_of(stacks, skip_spaces(rest), depth - 1)?;
         return Ok((Value::Obj(members), rest));
     }
-    scalar_of(alloc, bytes)
+    scalar_of(stacks, bytes)
 }
 
 // A value that is neither an array nor an object.
 #[inline(always)]
 #[tactic(auto, unfolding(crate::specs::Reading::scalar_at))]
-fn scalar_of(alloc: Global, bytes: &[u8]) -> Result<(Value, &[u8]), Stop>
+fn scalar_of<'a>(stacks: &Stacks<'a>, bytes: &'a [u8]) -> Result<(Value<'a>, &'a [u8]), Stop>
     ensures { Gives tree_of result (flat_at bytes.now) }
 {
     let Some((first, rest)) = bytes.split_first() else {
         return Err(Stop::Short);
     };
     if *first == b'"' {
-        let (text, rest) = string_of(alloc, rest)?;
+        let (text, rest) = string_of(stacks.alloc, stacks.arena, rest)?;
         return Ok((Value::Str(text), rest));
     }
     if *first == b'-' || is_digit(*first) {
-        let (text, rest) = number_of(alloc, bytes)?;
+        let (text, rest) = number_of(bytes)?;
         return Ok((Value::Num(text), rest));
     }
     word_value(*first, rest, bytes.len())
@@ -75,7 +92,7 @@ fn scalar_of(alloc: Global, bytes: &[u8]) -> Result<(Value, &[u8]), Stop>
 
 // A value that is a word with this first byte, where so many bytes are left with it.
 #[inline(always)]
-fn word_value(first: u8, rest: &[u8], left: usize) -> Result<(Value, &[u8]), Stop>
+fn word_value<'a>(first: u8, rest: &'a [u8], left: usize) -> Result<(Value<'a>, &'a [u8]), Stop>
     requires { left ≡ length (first ∷ rest.now) }
     ensures { Gives tree_of result (word_value_at first rest.now) }
 {
@@ -94,20 +111,12 @@ fn word_value(first: u8, rest: &[u8], left: usize) -> Result<(Value, &[u8]), Sto
     Err(Stop::At(left))
 }
 
-fn number_of(alloc: Global, bytes: &[u8]) -> Result<(Txt, &[u8]), Stop>
-    ensures { Gives (λ text. text) result (reading.number_at bytes.now) }
+#[inline(always)]
+fn number_of(bytes: &[u8]) -> Result<(&[u8], &[u8]), Stop>
+    ensures { Gives (λ text. text.now) result (reading.number_at bytes.now) }
 {
     let rest = number_end(bytes)?;
-    let text = text_before(alloc, bytes, rest)?;
-    Ok((text, rest))
-}
-
-// The bytes before the rest, which is an end of them.
-fn text_before(alloc: Global, bytes: &[u8], rest: &[u8]) -> Result<Txt, AllocError>
-    requires { length rest.now ≤ length bytes.now }
-    ensures { IfOk result (λ text. text ≡ reading.before rest.now bytes.now) }
-{
-    Txt::from_front(alloc, bytes, bytes.len() - rest.len())
+    Ok((text_before(bytes, rest), rest))
 }
 
 // What stands behind this word.
@@ -127,25 +136,28 @@ fn after_word<'a>(bytes: &'a [u8], word: &[u8]) -> Result<&'a [u8], Stop>
     Ok(left)
 }
 
-const FIRST_ITEMS: usize = 2;
-
 // The items of an array and its closing bracket.
 #[inline(never)]
 #[cycle(reading)]
 #[tactic(auto, unfolding(crate::specs::Reading::entries_at))]
-fn items_of(alloc: Global, bytes: &[u8], depth: usize) -> Result<(Items, &[u8]), Stop>
-    ensures { Gives (λ items. map tree_of items.values.items) result (entries_at (value_at depth) 93 bytes.now) }
+fn items_of<'a>(
+    stacks: &mut Stacks<'a>,
+    bytes: &'a [u8],
+    depth: usize,
+) -> Result<(&'a [Value<'a>], &'a [u8]), Stop>
+    ensures gives { Gives (λ items. map tree_of items.now) result (entries_at (value_at depth) 93 bytes.now) }
+    ensures held { IfOk result (λ _. held stacks.new ≡ held stacks.old) }
 {
     let Some((first, rest)) = bytes.split_first() else {
         return Err(Stop::Short);
     };
     if *first == b']' {
-        return Ok((Items::from_vec(Vec::new(alloc)), rest));
+        return Ok((&[], rest));
     }
-    let (value, rest) = value_of(alloc, bytes, depth)?;
-    let rest = skip_spaces(rest);
-    let values = begun(alloc, value, first_room(rest, b']', FIRST_ITEMS))?;
-    more_items_of(alloc, values, rest, depth)
+    let base = stacks.value_count();
+    let (value, rest) = value_of(stacks, bytes, depth)?;
+    stacks.push_value(value)?;
+    more_items_of(stacks, base, skip_spaces(rest), depth)
 }
 
 // What stands behind white space.
@@ -173,36 +185,17 @@ fn is_space(byte: u8) -> bool
     matches!(byte, b' ' | b'\t' | b'\n' | b'\r')
 }
 
-// The room to begin with behind a first entry: one where the closing byte follows.
-#[inline(always)]
-fn first_room(left: &[u8], close: u8, usual: usize) -> usize
-    ensures { (result ≡ 1) ⊎ (result ≡ usual) }
-{
-    match left.first() {
-        Some(next) if *next == close => 1,
-        _ => usual,
-    }
-}
-
-// A list of this item, with room for so many.
-#[inline(always)]
-fn begun<T: Drop>(alloc: Global, first: T, room: usize) -> Result<Vec<T>, AllocError>
-    ensures { IfOk result (λ list. list.items ≡ first ∷ []) }
-{
-    let mut list = Vec::with_capacity(alloc, room)?;
-    list.push(first)?;
-    Ok(list)
-}
-
-// What follows the first items.
+// What follows the first items, which stand on the stack from that place on.
 #[cycle(reading)]
-fn more_items_of(
-    alloc: Global,
-    mut values: Vec<Value>,
-    bytes: &[u8],
+fn more_items_of<'a>(
+    stacks: &mut Stacks<'a>,
+    base: usize,
+    bytes: &'a [u8],
     depth: usize,
-) -> Result<(Items, &[u8]), Stop>
-    ensures { Gives (λ items. map tree_of items.values.items) result (mapped (λ ts. map tree_of values.items ++ ts) (more_at (value_at depth) 93 (length bytes.now) bytes.now)) }
+) -> Result<(&'a [Value<'a>], &'a [u8]), Stop>
+    requires { base ≤ length (held stacks.old).0 }
+    ensures gives { Gives (λ items. map tree_of items.now) result (mapped (λ ts. map tree_of (drop base (held stacks.old).0) ++ ts) (more_at (value_at depth) 93 (length bytes.now) bytes.now)) }
+    ensures held { IfOk result (λ _. held stacks.new ≡ (take base (held stacks.old).0, (held stacks.old).1)) }
 {
     let mut left = bytes;
     loop {
@@ -210,55 +203,62 @@ fn more_items_of(
             return Err(Stop::Short);
         };
         if *first == b']' {
-            return Ok((Items::from_vec(values), rest));
+            let items = stacks.keep_values(base)?;
+            return Ok((items, rest));
         }
         if *first != b',' {
             return Err(Stop::At(left.len()));
         }
-        let (value, rest) = value_of(alloc, skip_spaces(rest), depth)?;
-        values.push(value)?;
+        let (value, rest) = value_of(stacks, skip_spaces(rest), depth)?;
+        stacks.push_value(value)?;
         left = skip_spaces(rest);
     }
 }
-
-// How many members an object with more than one has room for before it grows, and how many values an
-// array: most objects of a bid request have two to six members, and most arrays one or two values.
-const FIRST_MEMBERS: usize = 6;
 
 // The members of an object and its closing brace.
 #[inline(never)]
 #[cycle(reading)]
 #[tactic(auto, unfolding(crate::specs::Reading::entries_at))]
-fn members_of(alloc: Global, bytes: &[u8], depth: usize) -> Result<(Members, &[u8]), Stop>
-    ensures { Gives (λ members. map (λ p. (p.0, tree_of p.1)) members.pairs.items) result (entries_at (member_at (value_at depth)) 125 bytes.now) }
+fn members_of<'a>(
+    stacks: &mut Stacks<'a>,
+    bytes: &'a [u8],
+    depth: usize,
+) -> Result<(&'a [Member<'a>], &'a [u8]), Stop>
+    ensures gives { Gives (λ members. map pair_of members.now) result (entries_at (member_at (value_at depth)) 125 bytes.now) }
+    ensures held { IfOk result (λ _. held stacks.new ≡ held stacks.old) }
 {
     let Some((first, rest)) = bytes.split_first() else {
         return Err(Stop::Short);
     };
     if *first == b'}' {
-        return Ok((Members::from_vec(Vec::new(alloc)), rest));
+        return Ok((&[], rest));
     }
-    let (pair, rest) = member_of(alloc, bytes, depth)?;
-    let rest = skip_spaces(rest);
-    let pairs = begun(alloc, pair, first_room(rest, b'}', FIRST_MEMBERS))?;
-    more_members_of(alloc, pairs, rest, depth)
+    let base = stacks.member_count();
+    let (member, rest) = member_of(stacks, bytes, depth)?;
+    stacks.push_member(member)?;
+    more_members_of(stacks, base, skip_spaces(rest), depth)
 }
 
 #[inline(always)]
 #[cycle(reading)]
 #[tactic(auto, unfolding(crate::specs::Reading::member_at))]
-fn member_of(alloc: Global, bytes: &[u8], depth: usize) -> Result<((Txt, Value), &[u8]), Stop>
-    ensures { Gives (λ member. (member.0, tree_of member.1)) result (member_at (value_at depth) bytes.now) }
+fn member_of<'a>(
+    stacks: &mut Stacks<'a>,
+    bytes: &'a [u8],
+    depth: usize,
+) -> Result<(Member<'a>, &'a [u8]), Stop>
+    ensures gives { Gives pair_of result (member_at (value_at depth) bytes.now) }
+    ensures held { IfOk result (λ _. held stacks.new ≡ held stacks.old) }
 {
-    let (name, rest) = name_of(alloc, bytes)?;
-    let (value, rest) = value_after_colon(alloc, skip_spaces(rest), depth)?;
-    Ok(((name, value), rest))
+    let (name, rest) = name_of(stacks, bytes)?;
+    let (value, rest) = value_after_colon(stacks, skip_spaces(rest), depth)?;
+    Ok((Member { name, value }, rest))
 }
 
 // The name of a member.
 #[inline(always)]
-fn name_of(alloc: Global, bytes: &[u8]) -> Result<(Txt, &[u8]), Stop>
-    ensures { Gives (λ text. text) result (byte_then 34 quoted_at bytes.now) }
+fn name_of<'a>(stacks: &Stacks<'a>, bytes: &'a [u8]) -> Result<(&'a [u8], &'a [u8]), Stop>
+    ensures { Gives (λ text. text.now) result (byte_then 34 quoted_at bytes.now) }
 {
     let Some((first, rest)) = bytes.split_first() else {
         return Err(Stop::Short);
@@ -266,14 +266,19 @@ fn name_of(alloc: Global, bytes: &[u8]) -> Result<(Txt, &[u8]), Stop>
     if *first != b'"' {
         return Err(Stop::At(bytes.len()));
     }
-    string_of(alloc, rest)
+    string_of(stacks.alloc, stacks.arena, rest)
 }
 
 // A colon and the value of a member.
 #[inline(always)]
 #[cycle(reading)]
-fn value_after_colon(alloc: Global, bytes: &[u8], depth: usize) -> Result<(Value, &[u8]), Stop>
-    ensures { Gives tree_of result (byte_then 58 (λ after. value_at depth (skip after)) bytes.now) }
+fn value_after_colon<'a>(
+    stacks: &mut Stacks<'a>,
+    bytes: &'a [u8],
+    depth: usize,
+) -> Result<(Value<'a>, &'a [u8]), Stop>
+    ensures gives { Gives tree_of result (byte_then 58 (λ after. value_at depth (skip after)) bytes.now) }
+    ensures held { IfOk result (λ _. held stacks.new ≡ held stacks.old) }
 {
     let Some((first, rest)) = bytes.split_first() else {
         return Err(Stop::Short);
@@ -281,18 +286,20 @@ fn value_after_colon(alloc: Global, bytes: &[u8], depth: usize) -> Result<(Value
     if *first != b':' {
         return Err(Stop::At(bytes.len()));
     }
-    value_of(alloc, skip_spaces(rest), depth)
+    value_of(stacks, skip_spaces(rest), depth)
 }
 
-// What follows the first members.
+// What follows the first members, which stand on the stack from that place on.
 #[cycle(reading)]
-fn more_members_of(
-    alloc: Global,
-    mut pairs: Vec<(Txt, Value)>,
-    bytes: &[u8],
+fn more_members_of<'a>(
+    stacks: &mut Stacks<'a>,
+    base: usize,
+    bytes: &'a [u8],
     depth: usize,
-) -> Result<(Members, &[u8]), Stop>
-    ensures { Gives (λ members. map (λ p. (p.0, tree_of p.1)) members.pairs.items) result (mapped (λ ps. map (λ p. (p.0, tree_of p.1)) pairs.items ++ ps) (more_at (member_at (value_at depth)) 125 (length bytes.now) bytes.now)) }
+) -> Result<(&'a [Member<'a>], &'a [u8]), Stop>
+    requires { base ≤ length (held stacks.old).1 }
+    ensures gives { Gives (λ members. map pair_of members.now) result (mapped (λ ps. map pair_of (drop base (held stacks.old).1) ++ ps) (more_at (member_at (value_at depth)) 125 (length bytes.now) bytes.now)) }
+    ensures held { IfOk result (λ _. held stacks.new ≡ ((held stacks.old).0, take base (held stacks.old).1)) }
 {
     let mut left = bytes;
     loop {
@@ -300,13 +307,14 @@ fn more_members_of(
             return Err(Stop::Short);
         };
         if *first == b'}' {
-            return Ok((Members::from_vec(pairs), rest));
+            let members = stacks.keep_members(base)?;
+            return Ok((members, rest));
         }
         if *first != b',' {
             return Err(Stop::At(left.len()));
         }
-        let (pair, rest) = member_of(alloc, skip_spaces(rest), depth)?;
-        pairs.push(pair)?;
+        let (member, rest) = member_of(stacks, skip_spaces(rest), depth)?;
+        stacks.push_member(member)?;
         left = skip_spaces(rest);
     }
 }

@@ -4,8 +4,9 @@ ghost use Rattle.exact_json.specs.Escapes.{piece_view};
 ghost use Rattle.exact_json.specs.Reading.{EndsRun, after_run, body_at, escape_at, hex_at, is_special, mapped, quoted_at, unit_at};
 ghost use Rattle.exact_json.specs.Strings.{Piece, alone, escape_value, hex_digit, is_escape, is_hex, is_high, is_low, code_point, text_behind, unit_text, utf8};
 
-use crate::character::{character_end, skip_plain};
+use crate::character::{character_end, skip_plain, text_before};
 use crate::stop::Stop;
+use bumpalo::Bump;
 use rtb_num::Txt;
 use std::alloc::{AllocError, Global};
 
@@ -16,34 +17,49 @@ enum Escape {
     Unit(u16),
 }
 
-// The text of a string, behind its opening quotation mark. Where it has plain characters alone, it is
-// gone over once and copied once.
+// The text of a string, behind its opening quotation mark. Where no escape stands in it, it lies in the bytes.
 #[inline(always)]
-pub(crate) fn string_of(alloc: Global, bytes: &[u8]) -> Result<(Txt, &[u8]), Stop>
-    ensures gives { Gives (λ t. t) result (quoted_at bytes.now) }
+pub(crate) fn string_of<'a>(
+    alloc: Global,
+    arena: &'a Bump,
+    bytes: &'a [u8],
+) -> Result<(&'a [u8], &'a [u8]), Stop>
+    ensures gives { Gives (λ t. t.now) result (quoted_at bytes.now) }
     ensures shorter { IfOk result (λ p. length p.1.now ≤ length bytes.now) }
 {
     let rest = skip_plain(bytes);
     let Some((first, after)) = rest.split_first() else {
-        return unescape(Txt::new(alloc), bytes);
+        return unescaped(alloc, arena, bytes);
     };
     if *first != b'"' {
-        return unescape(Txt::new(alloc), bytes);
+        return unescaped(alloc, arena, bytes);
     }
-    let text = Txt::from_front(alloc, bytes, bytes.len() - rest.len())?;
-    Ok((text, after))
+    Ok((text_before(bytes, rest), after))
 }
 
-// The text so far and that of the pieces up to the quotation mark.
+// The text of any string, put together and copied into the arena.
 #[inline(never)]
-fn unescape(mut text: Txt, bytes: &[u8]) -> Result<(Txt, &[u8]), Stop>
-    ensures gives { Gives (λ t. t) result (mapped (λ t. text ++ t) (quoted_at bytes.now)) }
+fn unescaped<'a>(
+    alloc: Global,
+    arena: &'a Bump,
+    bytes: &'a [u8],
+) -> Result<(&'a [u8], &'a [u8]), Stop>
+    ensures gives { Gives (λ t. t.now) result (quoted_at bytes.now) }
     ensures shorter { IfOk result (λ p. length p.1.now ≤ length bytes.now) }
 {
-    match append_pieces(&mut text, bytes) {
-        Ok(rest) => Ok((text, rest)),
-        Err(stop) => Err(stop),
-    }
+    let mut text = Txt::new(alloc);
+    let read = append_pieces(&mut text, bytes);
+    let kept = copied(arena, text.as_bytes());
+    drop(text);
+    let rest = read?;
+    Ok((kept?, rest))
+}
+
+// The bytes, in the arena.
+fn copied<'a>(arena: &'a Bump, bytes: &[u8]) -> Result<&'a [u8], AllocError>
+    ensures { IfOk result (λ t. t.now ≡ bytes.now) }
+{
+    Ok(arena.try_alloc_slice_copy(bytes)?)
 }
 
 // Appends the text of the pieces up to the quotation mark. It gives what stands behind.

@@ -1,92 +1,69 @@
-ghost use Rattle.std.specs.Prelude.{◌≡◌, true, map, option_map, IfSome};
-ghost use Rattle.std.specs.List.{All};
-ghost use Rattle.exact_json.specs.Forms.{HasForms, all_formed, members_formed};
-ghost use Rattle.exact_json.specs.Tree.{get as get_in, get_pair, list_of, members_of};
-ghost use Rattle.exact_json.specs.View.{pairs_in, pairs_of, tree_of, trees_in};
+ghost use Rattle.std.specs.Prelude.{◌≡◌, option_map, IfSome};
+ghost use Rattle.exact_json.specs.Forms.{HasForms};
+ghost use Rattle.exact_json.specs.Tree.{get as get_in, get_pair};
+ghost use Rattle.exact_json.specs.View.{pair_of, pairs_of, tree_of};
+ghost use Rattle.std.specs.Str.{bytes_eq};
 
-use rtb_num::Txt;
-
-/// A JSON value.
-#[derive(Drop)]
+/// A JSON value. Its parts lie in the text that was read, or in the arena that it was read into.
+#[derive(Clone, Copy)]
 #[cycle(value)]
-pub enum Value {
+pub enum Value<'a> {
     Null,
     Bool(bool),
     /// A number's text, as it stands in the input.
-    Num(Txt),
-    /// A string's bytes.
-    Str(Txt),
-    Arr(Items),
-    Obj(Members),
+    Num(&'a [u8]),
+    /// A string's bytes, in UTF-8, its escapes put in place.
+    Str(&'a [u8]),
+    /// The values of an array, in order.
+    Arr(&'a [Value<'a>]),
+    /// The members of an object, in order. Names may repeat.
+    Obj(&'a [Member<'a>]),
 }
 
-/// The values of an array, in order.
-#[derive(Drop)]
+/// A member of an object: its name, in UTF-8, and its value.
+#[derive(Clone, Copy)]
 #[cycle(value)]
-pub struct Items {
-    pub(crate) values: Vec<Value>,
-}
-
-/// The members of an object, in order: names, which may repeat, and values.
-#[derive(Drop)]
-#[cycle(value)]
-pub struct Members {
-    pub(crate) pairs: Vec<(Txt, Value)>,
-}
-
-#[tactic(auto, using(crate::proofs::Lists::list_from))]
-impl Items {
-    pub(crate) fn from_vec(values: Vec<Value>) -> Items
-        ensures { result.values.items ≡ values.items }
-    {
-        Items { values }
-    }
-
-    /// The values.
-    pub fn as_slice(&self) -> &[Value]
-        ensures values { list_of (trees_in self.now) ≡ map tree_of result.now }
-        ensures numbers { all_formed (trees_in self.now) ≡ true → All (λ v. HasForms (tree_of v)) result.now }
-    {
-        self.values.as_slice()
-    }
-}
-
-#[tactic(auto, using(crate::proofs::Lists::members_from))]
-impl Members {
-    pub(crate) fn from_vec(pairs: Vec<(Txt, Value)>) -> Members
-        ensures { result.pairs.items ≡ pairs.items }
-    {
-        Members { pairs }
-    }
-
-    /// The names and the values.
-    pub fn as_slice(&self) -> &[(Txt, Value)]
-        ensures pairs { members_of (pairs_in self.now) ≡ map (λ p. (p.0, tree_of p.1)) result.now }
-        ensures numbers { members_formed (pairs_in self.now) ≡ true → All (λ p. HasForms (tree_of p.1)) result.now }
-    {
-        self.pairs.as_slice()
-    }
+pub struct Member<'a> {
+    pub name: &'a [u8],
+    pub value: Value<'a>,
 }
 
 /// The value of the last member of that name, where the value is an object and has one.
-pub fn get<'a>(value: &'a Value, name: &[u8]) -> Option<&'a Value>
+pub fn get<'a>(value: &Value<'a>, name: &[u8]) -> Option<&'a Value<'a>>
     ensures value { option_map (λ v. tree_of v.now) result ≡ get_in name.now (tree_of value.now) }
     ensures numbers { HasForms (tree_of value.now) → IfSome result (λ v. HasForms (tree_of v.now)) }
 {
     match value {
-        Value::Obj(members) => find(&members.pairs, name),
+        Value::Obj(members) => find(*members, name),
         _ => None,
     }
 }
 
-fn find<'a>(pairs: &'a Vec<(Txt, Value)>, name: &[u8]) -> Option<&'a Value>
-    ensures { option_map (λ v. tree_of v.now) result ≡ get_pair name.now (pairs_of pairs.now.items) }
+// The value of the last member of that name. It looks from the end, so that the first one that it finds is the last.
+fn find<'a>(members: &'a [Member<'a>], name: &[u8]) -> Option<&'a Value<'a>>
+    ensures { option_map (λ v. tree_of v.now) result ≡ get_pair name.now (pairs_of members.now) }
 {
-    let mut found = None;
-    for pair in pairs {
-        if pair.0.as_bytes() == name {
-            found = Some(&pair.1);
+    let mut left = members.len();
+    while left > 0 {
+        let member = &members[left - 1];
+        if is_named(member, name) {
+            return Some(value_in(member));
         }
+        left -= 1;
     }
-    found
+    None
+}
+
+#[inline(always)]
+fn is_named(member: &Member<'_>, name: &[u8]) -> bool
+    ensures { result ≡ bytes_eq (pair_of member.now).0 name.now }
+{
+    member.name == name
+}
+
+#[inline(always)]
+fn value_in<'a>(member: &'a Member<'a>) -> &'a Value<'a>
+    ensures { tree_of result.now ≡ (pair_of member.now).1 }
+{
+    &member.value
 }

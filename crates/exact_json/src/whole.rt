@@ -13,6 +13,7 @@ use crate::fault::JsonFault;
 use crate::place::{breaks_utf8, place_behind};
 use crate::reader::text_of;
 use crate::stop::Stop;
+use bumpalo::Bump;
 use std::alloc::Global;
 
 // How deep arrays and objects may nest.
@@ -21,21 +22,24 @@ const MAX_DEPTH: usize = 64;
 /// The value that the bytes spell, all of them, where they are a text that nests at most 64 deep;
 /// else the fault with its place: the least offset whose byte no text has there, or the length
 /// where the bytes are the front of a text.
-pub fn read(alloc: Global, bytes: &[u8]) -> Result<Doc, JsonFault>
+///
+/// The value borrows from the bytes and lies in the arena, which begins best with `room_for` the bytes.
+/// A text that is refused leaves in the arena what it took.
+pub fn read<'a>(alloc: Global, arena: &'a Bump, bytes: &'a [u8]) -> Result<Doc<'a>, JsonFault>
     ensures found { IfOk result (λ doc. IsText (doc_tree doc) bytes.now) }
     ensures only { (t : Tree) → IsText t bytes.now → MatchResult result (λ doc. doc_tree doc ≡ t) (λ e. e ≡ fault.Memory) }
     ensures fault { IfErr result (Explains bytes.now) }
 {
-    match text_of(alloc, bytes, MAX_DEPTH) {
+    match text_of(alloc, arena, bytes, MAX_DEPTH) {
         Ok(root) => Ok(Doc::from_root(root)),
         Err(Stop::Memory) => Err(JsonFault::Memory),
         Err(Stop::Short) => Err(JsonFault::Ended { at: bytes.len() }),
-        Err(Stop::At(left)) => Err(fault_at(alloc, bytes, bytes.len() - left)),
+        Err(Stop::At(left)) => Err(fault_at(alloc, arena, bytes, bytes.len() - left)),
     }
 }
 
 // The fault of bytes that are live up to this place and not with its byte.
-fn fault_at(alloc: Global, bytes: &[u8], at: usize) -> JsonFault
+fn fault_at(alloc: Global, arena: &Bump, bytes: &[u8], at: usize) -> JsonFault
     requires { Faulty bytes.now at }
     ensures { Explains bytes.now result }
 {
@@ -46,7 +50,7 @@ fn fault_at(alloc: Global, bytes: &[u8], at: usize) -> JsonFault
     if !opens(byte) {
         return JsonFault::Syntax { at };
     }
-    match is_alive(alloc, &bytes[..at + 1]) {
+    match is_alive(alloc, arena, &bytes[..at + 1]) {
         None => JsonFault::Memory,
         Some(true) => JsonFault::Deep { at },
         Some(false) => JsonFault::Syntax { at },
@@ -60,11 +64,11 @@ fn opens(byte: u8) -> bool
 }
 
 // Some rest makes the front a text that nests at most one level deeper. `None` is no memory.
-fn is_alive(alloc: Global, front: &[u8]) -> Option<bool>
+fn is_alive(alloc: Global, arena: &Bump, front: &[u8]) -> Option<bool>
     ensures alive { result ≡ Some true → LiveWithin one_deeper front.now }
     ensures dead { result ≡ Some false → LiveWithin one_deeper front.now → ⊥ }
 {
-    match text_of(alloc, front, MAX_DEPTH + 1) {
+    match text_of(alloc, arena, front, MAX_DEPTH + 1) {
         Ok(_value) => return Some(true),
         Err(Stop::Memory) => return None,
         Err(Stop::Short) => return Some(true),

@@ -9,7 +9,7 @@ mod finding;
 mod matching;
 mod records;
 
-use case_lines::{Areas, run_cases};
+use case_lines::run_cases;
 use rtb_num::{StdSink, StdSource, Txt};
 use std::alloc::{AllocError, Global};
 use std::io;
@@ -19,14 +19,10 @@ use std::process::ExitCode;
 fn main(rt: HostRuntime) -> ExitCode {
     let mut source = StdSource::new(rt.reader());
     let mut sink = StdSink::new(io::writer(&rt));
-    ExitCode::from(run_cases::<Index, _, _>(rt.alloc(), &mut source, &mut sink).code())
+    ExitCode::from(run_cases(&answer, rt.alloc(), &mut source, &mut sink).code())
 }
 
 // The areas of the index.
-struct Index;
-
-impl Areas for Index {
-    fn answer(alloc: Global, call: &[u8], args: &[Txt], out: &mut Txt) -> Result<bool, AllocError> {
-        finding::answer(alloc, call, args, out)
-    }
+fn answer(alloc: Global, call: &[u8], args: &[Txt], out: &mut Txt) -> Result<bool, AllocError> {
+    finding::answer(alloc, call, args, out)
 }

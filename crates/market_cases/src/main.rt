@@ -14,7 +14,7 @@ mod rules;
 mod table;
 mod words;
 
-use case_lines::{Areas, done, run_cases};
+use case_lines::{done, run_cases};
 use rtb_num::{StdSink, StdSource, Txt};
 use std::alloc::{AllocError, Global};
 use std::io;
@@ -24,20 +24,16 @@ use std::process::ExitCode;
 fn main(rt: HostRuntime) -> ExitCode {
     let mut source = StdSource::new(rt.reader());
     let mut sink = StdSink::new(io::writer(&rt));
-    ExitCode::from(run_cases::<MarketCalls, _, _>(rt.alloc(), &mut source, &mut sink).code())
+    ExitCode::from(run_cases(&answer, rt.alloc(), &mut source, &mut sink).code())
 }
 
 // The calls `book | ..` and `table | ..`, and those of the rules.
-struct MarketCalls;
-
-impl Areas for MarketCalls {
-    fn answer(alloc: Global, call: &[u8], args: &[Txt], out: &mut Txt) -> Result<bool, AllocError> {
-        if call == b"book".as_slice() {
-            return done(book::run(alloc, args, out));
-        }
-        if call == b"table".as_slice() {
-            return done(table::run(alloc, args, out));
-        }
-        rules::answer(alloc, call, args, out)
+fn answer(alloc: Global, call: &[u8], args: &[Txt], out: &mut Txt) -> Result<bool, AllocError> {
+    if call == b"book".as_slice() {
+        return done(book::run(alloc, args, out));
     }
+    if call == b"table".as_slice() {
+        return done(table::run(alloc, args, out));
+    }
+    rules::answer(alloc, call, args, out)
 }

@@ -1,6 +1,7 @@
 //! The requests and campaigns that the words of a case stand for.
 ghost use Rattle.std.specs.Prelude.{◌<◌, length};
 
+use bumpalo::Bump;
 use campaign::Facts;
 use campaign_read::{CampFault, read_campaign};
 use case_lines::{done, kept, number_in};
@@ -244,12 +245,11 @@ fn put_members(members: &[u8], out: &mut Txt) -> Result<(), AllocError> {
 // ---- what they stand for
 
 fn facts_of(alloc: Global, text: &[u8]) -> Result<Option<Facts>, AllocError> {
-    let Ok(doc) = exact_json::read(alloc, text) else {
+    let arena = Bump::new(alloc);
+    let Ok(doc) = exact_json::read(alloc, &arena, text) else {
         return Ok(None);
     };
-    let read = read_campaign(alloc, &doc);
-    drop(doc);
-    match read {
+    match read_campaign(alloc, &doc) {
         Ok((facts, target)) => {
             drop(target);
             Ok(Some(facts))
@@ -260,12 +260,11 @@ fn facts_of(alloc: Global, text: &[u8]) -> Result<Option<Facts>, AllocError> {
 }
 
 fn request_of(alloc: Global, text: &[u8]) -> Result<Option<BidRequest>, AllocError> {
-    let Ok(doc) = exact_json::read(alloc, text) else {
+    let arena = Bump::new(alloc);
+    let Ok(doc) = exact_json::read(alloc, &arena, text) else {
         return Ok(None);
     };
-    let read = read_request(alloc, &doc);
-    drop(doc);
-    match read {
+    match read_request(alloc, &doc) {
         Ok(request) => Ok(Some(request)),
         Err(ReqFault::Memory) => Err(AllocError),
         Err(_) => Ok(None),

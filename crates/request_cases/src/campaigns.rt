@@ -1,5 +1,6 @@
 //! Calls of `campaign` and `campaign_read`: campaigns, their faults and their bytes.
 use crate::targeting::put_expr_fault;
+use bumpalo::Bump;
 use campaign::{CampField, Cap, FactBytes, FactFault, FactParts, Facts};
 use campaign_read::{CampFault, read_campaign};
 use case_lines::{done, kept, number_in, put_comma};
@@ -54,12 +55,11 @@ pub fn place_in(text: &Txt) -> Option<usize> {
 
 /// The campaign of a JSON text, where it is one.
 pub fn campaign_of(alloc: Global, text: &Txt) -> Result<Option<(Facts, Expr)>, AllocError> {
-    let Ok(doc) = exact_json::read(alloc, text.as_bytes()) else {
+    let arena = Bump::new(alloc);
+    let Ok(doc) = exact_json::read(alloc, &arena, text.as_bytes()) else {
         return Ok(None);
     };
-    let read = read_campaign(alloc, &doc);
-    drop(doc);
-    match read {
+    match read_campaign(alloc, &doc) {
         Ok(found) => Ok(Some(found)),
         Err(CampFault::Memory) => Err(AllocError),
         Err(_) => Ok(None),
@@ -69,17 +69,14 @@ pub fn campaign_of(alloc: Global, text: &Txt) -> Result<Option<(Facts, Expr)>, A
 // ---- what is read
 
 fn verdict(alloc: Global, text: &Txt, out: &mut Txt) -> Result<(), AllocError> {
-    match exact_json::read(alloc, text.as_bytes()) {
-        Ok(doc) => {
-            let told = put_campaign(alloc, &doc, out);
-            drop(doc);
-            told
-        }
+    let arena = Bump::new(alloc);
+    match exact_json::read(alloc, &arena, text.as_bytes()) {
+        Ok(doc) => put_campaign(alloc, &doc, out),
         Err(_) => out.extend(b"no JSON"),
     }
 }
 
-fn put_campaign(alloc: Global, doc: &Doc, out: &mut Txt) -> Result<(), AllocError> {
+fn put_campaign(alloc: Global, doc: &Doc<'_>, out: &mut Txt) -> Result<(), AllocError> {
     match read_campaign(alloc, doc) {
         Ok(read) => {
             let written = put_stated(&read.0, &read.1, out);
@@ -111,17 +108,14 @@ fn put_number(words: &[u8], n: u64, out: &mut Txt) -> Result<(), AllocError> {
 
 // Why the text is no campaign, in words.
 fn put_why(alloc: Global, text: &Txt, out: &mut Txt) -> Result<(), AllocError> {
-    match exact_json::read(alloc, text.as_bytes()) {
-        Ok(doc) => {
-            let told = put_why_of(alloc, &doc, out);
-            drop(doc);
-            told
-        }
+    let arena = Bump::new(alloc);
+    match exact_json::read(alloc, &arena, text.as_bytes()) {
+        Ok(doc) => put_why_of(alloc, &doc, out),
         Err(fault) => out.extend(format!(in alloc; "{fault}")?.as_bytes()),
     }
 }
 
-fn put_why_of(alloc: Global, doc: &Doc, out: &mut Txt) -> Result<(), AllocError> {
+fn put_why_of(alloc: Global, doc: &Doc<'_>, out: &mut Txt) -> Result<(), AllocError> {
     match read_campaign(alloc, doc).err() {
         None => out.extend(b"it is one"),
         Some(fault) => out.extend(format!(in alloc; "{fault}")?.as_bytes()),

@@ -8,7 +8,7 @@ mod campaigns;
 mod requests;
 mod targeting;
 
-use case_lines::{Areas, run_cases};
+use case_lines::run_cases;
 use rtb_num::{StdSink, StdSource, Txt};
 use std::alloc::{AllocError, Global};
 use std::io;
@@ -18,20 +18,16 @@ use std::process::ExitCode;
 fn main(rt: HostRuntime) -> ExitCode {
     let mut source = StdSource::new(rt.reader());
     let mut sink = StdSink::new(io::writer(&rt));
-    ExitCode::from(run_cases::<Market, _, _>(rt.alloc(), &mut source, &mut sink).code())
+    ExitCode::from(run_cases(&answer, rt.alloc(), &mut source, &mut sink).code())
 }
 
 // The areas of what is sold and who buys.
-struct Market;
-
-impl Areas for Market {
-    fn answer(alloc: Global, call: &[u8], args: &[Txt], out: &mut Txt) -> Result<bool, AllocError> {
-        if requests::answer(alloc, call, args, out)? {
-            return Ok(true);
-        }
-        if targeting::answer(alloc, call, args, out)? {
-            return Ok(true);
-        }
-        campaigns::answer(alloc, call, args, out)
+fn answer(alloc: Global, call: &[u8], args: &[Txt], out: &mut Txt) -> Result<bool, AllocError> {
+    if requests::answer(alloc, call, args, out)? {
+        return Ok(true);
     }
+    if targeting::answer(alloc, call, args, out)? {
+        return Ok(true);
+    }
+    campaigns::answer(alloc, call, args, out)
 }

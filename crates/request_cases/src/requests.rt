@@ -1,4 +1,5 @@
 //! Calls of `rtb_read`: bid requests and their faults.
+use bumpalo::Bump;
 use case_lines::{done, kept, put_comma};
 use exact_json::{Doc, read};
 use rtb_num::{List, Micros, PriceFault, Txt, write_decimal, write_signed};
@@ -31,17 +32,14 @@ pub fn answer(alloc: Global, call: &[u8], args: &[Txt], out: &mut Txt) -> Result
 }
 
 fn judge(alloc: Global, text: &[u8], out: &mut Txt) -> Result<(), AllocError> {
-    match read(alloc, text) {
-        Ok(doc) => {
-            let told = judge_doc(alloc, &doc, out);
-            drop(doc);
-            told
-        }
+    let arena = Bump::new(alloc);
+    match read(alloc, &arena, text) {
+        Ok(doc) => judge_doc(alloc, &doc, out),
         Err(_) => out.extend(b"unreadable"),
     }
 }
 
-fn judge_doc(alloc: Global, doc: &Doc, out: &mut Txt) -> Result<(), AllocError> {
+fn judge_doc(alloc: Global, doc: &Doc<'_>, out: &mut Txt) -> Result<(), AllocError> {
     match read_request(alloc, doc).err() {
         None => out.extend(b"ok"),
         Some(fault) => put_fault(fault, out),
@@ -88,17 +86,14 @@ fn put_count(word: &[u8], count: usize, out: &mut Txt) -> Result<(), AllocError>
 
 // Why the text is no request, in words.
 fn put_why(alloc: Global, text: &[u8], out: &mut Txt) -> Result<(), AllocError> {
-    match read(alloc, text) {
-        Ok(doc) => {
-            let told = put_why_of(alloc, &doc, out);
-            drop(doc);
-            told
-        }
+    let arena = Bump::new(alloc);
+    match read(alloc, &arena, text) {
+        Ok(doc) => put_why_of(alloc, &doc, out),
         Err(fault) => out.extend(format!(in alloc; "{fault}")?.as_bytes()),
     }
 }
 
-fn put_why_of(alloc: Global, doc: &Doc, out: &mut Txt) -> Result<(), AllocError> {
+fn put_why_of(alloc: Global, doc: &Doc<'_>, out: &mut Txt) -> Result<(), AllocError> {
     match read_request(alloc, doc).err() {
         None => out.extend(b"it is one"),
         Some(fault) => out.extend(format!(in alloc; "{fault}")?.as_bytes()),
@@ -154,17 +149,14 @@ fn frame(place: &[u8]) -> Option<(&'static [u8], &'static [u8])> {
 // ---- the fields of a request
 
 fn show(alloc: Global, text: &[u8], out: &mut Txt) -> Result<(), AllocError> {
-    match read(alloc, text) {
-        Ok(doc) => {
-            let told = show_doc(alloc, &doc, out);
-            drop(doc);
-            told
-        }
+    let arena = Bump::new(alloc);
+    match read(alloc, &arena, text) {
+        Ok(doc) => show_doc(alloc, &doc, out),
         Err(_) => out.extend(b"unreadable"),
     }
 }
 
-fn show_doc(alloc: Global, doc: &Doc, out: &mut Txt) -> Result<(), AllocError> {
+fn show_doc(alloc: Global, doc: &Doc<'_>, out: &mut Txt) -> Result<(), AllocError> {
     match read_request(alloc, doc) {
         Ok(request) => {
             let written = put_request(&request, out);

@@ -6,6 +6,7 @@ ghost use Rattle.std.specs.Prelude.{◌≡◌, ◌<◌};
 
 use crate::campaigns::{campaign_of, place_in};
 use assign::assignment;
+use bumpalo::Bump;
 use case_exprs::{assignment_in, make_expr};
 use case_lines::{done, number_in, say};
 use rtb_base::Steps;
@@ -258,12 +259,9 @@ fn assignment_at(
 
 // The request of a JSON text.
 fn request_of(alloc: Global, text: &Txt) -> Option<BidRequest> {
-    match exact_json::read(alloc, text.as_bytes()) {
-        Ok(doc) => {
-            let request = read_request(alloc, &doc).ok();
-            drop(doc);
-            request
-        }
+    let arena = Bump::new(alloc);
+    match exact_json::read(alloc, &arena, text.as_bytes()) {
+        Ok(doc) => read_request(alloc, &doc).ok(),
         Err(_) => None,
     }
 }

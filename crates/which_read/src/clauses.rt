@@ -22,7 +22,7 @@ use target_expr::RawPred;
 pub(crate) fn clauses_field(
     alloc: Global,
     i: usize,
-    expression: &Value,
+    expression: &Value<'_>,
 ) -> Result<List<List<RawPred>>, WhichFault>
     ensures { Answers WhichFault.Memory (clauses_faults i (tree_of expression.now)) (clauses_from (tree_of expression.now)) result }
 {
@@ -32,7 +32,11 @@ pub(crate) fn clauses_field(
     }
 }
 
-fn all_clauses(alloc: Global, i: usize, values: &[Value]) -> Result<List<List<RawPred>>, WhichFault>
+fn all_clauses(
+    alloc: Global,
+    i: usize,
+    values: &[Value<'_>],
+) -> Result<List<List<RawPred>>, WhichFault>
     ensures { Answers WhichFault.Memory (each_at (clause_at i) (map tree_of values.now)) (map clause_from (map tree_of values.now)) result }
 {
     let mut clauses = Vec::with_capacity(alloc, values.len())?;
@@ -44,7 +48,7 @@ fn all_clauses(alloc: Global, i: usize, values: &[Value]) -> Result<List<List<Ra
 fn push_clauses(
     alloc: Global,
     i: usize,
-    values: &[Value],
+    values: &[Value<'_>],
     clauses: &mut Vec<List<RawPred>>,
 ) -> Result<(), WhichFault>
     requires none { clauses.old.items ≡ [] }
@@ -61,7 +65,7 @@ fn clause_entry(
     alloc: Global,
     i: usize,
     j: usize,
-    value: &Value,
+    value: &Value<'_>,
 ) -> Result<List<RawPred>, WhichFault>
     ensures { Answers WhichFault.Memory (clause_at i j (tree_of value.now)) (clause_from (tree_of value.now)) result }
 {
@@ -76,7 +80,7 @@ fn all_preds(
     alloc: Global,
     i: usize,
     j: usize,
-    values: &[Value],
+    values: &[Value<'_>],
 ) -> Result<List<RawPred>, WhichFault>
     ensures { Answers WhichFault.Memory (each_at (pred_at i j) (map tree_of values.now)) (map pred_from (map tree_of values.now)) result }
 {
@@ -90,7 +94,7 @@ fn push_preds(
     alloc: Global,
     i: usize,
     j: usize,
-    values: &[Value],
+    values: &[Value<'_>],
     preds: &mut Vec<RawPred>,
 ) -> Result<(), WhichFault>
     requires none { preds.old.items ≡ [] }
@@ -108,7 +112,7 @@ fn pred_entry(
     i: usize,
     j: usize,
     k: usize,
-    value: &Value,
+    value: &Value<'_>,
 ) -> Result<RawPred, WhichFault>
     ensures { Answers WhichFault.Memory (pred_at i j k (tree_of value.now)) (pred_from (tree_of value.now)) result }
 {
@@ -118,10 +122,16 @@ fn pred_entry(
     }
 }
 
-fn pred_in(alloc: Global, i: usize, j: usize, k: usize, pred: &Value) -> Result<RawPred, WhichFault>
+fn pred_in(
+    alloc: Global,
+    i: usize,
+    j: usize,
+    k: usize,
+    pred: &Value<'_>,
+) -> Result<RawPred, WhichFault>
     ensures { Answers WhichFault.Memory (pred_faults i j k (tree_of pred.now)) (pred_from (tree_of pred.now)) result }
 {
-    let read = text_field(pred, WhichField::PredicateAttr(i, j, k));
+    let read = text_field(alloc, pred, WhichField::PredicateAttr(i, j, k));
     let read = unless_faulty(read, some_list(i, j, k, pred));
     let read = both(read, texts_field(alloc, pred, WhichField::In(i, j, k)));
     let read = unless_faulty(read, one_list(i, j, k, pred));
@@ -133,7 +143,7 @@ fn pred_in(alloc: Global, i: usize, j: usize, k: usize, pred: &Value) -> Result<
 }
 
 // A predicate lists what it admits or what it excludes.
-fn some_list(i: usize, j: usize, k: usize, pred: &Value) -> Result<(), WhichFault>
+fn some_list(i: usize, j: usize, k: usize, pred: &Value<'_>) -> Result<(), WhichFault>
     ensures { Answers WhichFault.Memory (fault_where (not (has_in (tree_of pred.now)) && not (has_not (tree_of pred.now))) (WhichFault.Missing (WhichField.In i j k))) tt result }
 {
     if has_in(pred) {
@@ -148,7 +158,7 @@ fn some_list(i: usize, j: usize, k: usize, pred: &Value) -> Result<(), WhichFaul
 }
 
 // It does not list both.
-fn one_list(i: usize, j: usize, k: usize, pred: &Value) -> Result<(), WhichFault>
+fn one_list(i: usize, j: usize, k: usize, pred: &Value<'_>) -> Result<(), WhichFault>
     ensures { Answers WhichFault.Memory (fault_where (has_in (tree_of pred.now) && has_not (tree_of pred.now)) (WhichFault.WrongType (WhichField.Not i j k))) tt result }
 {
     if !has_in(pred) {
@@ -162,20 +172,20 @@ fn one_list(i: usize, j: usize, k: usize, pred: &Value) -> Result<(), WhichFault
     })
 }
 
-fn has_in(pred: &Value) -> bool
+fn has_in(pred: &Value<'_>) -> bool
     ensures { result ≡ has_in (tree_of pred.now) }
 {
     fields::present(pred, WhichField::In(0, 0, 0).member()).is_some()
 }
 
-fn has_not(pred: &Value) -> bool
+fn has_not(pred: &Value<'_>) -> bool
     ensures { result ≡ has_not (tree_of pred.now) }
 {
     fields::present(pred, WhichField::Not(0, 0, 0).member()).is_some()
 }
 
 // The predicate of an attribute and two lists.
-fn chosen(read: ((Txt, List<Txt>), List<Txt>), pred: &Value) -> RawPred
+fn chosen(read: ((Txt, List<Txt>), List<Txt>), pred: &Value<'_>) -> RawPred
     ensures { result ≡ chosen read (has_not (tree_of pred.now)) }
 {
     let ((attr, admitted), excluded) = read;

@@ -24,7 +24,10 @@ pub(crate) type Written = (List<List<RawPred>>, List<RawWeight>);
 
 // The expressions.
 #[tactic(auto, unfolding(crate::specs::Request::expressions_faults, crate::specs::Request::expressions_from, crate::specs::Parts::faults_inside, crate::specs::Parts::array_in))]
-pub(crate) fn expressions_field(alloc: Global, body: &Value) -> Result<List<Written>, WhichFault>
+pub(crate) fn expressions_field(
+    alloc: Global,
+    body: &Value<'_>,
+) -> Result<List<Written>, WhichFault>
     requires forms { HasForms (tree_of body.now) }
     ensures { Answers WhichFault.Memory (expressions_faults (tree_of body.now)) (expressions_from (tree_of body.now)) result }
 {
@@ -36,7 +39,7 @@ pub(crate) fn expressions_field(alloc: Global, body: &Value) -> Result<List<Writ
 
 // At most 4,096 of them.
 #[tactic(auto, using(json_fields::proofs::First::firsts))]
-fn some_expressions(alloc: Global, values: &[Value]) -> Result<List<Written>, WhichFault>
+fn some_expressions(alloc: Global, values: &[Value<'_>]) -> Result<List<Written>, WhichFault>
     requires forms { All (λ v. HasForms (tree_of v)) values.now }
     ensures { Answers WhichFault.Memory (written_faults (map tree_of values.now)) (map expression_from (map tree_of values.now)) result }
 {
@@ -48,7 +51,7 @@ fn some_expressions(alloc: Global, values: &[Value]) -> Result<List<Written>, Wh
     all_expressions(alloc, values)
 }
 
-fn all_expressions(alloc: Global, values: &[Value]) -> Result<List<Written>, WhichFault>
+fn all_expressions(alloc: Global, values: &[Value<'_>]) -> Result<List<Written>, WhichFault>
     requires forms { All (λ v. HasForms (tree_of v)) values.now }
     ensures { Answers WhichFault.Memory (each_at expression_at (map tree_of values.now)) (map expression_from (map tree_of values.now)) result }
 {
@@ -60,7 +63,7 @@ fn all_expressions(alloc: Global, values: &[Value]) -> Result<List<Written>, Whi
 // Appends them, where none was there.
 fn push_expressions(
     alloc: Global,
-    values: &[Value],
+    values: &[Value<'_>],
     written: &mut Vec<Written>,
 ) -> Result<(), WhichFault>
     requires none { written.old.items ≡ [] }
@@ -74,7 +77,7 @@ fn push_expressions(
 }
 
 #[tactic(auto, unfolding(crate::specs::Parts::faults_inside))]
-fn expression_entry(alloc: Global, i: usize, value: &Value) -> Result<Written, WhichFault>
+fn expression_entry(alloc: Global, i: usize, value: &Value<'_>) -> Result<Written, WhichFault>
     requires forms { HasForms (tree_of value.now) }
     ensures { Answers WhichFault.Memory (expression_at i (tree_of value.now)) (expression_from (tree_of value.now)) result }
 {
@@ -85,7 +88,7 @@ fn expression_entry(alloc: Global, i: usize, value: &Value) -> Result<Written, W
 }
 
 #[tactic(auto, unfolding(crate::specs::Request::expression_faults, crate::specs::Request::expression_from))]
-fn expression_in(alloc: Global, i: usize, expression: &Value) -> Result<Written, WhichFault>
+fn expression_in(alloc: Global, i: usize, expression: &Value<'_>) -> Result<Written, WhichFault>
     requires forms { HasForms (tree_of expression.now) }
     ensures { Answers WhichFault.Memory (expression_faults i (tree_of expression.now)) (expression_from (tree_of expression.now)) result }
 {

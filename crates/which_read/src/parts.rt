@@ -28,11 +28,15 @@ pub(crate) fn fault(field: WhichField, flaw: Flaw) -> WhichFault
 
 // A text that has to be there.
 #[tactic(auto, unfolding(crate::specs::Parts::faults_at, crate::specs::Parts::text_faults, crate::specs::Parts::text_from))]
-pub(crate) fn text_field(object: &Value, field: WhichField) -> Result<Txt, WhichFault>
+pub(crate) fn text_field(
+    alloc: Global,
+    object: &Value<'_>,
+    field: WhichField,
+) -> Result<Txt, WhichFault>
     ensures { Answers WhichFault.Memory (text_faults field (tree_of object.now)) (text_from (member_name field) (tree_of object.now)) result }
 {
     match fields::required_text(object, field.member()) {
-        Ok(text) => Ok(text.copy()?),
+        Ok(text) => Ok(Txt::from_slice(alloc, text)?),
         Err(flaw) => Err(fault(field, flaw)),
     }
 }
@@ -40,7 +44,7 @@ pub(crate) fn text_field(object: &Value, field: WhichField) -> Result<Txt, Which
 // A whole number that has to be there, within bounds from 0 on.
 #[tactic(auto, unfolding(crate::specs::Parts::faults_at, crate::specs::Parts::number_faults, crate::specs::Parts::number_from))]
 pub(crate) fn number_field(
-    object: &Value,
+    object: &Value<'_>,
     field: WhichField,
     bounds: &Bounds,
 ) -> Result<u32, WhichFault>
@@ -54,7 +58,7 @@ pub(crate) fn number_field(
 }
 
 #[tactic(auto, using(crate::proofs::Required::there, crate::proofs::Required::absent, crate::proofs::Required::flawed))]
-fn required_whole(object: &Value, name: &[u8], bounds: &Bounds) -> Result<i32, Flaw>
+fn required_whole(object: &Value<'_>, name: &[u8], bounds: &Bounds) -> Result<i32, Flaw>
     requires forms { HasForms (tree_of object.now) }
     ensures { result ≡ required (as_whole bounds.now) (present name.now (tree_of object.now)) }
 {
@@ -69,7 +73,7 @@ fn required_whole(object: &Value, name: &[u8], bounds: &Bounds) -> Result<i32, F
 #[tactic(auto, using(json_fields::proofs::First::firsts_mapped), unfolding(crate::specs::Parts::texts_faults, crate::specs::Parts::texts_from))]
 pub(crate) fn texts_field(
     alloc: Global,
-    object: &Value,
+    object: &Value<'_>,
     field: WhichField,
 ) -> Result<List<Txt>, WhichFault>
     ensures { Answers WhichFault.Memory (texts_faults field (tree_of object.now)) (texts_from (member_name field) (tree_of object.now)) result }

@@ -34,7 +34,7 @@ pub struct Request {
 
 /// The request in a JSON text, or the first of its faults in the order in which the fields are read; behind all of
 /// them come the faults of the expressions, in their order.
-pub fn read_request(alloc: Global, doc: &Doc) -> Result<Request, WhichFault>
+pub fn read_request(alloc: Global, doc: &Doc<'_>) -> Result<Request, WhichFault>
     ensures answer { Answers WhichFault.Memory (which_faults (doc_tree doc.now)) (which_from (doc_tree doc.now)) result }
     ensures few { IfOk result (λ r. length r.expressions ≤ 4096) }
 {
@@ -51,7 +51,7 @@ const N: Bounds = Bounds {
 };
 
 #[tactic(auto, using(json_fields::proofs::First::firsts), unfolding(crate::specs::Request::request_faults))]
-fn request_in(alloc: Global, body: &Value) -> Result<Request, WhichFault>
+fn request_in(alloc: Global, body: &Value<'_>) -> Result<Request, WhichFault>
     requires forms { HasForms (tree_of body.now) }
     ensures { Answers WhichFault.Memory (request_faults (tree_of body.now)) (which_from (tree_of body.now)) result }
 {

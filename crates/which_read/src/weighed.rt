@@ -22,7 +22,7 @@ use std::alloc::Global;
 pub(crate) fn weights_field(
     alloc: Global,
     i: usize,
-    expression: &Value,
+    expression: &Value<'_>,
 ) -> Result<List<RawWeight>, WhichFault>
     requires forms { HasForms (tree_of expression.now) }
     ensures { Answers WhichFault.Memory (weights_faults i (tree_of expression.now)) (weights_from (tree_of expression.now)) result }
@@ -34,34 +34,44 @@ pub(crate) fn weights_field(
     }
 }
 
-fn all_weights(alloc: Global, i: usize, values: &[Value]) -> Result<List<RawWeight>, WhichFault>
+fn all_weights(alloc: Global, i: usize, values: &[Value<'_>]) -> Result<List<RawWeight>, WhichFault>
     requires forms { All (λ v. HasForms (tree_of v)) values.now }
     ensures { Answers WhichFault.Memory (each_at (weight_at i) (map tree_of values.now)) (map weight_from (map tree_of values.now)) result }
 {
     let mut weights = Vec::with_capacity(alloc, values.len())?;
-    let read = push_weights(i, values, &mut weights);
+    let read = push_weights(alloc, i, values, &mut weights);
     filled(weights, read)
 }
 
 // Appends them, where none was there.
-fn push_weights(i: usize, values: &[Value], weights: &mut Vec<RawWeight>) -> Result<(), WhichFault>
+fn push_weights(
+    alloc: Global,
+    i: usize,
+    values: &[Value<'_>],
+    weights: &mut Vec<RawWeight>,
+) -> Result<(), WhichFault>
     requires none { weights.old.items ≡ [] }
     requires forms { All (λ v. HasForms (tree_of v)) values.now }
     ensures { Answers WhichFault.Memory (each_at (weight_at i) (map tree_of values.now)) (map weight_from (map tree_of values.now)) (map_ok (λ _. weights.new.items) result) }
 {
     for (j, value) in values.iter().enumerate() {
-        push(weights, weight_entry(i, j, value)?)?;
+        push(weights, weight_entry(alloc, i, j, value)?)?;
     }
     Ok(())
 }
 
 #[tactic(auto, unfolding(crate::specs::Parts::faults_inside))]
-fn weight_entry(i: usize, j: usize, value: &Value) -> Result<RawWeight, WhichFault>
+fn weight_entry(
+    alloc: Global,
+    i: usize,
+    j: usize,
+    value: &Value<'_>,
+) -> Result<RawWeight, WhichFault>
     requires forms { HasForms (tree_of value.now) }
     ensures { Answers WhichFault.Memory (weight_at i j (tree_of value.now)) (weight_from (tree_of value.now)) result }
 {
     match fields::object_in(value) {
-        Ok(weight) => weight_in(i, j, weight),
+        Ok(weight) => weight_in(alloc, i, j, weight),
         Err(flaw) => Err(fault(WhichField::Weight(i, j), flaw)),
     }
 }
@@ -72,12 +82,15 @@ const WEIGHT: Bounds = Bounds {
     greatest: i32::MAX,
 };
 
-fn weight_in(i: usize, j: usize, weight: &Value) -> Result<RawWeight, WhichFault>
+fn weight_in(alloc: Global, i: usize, j: usize, weight: &Value<'_>) -> Result<RawWeight, WhichFault>
     requires forms { HasForms (tree_of weight.now) }
     ensures { Answers WhichFault.Memory (weight_faults i j (tree_of weight.now)) (weight_from (tree_of weight.now)) result }
 {
-    let read = text_field(weight, WhichField::WeightAttr(i, j));
-    let read = both(read, text_field(weight, WhichField::WeightValue(i, j)));
+    let read = text_field(alloc, weight, WhichField::WeightAttr(i, j));
+    let read = both(
+        read,
+        text_field(alloc, weight, WhichField::WeightValue(i, j)),
+    );
     let read = both(
         read,
         number_field(weight, WhichField::WeightNumber(i, j), &WEIGHT),

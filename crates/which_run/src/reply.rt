@@ -8,7 +8,8 @@ ghost use Rattle.which_run.specs.Texts.{which_fault_text};
 
 use crate::answer::answer_text;
 use crate::refusals::which_fault_text;
-use exact_json::{Doc, JsonFault, read};
+use bumpalo::Bump;
+use exact_json::{Doc, JsonFault, read, room_for};
 use refusal_text::{error_text, json_fault_text};
 use rtb_num::Txt;
 use std::alloc::{AllocError, Global};
@@ -33,12 +34,18 @@ pub fn which_text(alloc: Global, bytes: &[u8]) -> Result<Reply, AllocError>
     if bytes.len() > LONGEST_INPUT {
         return refusal(alloc, b"body-too-large");
     }
-    match read(alloc, bytes) {
-        Ok(doc) => {
-            let reply = doc_reply(alloc, &doc);
-            drop(doc);
-            reply
-        }
+    let arena = Bump::try_with_capacity(alloc, room_for(bytes.len()))?;
+    let reply = text_reply(alloc, &arena, bytes);
+    drop(arena);
+    reply
+}
+
+fn text_reply(alloc: Global, arena: &Bump, bytes: &[u8]) -> Result<Reply, AllocError>
+    requires fits { length bytes.now ≤ 16777216 }
+    ensures { IfOk result (IsReply bytes.now) }
+{
+    match read(alloc, arena, bytes) {
+        Ok(doc) => doc_reply(alloc, &doc),
         Err(fault) => json_refusal(alloc, fault),
     }
 }
@@ -70,7 +77,7 @@ fn json_refusal(alloc: Global, fault: JsonFault) -> Result<Reply, AllocError>
 }
 
 // What is answered to the request that the text makes, or its first fault.
-fn doc_reply(alloc: Global, doc: &Doc) -> Result<Reply, AllocError>
+fn doc_reply(alloc: Global, doc: &Doc<'_>) -> Result<Reply, AllocError>
     ensures { IfOk result (λ r. r ≡ tree_reply (doc_tree doc.now)) }
 {
     match read_request(alloc, doc) {

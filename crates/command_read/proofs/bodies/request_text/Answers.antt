@@ -1,7 +1,7 @@
 use Rattle.exact_json.specs.Docs.{doc_tree}
 use Rattle.command_read.specs.Commands.{request_command}
 use Rattle.command_read.proofs.Readings.{bad_text, found_in}
-use Rattle.command_read.proofs.bodies.request_command.Goals as goal
+use Rattle.command_read.proofs.bodies.request_text.Goals as goal
 
 pub returns-in-Ok : goal.returns-in-Ok
 returns-in-Ok c = found_in request_command c.args.body.now (doc_tree c.in-Ok.doc) c.request_in.result c.in-Ok.ensures.found c.request_in.ensures

@@ -1,0 +1,9 @@
+use Rattle.exact_json.specs.Docs.{doc_tree}
+use Rattle.which_run.proofs.Replies.{found, refused}
+use Rattle.which_run.proofs.reply.text_reply.Goals as goal
+
+pub returns-in-Ok : goal.returns-in-Ok
+returns-in-Ok c = found c.args.bytes.now (doc_tree c.in-Ok.doc) c.doc_reply.result c.requires.fits c.in-Ok.ensures.found c.doc_reply.ensures
+
+pub returns-in-Err : goal.returns-in-Err
+returns-in-Err c = refused c.args.bytes.now c.json_refusal.result c.in-Err.fault c.requires.fits c.in-Err.ensures.fault c.json_refusal.ensures.refused c.json_refusal.ensures.fault
