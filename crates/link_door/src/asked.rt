@@ -9,6 +9,8 @@ use std::alloc::AllocError;
 pub enum Asked {
     /// The disk with this name.
     Disk { path: Txt },
+    /// The same, to be read alone.
+    DiskToRead { path: Txt },
     /// So many doors at this address.
     Doors { address: Txt, n: u32 },
 }
@@ -20,6 +22,15 @@ pub(crate) fn note_disk(asked: &mut List<Asked>, path: &Txt) -> Result<(), Alloc
 {
     let path = path.copy()?;
     asked.push(Asked::Disk { path })
+}
+
+/// Notes that a disk is asked for, to be read alone. Where memory is refused the list is as it was.
+pub(crate) fn note_disk_to_read(asked: &mut List<Asked>, path: &Txt) -> Result<(), AllocError>
+    ensures ok { OnOk result (asked.new ≡ asked.old ++ asked_for.DiskToRead path.now ∷ []) }
+    ensures err { OnErr result (asked.new ≡ asked.old) }
+{
+    let path = path.copy()?;
+    asked.push(Asked::DiskToRead { path })
 }
 
 /// Notes that doors are asked for. Where memory is refused the list is as it was.

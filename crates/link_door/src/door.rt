@@ -8,7 +8,7 @@ use rtb_num::Failed;
 
 /// A door, through which links come, one after the other, and which tells the time.
 pub trait Door {
-    type Link: Link;
+    type Link: Link + Send;
 
     // What it holds, where that is known.
     ghost held: { Self → Option (Held Self.Link) };

@@ -7,7 +7,7 @@ ghost use Rattle.link_door.specs.Worlds.{Asks, HandsOut};
 ghost use Rattle.link_door.specs.declared.asked.Asked.TheVariants as asked_for;
 ghost use Rattle.link_door.specs.declared.world.WorldFault.TheVariants.{Memory as memory};
 
-use crate::asked::{Asked, note_disk, note_doors};
+use crate::asked::{Asked, note_disk, note_disk_to_read, note_doors};
 use crate::memory_door::MemDoor;
 use crate::world::{World, WorldFault};
 use rtb_disk::MemDisk;
@@ -90,6 +90,26 @@ impl World for MemWorld {
         }
         note_doors(&mut self.asked, address, n)?;
         take_front(&mut self.doors, n as usize)
+    }
+
+    fn disk_to_read(&mut self, path: &Txt) -> Result<MemDisk, Failed>
+        ensures disks { MatchResult result (λ disk. HandsOut (Some self.old.disks) (Some self.new.disks) (disk ∷ [])) (λ _. self.new.disks ≡ self.old.disks) }
+        ensures doors { self.new.doors ≡ self.old.doors }
+        ensures asks { Asks self.old.asked self.new.asked (asked_for.DiskToRead path.now) result }
+        ensures cause { CountsErrors self.old.calls.faults self.new.calls.faults result }
+
+        // A call fails where it is told to, and where none is left.
+        ensures told { OnOk result (lacks self.old.calls self.old.disks 1 ≡ false) }
+        ensures calls { self.new.calls ≡ one_call_later self.old.calls (is_err result) }
+    {
+        if self.calls.begin()
+            || self.disks.is_empty()
+            || note_disk_to_read(&mut self.asked, path).is_err()
+        {
+            self.calls.count_fault();
+            return Err(Failed);
+        }
+        Ok(take_first(&mut self.disks))
     }
 
     fn disk(&mut self, path: &Txt) -> Result<MemDisk, Failed>

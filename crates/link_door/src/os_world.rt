@@ -1,20 +1,31 @@
 ghost use Rattle.std.specs.Prelude.{◌≡◌, ◌≤◌, [], None, length, IfOk};
 ghost use Rattle.rtb_base.specs.Faults.{one_more};
 
-use crate::asked::{Asked, note_disk, note_doors};
+use crate::asked::{Asked, note_disk, note_disk_to_read, note_doors};
 use crate::tcp::TcpDoor;
 use crate::world::{World, WorldFault};
 use rtb_disk::FileDisk;
 use rtb_num::{Failed, List, Txt};
 use std::alloc::{AllocError, Global};
+use std::fs::{self, File, OpenOptions, TryLockError};
+use std::io::Write;
 use std::net::TcpListener;
+use std::time::Duration;
+
+// How many milliseconds a peer may take for a message, and to take a byte of an answer.
+const PATIENCE: u64 = 60_000;
 
 /// The network, the files and the clock of the system.
+///
+/// A file that is handed out to be written has the system's lock from before it is read until the world is let go of, or
+/// its process ends: no second process gets it so. Why a file was not handed out is said on standard error.
 #[derive(Drop)]
 pub struct OsWorld<'r> {
     rt: &'r HostRuntime,
     asked: List<Asked>,
     faults: u64,
+    // A handle of each file that may be written, which holds its lock.
+    locks: Vec<File>,
 }
 
 impl<'r> OsWorld<'r> {
@@ -27,6 +38,7 @@ impl<'r> OsWorld<'r> {
             rt,
             asked: List::new(rt.alloc()),
             faults: 0,
+            locks: Vec::new(rt.alloc()),
         }
     }
 
@@ -73,9 +85,19 @@ impl<'r> World for OsWorld<'r> {
         }
     }
 
+    fn disk_to_read(&mut self, path: &Txt) -> Result<FileDisk, Failed> {
+        if note_disk_to_read(&mut self.asked, path).is_ok() {
+            if let Some(disk) = open_to_read(self.rt, path) {
+                return Ok(disk);
+            }
+        }
+        self.count_fault();
+        Err(Failed)
+    }
+
     fn disk(&mut self, path: &Txt) -> Result<FileDisk, Failed> {
         if note_disk(&mut self.asked, path).is_ok() {
-            if let Some(disk) = open(self.rt, path) {
+            if let Some(disk) = open_alone(self.rt, path, &mut self.locks) {
                 return Ok(disk);
             }
         }
@@ -103,12 +125,67 @@ fn doors_over<'r>(
         let Ok(clone) = listener.try_clone() else {
             return Err(WorldFault::Failed);
         };
-        doors.push(TcpDoor::new(clone, rt))?;
+        doors.push(TcpDoor::new(clone, rt, Duration::from_millis(PATIENCE)))?;
     }
     Ok(doors)
 }
 
-fn open(rt: &HostRuntime, path: &Txt) -> Option<FileDisk> {
+// The file, made where it is missing, once it is locked for this process alone.
+fn open_alone(rt: &HostRuntime, path: &Txt, locks: &mut Vec<File>) -> Option<FileDisk> {
     let path = str::from_utf8(path.as_bytes()).ok()?;
-    FileDisk::open(rt, path).ok()
+    if is_no_file(rt, path) {
+        return None;
+    }
+    let disk = FileDisk::open(rt, path).ok()?;
+    let lock = locked(rt, path)?;
+    locks.push(lock).ok()?;
+    Some(disk)
+}
+
+// A handle of the file that holds its lock. None, which is said, where another handle has it, mostly of another process.
+fn locked(rt: &HostRuntime, path: &str) -> Option<File> {
+    let file = OpenOptions::new()
+        .read(true)
+        .write(true)
+        .open(rt, path)
+        .ok()?;
+    match file.try_lock() {
+        Ok(()) => Some(file),
+        Err(TryLockError::WouldBlock) => {
+            say(rt, path, b" is open to be written already\n");
+            None
+        }
+        Err(TryLockError::Error(_)) => {
+            say(rt, path, b" cannot be locked\n");
+            None
+        }
+    }
+}
+
+// The file, where there is one, to be read alone.
+fn open_to_read(rt: &HostRuntime, path: &Txt) -> Option<FileDisk> {
+    let path = str::from_utf8(path.as_bytes()).ok()?;
+    if is_no_file(rt, path) {
+        return None;
+    }
+    FileDisk::open_to_read(rt, path).ok()
+}
+
+// Whether the name is of something else than a file, as a folder, a pipe, at which opening would wait, or a device.
+fn is_no_file(rt: &HostRuntime, path: &str) -> bool {
+    match fs::metadata(rt, path) {
+        Ok(found) if !found.is_file() => {
+            say(rt, path, b" is no file\n");
+            true
+        }
+        _ => false,
+    }
+}
+
+// Says it of the file on standard error, where that can be written.
+fn say(rt: &HostRuntime, path: &str, what: &[u8]) {
+    let mut errors = rt.stderr();
+    let _ = errors.write_all(b"rtbx: ");
+    let _ = errors.write_all(path.as_bytes());
+    let _ = errors.write_all(what);
 }

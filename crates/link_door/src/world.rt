@@ -32,9 +32,9 @@ impl From<AllocError> for WorldFault {
 
 /// The outside of a program: where its doors and disks come from.
 pub trait World {
-    type Door: Door;
+    type Door: Door + Drop + Send;
 
-    type Disk: Disk;
+    type Disk: Disk + Send;
 
     // The doors and the disks that are left, where that is known.
     ghost doors_left: { Self → Option (List Self.Door) };
@@ -61,6 +61,13 @@ pub trait World {
         ensures asks { Asks (asked self.old) (asked self.new) (asked_for.Doors address.now n) result }
         ensures cause { RisesOnlyWhere (result ≡ Err WorldFault.Failed) (faults self.old) (faults self.new) }
         ensures once { RoseAtMost 1 (faults self.old) (faults self.new) };
+
+    /// The disk with this name, where there is one, to be read alone: none is made.
+    fn disk_to_read(&mut self, path: &Txt) -> Result<Self::Disk, Failed>
+        ensures disks { MatchResult result (λ disk. HandsOut (disks_left self.old) (disks_left self.new) (disk ∷ [])) (λ _. disks_left self.new ≡ disks_left self.old) }
+        ensures doors { doors_left self.new ≡ doors_left self.old }
+        ensures asks { Asks (asked self.old) (asked self.new) (asked_for.DiskToRead path.now) result }
+        ensures cause { CountsErrors (faults self.old) (faults self.new) result };
 
     /// The disk with this name.
     fn disk(&mut self, path: &Txt) -> Result<Self::Disk, Failed>

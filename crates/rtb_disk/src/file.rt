@@ -31,6 +31,16 @@ impl FileDisk {
         }
     }
 
+    /// The file with this name, where there is one and it is no folder, to be read alone: each write of it fails.
+    pub fn open_to_read(rt: &HostRuntime, path: &str) -> Result<FileDisk, Failed>
+        ensures { IfOk result (λ d. ⟦<FileDisk as Disk>⟧.faults d ≡ 0) }
+    {
+        match open_old(rt, path) {
+            Ok(Some(file)) => Ok(FileDisk { file, faults: 0 }),
+            _ => Err(Failed),
+        }
+    }
+
     // Counts a fault.
     fn fault(&mut self) -> Failed
         ensures kept { self.old.faults ≤ self.new.faults }
@@ -49,6 +59,13 @@ impl FileDisk {
             Err(_) => Err(self.fault()),
         }
     }
+}
+
+// The file, where it is no folder.
+fn open_old(rt: &HostRuntime, path: &str) -> io::Result<Option<fs::File>> {
+    let file = fs::File::open(rt, path)?;
+    let found = file.metadata()?;
+    Ok(if found.is_dir() { None } else { Some(file) })
 }
 
 // The file, and its folder synced.

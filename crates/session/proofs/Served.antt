@@ -19,7 +19,7 @@ use Rattle.session.specs.declared.service.Given.{Given}
 use Rattle.session.specs.declared.receive.Received.TheVariants as received
 use Rattle.session.specs.Receives.{Costs, Grows, IsReceived, IsEnd, IsMemoryEnd, IsTail, IsTurn, SendsTail, Talking, TurnEnds}
 use Rattle.session.specs.Streams.{is_last, most_messages}
-use Rattle.session.specs.Talk.{EndsSo, GoesOn, IsOver, IsServed, Sends, Talks, Turn, in_tail, in_turn, bodies, memory_closes, refusal_text, texts}
+use Rattle.session.specs.Talk.{EndsSo, GoesOn, IsOver, IsServed, Sends, Talks, Turn, in_tail, in_turn, bodies, memory_closes, refusal_closes, texts}
 use Rattle.session.proofs.Ends.{stream_of}
 use Rattle.session.proofs.Talks.{bodies_more, goes_more, talks_more, talks_on, texts_more}
 
@@ -98,7 +98,7 @@ pub refused_so : (left : Option (List ℕ)) (turns : List Turn) (rest : List ℕ
 refused_so left turns rest status word tail link.Done goes decides is = absurd is
 refused_so left turns rest status word tail (link.Cut held) goes decides is = absurd is
 refused_so left turns rest status word tail (link.Refused s) goes decides is =
-    (goes, (word, subst (λ k. Decides rest (Refused k word)) (sym is.0) decides, is.1 ∙ ap (λ k. refusal_text k word) (sym is.0)))
+    (goes, (word, subst (λ k. Decides rest (Refused k word)) (sym is.0) decides, is.1 ∙ ap (λ k. refusal_closes k word) (sym is.0)))
 refused_so left turns rest status word tail link.Asked goes decides is = absurd is
 refused_so left turns rest status word tail link.Spent goes decides is = absurd is
 refused_so left turns rest status word tail link.NoMemory goes decides is = (goes, inr is)

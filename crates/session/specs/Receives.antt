@@ -14,7 +14,7 @@ use Rattle.session.specs.declared.receive.More.TheVariants as more
 use Rattle.session.specs.declared.link_end.LinkEnd.{LinkEnd}
 use Rattle.session.specs.declared.link_end.LinkEnd.TheVariants as link
 use Rattle.session.specs.Streams.{IsBlank, is_last, most_messages}
-use Rattle.session.specs.Talk.{IsOver, IsText, GoesOn, Talks, Turn, bodies, memory_closes, refusal_text, texts}
+use Rattle.session.specs.Talk.{IsOver, IsText, GoesOn, Talks, Turn, bodies, memory_closes, refusal_closes, texts}
 use Rattle.session.specs.declared.service.Given.{Given}
 
 -- more bytes are held, and the link gave them
@@ -52,9 +52,9 @@ pub record IsReceived (left left' : Option (List ℕ)) (held now : List ℕ) (st
 
 -- what is sent behind the last text, and how the link ends then
 abbrev pub IsTail : ℕ → List ℕ → List ℕ → LinkEnd → Type 0
-IsTail status word tail (link.Refused s) = (s ≡ status) × (tail ≡ refusal_text status word)
+IsTail status word tail (link.Refused s) = (s ≡ status) × (tail ≡ refusal_closes status word)
 IsTail status word tail link.NoMemory = tail ≡ memory_closes
-IsTail status word tail link.LinkFailed = (tail ≡ memory_closes) ⊎ (tail ≡ refusal_text status word)
+IsTail status word tail link.LinkFailed = (tail ≡ memory_closes) ⊎ (tail ≡ refusal_closes status word)
 IsTail status word tail link.Done = ⊥
 IsTail status word tail (link.Cut over) = ⊥
 IsTail status word tail link.Asked = ⊥

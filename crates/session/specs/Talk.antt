@@ -60,8 +60,8 @@ module _ {S : Type 0} (Answers : S → Message → Given → S → Type 0) where
       (mid : S) × (used : ℕ) × Decides bytes (Got turn.message used) × Answers before turn.message turn.given mid
       × IsText turn.given (is_last (n + 1) turn.message) turn.text × Talks (n + 1) mid (drop used bytes) turns after rest
 
-abbrev pub refusal_text : ℕ → List ℕ → List ℕ
-refusal_text status word = answer_text (error_answer status word) true
+abbrev pub refusal_closes : ℕ → List ℕ → List ℕ
+refusal_closes status word = answer_text (error_answer status word) true
 
 abbrev pub memory_closes : List ℕ
 memory_closes = answer_text (memory_answer false) true
@@ -75,12 +75,12 @@ IsOver left rest = IsAtEnd left × IsUndecided rest
 abbrev pub EndsSo : Option (List ℕ) → List Turn → List ℕ → List ℕ → LinkEnd → Type 0
 EndsSo left turns rest tail link.Done = GoesOn 0 turns × IsOver left rest × IsBlank rest × (tail ≡ [])
 EndsSo left turns rest tail (link.Cut over) = GoesOn 0 turns × IsOver left rest × (IsBlank rest → ⊥) × (over ≡ rest) × (tail ≡ [])
-EndsSo left turns rest tail (link.Refused status) = GoesOn 0 turns × ((word : List ℕ) × Decides rest (Refused status word) × (tail ≡ refusal_text status word))
+EndsSo left turns rest tail (link.Refused status) = GoesOn 0 turns × ((word : List ℕ) × Decides rest (Refused status word) × (tail ≡ refusal_closes status word))
 EndsSo left turns rest tail link.Asked = ((last : Turn) × EndsWith turns last × (last.message.closes ≡ true)) × (tail ≡ [])
 EndsSo left turns rest tail link.Spent = ((last : Turn) × EndsWith turns last × (last.message.closes ≡ false)) × (length turns ≡ most_messages) × (tail ≡ [])
 EndsSo left turns rest tail link.NoMemory = GoesOn 0 turns × ((tail ≡ []) ⊎ (tail ≡ memory_closes))
 EndsSo left turns rest tail link.LinkFailed = (GoesOn 0 turns ⊎ ((last : Turn) × EndsWith turns last))
-    × ((tail ≡ []) ⊎ ((tail ≡ memory_closes) ⊎ ((status : ℕ) × (word : List ℕ) × Decides rest (Refused status word) × (tail ≡ refusal_text status word))))
+    × ((tail ≡ []) ⊎ ((tail ≡ memory_closes) ⊎ ((status : ℕ) × (word : List ℕ) × Decides rest (Refused status word) × (tail ≡ refusal_closes status word))))
 
 -- The texts of these turns and the tail, where the link failed: all were sent whole but for the last one that it was
 -- sent, of which a front went. That is the tail, or the text of the last turn where nothing comes behind it.

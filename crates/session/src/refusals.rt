@@ -3,7 +3,7 @@ ghost use Rattle.std.specs.Prelude.{◌≡◌, ◌++◌, ℕ, List, IfOk, OnOk};
 ghost use Rattle.http_wire.specs.Answers.{IsWritable, error_answer, error_body};
 ghost use Rattle.rtb_base.specs.Faults.{RisesOnlyWhere, RoseAtMost};
 ghost use Rattle.session.specs.Receives.{IsMemoryEnd, IsTail, SendsTail};
-ghost use Rattle.session.specs.Talk.{memory_closes, refusal_text};
+ghost use Rattle.session.specs.Talk.{memory_closes, refusal_closes};
 
 use crate::link_end::LinkEnd;
 use crate::send::send_all;
@@ -39,7 +39,7 @@ pub(crate) fn refuse<L: Link>(
 // Appends the answer to what is no message.
 fn write_refusal(alloc: Global, status: u16, word: &Txt, out: &mut Txt) -> Result<(), AllocError>
     requires { IsWritable (error_answer status word.now) }
-    ensures { OnOk result (out.new ≡ out.old ++ refusal_text status word.now) }
+    ensures { OnOk result (out.new ≡ out.old ++ refusal_closes status word.now) }
 {
     let body = error_body(alloc, word.as_bytes())?;
     let answer = Answer {
