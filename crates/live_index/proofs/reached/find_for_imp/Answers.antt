@@ -4,9 +4,9 @@ use Rattle.std.proofs.lemmas.Result.{IfOk-from_err}
 use Rattle.assign.specs.Rows.{pairs_of}
 use Rattle.auction_core.specs.Core.{listed}
 use Rattle.conj_index.specs.Find.{find_cost, true_under}
-use Rattle.core_index.specs.Reached.{live_expressions}
-use Rattle.core_index.proofs.Reaching.{found_by_index}
-use Rattle.core_index.proofs.reached.find_for_imp.Goals as goal
+use Rattle.live_index.specs.Reached.{live_expressions}
+use Rattle.live_index.proofs.Reaching.{found_by_index}
+use Rattle.live_index.proofs.reached.find_for_imp.Goals as goal
 
 pub returns-clause-answer : goal.returns-clause-answer
 returns-clause-answer g c = λ i at s is.

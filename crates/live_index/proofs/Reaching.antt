@@ -16,7 +16,7 @@ use Rattle.rtb_types.specs.declared.request.Imp.{Imp}
 use Rattle.target_expr.specs.declared.attr.Attr.{Attr}
 use Rattle.target_expr.specs.declared.pred.Pred.{Pred}
 use Rattle.target_expr.specs.Truth.{holds}
-use Rattle.core_index.specs.Reached.{live_expression, live_expressions}
+use Rattle.live_index.specs.Reached.{live_expression, live_expressions}
 
 abbrev Pairs : Type 0
 Pairs = List (Attr × List ℕ)

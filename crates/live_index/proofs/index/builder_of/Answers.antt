@@ -1,9 +1,9 @@
 use Rattle.std.proofs.Common.{◌∙◌, ◌++◌, ◌+◌, ◌∷◌, [], ◌<◌, ◌≤◌, ℕ, List, All, length, ap, sym, subst, arith}
 use Rattle.conj_index.specs.Campaigns.{Campaigns, conjunctions_in}
 use Rattle.target_expr.specs.declared.pred.Pred.{Pred}
-use Rattle.core_index.specs.Reached.{live_expression}
-use Rattle.core_index.proofs.Fronts as fronts
-use Rattle.core_index.proofs.index.builder_of.Goals as goal
+use Rattle.live_index.specs.Reached.{live_expression}
+use Rattle.live_index.proofs.Fronts as fronts
+use Rattle.live_index.proofs.index.builder_of.Goals as goal
 
 pub add_where_live-requires-clause-above : goal.add_where_live-requires-clause-above
 add_where_live-requires-clause-above g c =

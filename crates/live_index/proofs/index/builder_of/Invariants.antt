@@ -1,6 +1,6 @@
 use Rattle.std.proofs.Common.{◌≡◌, ◌≤◌, ◌+◌}
-use Rattle.core_index.proofs.Fronts.{first_live}
-use Rattle.core_index.proofs.index.builder_of.Given as goal
+use Rattle.live_index.proofs.Fronts.{first_live}
+use Rattle.live_index.proofs.index.builder_of.Given as goal
 
 -- the live ones among the campaigns so far, and a step for each
 abbrev pub invariant-loop-place : goal.invariant-loop-place

@@ -14,7 +14,7 @@ use Rattle.campaign_store.specs.declared.listed.Listed.{Listed}
 use Rattle.campaign_store.specs.declared.record.Record.{Record}
 use Rattle.conj_index.specs.Campaigns.{Campaigns, conjunctions_in, expression_of}
 use Rattle.target_expr.specs.declared.pred.Pred.{Pred}
-use Rattle.core_index.specs.Reached.{live_expression, live_expressions}
+use Rattle.live_index.specs.Reached.{live_expression, live_expressions}
 
 -- those among the first so many
 abbrev pub first_live : ℕ → List Listed → Campaigns

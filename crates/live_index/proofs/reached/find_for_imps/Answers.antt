@@ -1,10 +1,10 @@
 use Rattle.std.proofs.Common.{◌∙◌, ◌<◌, length, map, ap, arith}
 use Rattle.std.proofs.lemmas.List.{take_all}
 use Rattle.auction_core.specs.Draft.{found_for}
-use Rattle.core_index.specs.Reached.{imp_cost}
-use Rattle.core_index.proofs.Fronts.{item_at}
-use Rattle.core_index.proofs.Reaching.{cost_of_front, cost_of_one_more, cost_within, pushed}
-use Rattle.core_index.proofs.reached.find_for_imps.Goals as goal
+use Rattle.live_index.specs.Reached.{imp_cost}
+use Rattle.live_index.proofs.Fronts.{item_at}
+use Rattle.live_index.proofs.Reaching.{cost_of_front, cost_of_one_more, cost_within, pushed}
+use Rattle.live_index.proofs.reached.find_for_imps.Goals as goal
 
 pub loop-imp-preserved : goal.loop-imp-preserved
 loop-imp-preserved g c =

@@ -3,7 +3,7 @@ ghost use Rattle.std.specs.Prelude.{◌≡◌, ◌≤◌, ◌<◌, ◌+◌, IfOk
 ghost use Rattle.auction_core.specs.Core.{listed};
 ghost use Rattle.auction_core.specs.Draft.{found_for, found_of};
 ghost use Rattle.conj_index.specs.Content.{IsIndexOf};
-ghost use Rattle.core_index.specs.Reached.{imp_cost, live_expressions, reach_cost};
+ghost use Rattle.live_index.specs.Reached.{imp_cost, live_expressions, reach_cost};
 ghost use Rattle.plain_exchange.specs.State.{State};
 ghost use Rattle.rtb_types.specs.declared.request.Imp.{Imp as Impression};
 

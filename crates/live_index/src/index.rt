@@ -4,7 +4,7 @@ ghost use Rattle.campaign_store.specs.Table.{campaign_at};
 ghost use Rattle.campaign_store.specs.declared.listed.Listed.{Listed as AListed};
 ghost use Rattle.conj_index.specs.Campaigns.{conjunctions_in};
 ghost use Rattle.conj_index.specs.Content.{IsIndexOf};
-ghost use Rattle.core_index.specs.Reached.{index_cost, live_expression, live_expressions};
+ghost use Rattle.live_index.specs.Reached.{index_cost, live_expression, live_expressions};
 
 use campaign_store::Table;
 use conj_index::{Builder, Index, IndexFault};

@@ -3,9 +3,9 @@ use Rattle.std.specs.Prelude.{sum_by}
 use Rattle.auction_core.specs.Core.{listed}
 use Rattle.auction_core.specs.Draft.{found_for}
 use Rattle.conj_index.specs.Content.{IsIndexOf}
-use Rattle.core_index.specs.Reached.{imp_cost, live_expressions}
+use Rattle.live_index.specs.Reached.{imp_cost, live_expressions}
 use Rattle.plain_exchange.specs.State.{State}
-use Rattle.core_index.proofs.reached.find_for_imps.Given as goal
+use Rattle.live_index.proofs.reached.find_for_imps.Given as goal
 
 -- the numbers for the impressions so far, and what they cost
 abbrev pub invariant-loop-imp : goal.invariant-loop-imp
