@@ -7,7 +7,7 @@ ghost use Rattle.exchange_state.specs.Standing.{StandsFor, store_in};
 ghost use Rattle.exchange_state.specs.declared.entries.Origin.{Origin};
 ghost use Rattle.hist_lock.specs.Views.{first_seat};
 ghost use Rattle.plain_exchange.specs.declared.changes.Effect.{Effect};
-ghost use Rattle.recovery.specs.Openings.{Opens as IsOpenedAs};
+ghost use Rattle.recovery.specs.Openings.{IsUnwritten, Opens as IsOpenedAs};
 ghost use Rattle.recovery.specs.Texts.{HasText};
 ghost use Rattle.rtb_disk.specs.Stores.{Always, settled};
 ghost use Rattle.rtb_base.specs.Faults.{Rose};
@@ -52,7 +52,7 @@ impl<D: Disk> Exchange<D> {
     ghost use Rattle.exchange_state.specs.Costs.{most_version_cost};
     ghost use Rattle.hist_lock.specs.Views.{first_seat};
     ghost use Rattle.plain_exchange.specs.declared.changes.Effect.{Effect};
-    ghost use Rattle.recovery.specs.Openings.{Opens as IsOpenedAs};
+    ghost use Rattle.recovery.specs.Openings.{IsUnwritten, Opens as IsOpenedAs};
     ghost use Rattle.recovery.specs.Texts.{HasText};
     ghost use Rattle.rtb_disk.specs.Stores.{Always, settled};
     ghost use Rattle.rtb_base.specs.Faults.{Rose};
@@ -76,6 +76,7 @@ impl<D: Disk> Exchange<D> {
         ensures damaged { (D.store disk).told ≡ true → IfErr result (λ e. IsOpenedAs (D.store disk).reads (Err e.1)) }
         // A crash at any moment of it leaves a file that says the same.
         ensures any_moment { (D.store disk).told ≡ true → (effects : List Effect) → HasText (D.store disk).reads effects → IfErr result (λ e. (D.store e.0 ≡ D.store disk) ⊎ Always (λ image. HasText image effects) (settled (D.store disk)) (D.store e.0)) }
+        ensures unwritten { IfErr result (λ e. e.1 ≢ JournalFault.DiskFailed → e.1 ≢ JournalFault.Memory → IsUnwritten (D.store disk) (D.store e.0)) }
         ensures cause { IfErr result (λ e. e.1 ≡ JournalFault.DiskFailed → Rose (D.faults disk) (D.faults e.0)) }
         ensures quiet { IfErr result (λ e. e.1 ≢ JournalFault.DiskFailed → D.faults e.0 ≡ D.faults disk) }
         ensures cost { steps.new ≤ steps.old + most_version_cost }
@@ -96,6 +97,7 @@ fn open<D: Disk, L: Ledger, N: Opens>(
     ensures origin { IfOk result (λ r. N.opened r.1.origin) }
     ensures damaged { (D.store disk).told ≡ true → IfErr result (λ e. IsOpenedAs (D.store disk).reads (Err e.1)) }
     ensures any_moment { (D.store disk).told ≡ true → (effects : List Effect) → HasText (D.store disk).reads effects → IfErr result (λ e. (D.store e.0 ≡ D.store disk) ⊎ Always (λ image. HasText image effects) (settled (D.store disk)) (D.store e.0)) }
+    ensures unwritten { IfErr result (λ e. e.1 ≢ JournalFault.DiskFailed → e.1 ≢ JournalFault.Memory → IsUnwritten (D.store disk) (D.store e.0)) }
     ensures cause { IfErr result (λ e. e.1 ≡ JournalFault.DiskFailed → Rose (D.faults disk) (D.faults e.0)) }
     ensures quiet { IfErr result (λ e. e.1 ≢ JournalFault.DiskFailed → D.faults e.0 ≡ D.faults disk) }
     ensures cost { steps.new ≤ steps.old + most_version_cost }

@@ -60,6 +60,7 @@ impl<D: Disk> ExchangeState<D> {
         ensures any_moment { (store_read reading).told ≡ true → (effects : AList AnEffect) → HasText (reads_of reading) effects → MatchResult result
             (λ x. Always (λ image. HasText image effects) (store_read reading) (store_in x))
             (λ e. Always (λ image. HasText image effects) (store_read reading) (D.store e.0)) }
+        ensures unwritten { IfErr result (λ e. e.1 ≢ JournalFault.DiskFailed → e.1 ≢ JournalFault.Memory → D.store e.0 ≡ store_read reading) }
         ensures cause { IfErr result (λ e. e.1 ≡ JournalFault.DiskFailed → Rose (faults_read reading) (D.faults e.0)) }
         ensures quiet { IfErr result (λ e. e.1 ≢ JournalFault.DiskFailed → D.faults e.0 ≡ faults_read reading) }
         ensures cost { IfOk result (λ x. (o : AnOrigin) → StandsFor o x [] → steps.new ≤ steps.old + version_cost (live_records (listed (opening o)))) }

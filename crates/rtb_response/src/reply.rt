@@ -148,8 +148,8 @@ fn report_reply(
     closed(200, writer, done)
 }
 
-// Begins the object of a report, before which nothing is written.
-fn put_report(
+/// Begins the object of a report of campaign `n`, before which nothing is written.
+pub fn put_report(
     writer: &mut Writer,
     n: u32,
     live: bool,
@@ -169,8 +169,12 @@ fn put_report(
     Ok(())
 }
 
-// The answer whose body is the object, where all of it could be written.
-fn closed(status: u16, writer: Writer, done: Result<(), AllocError>) -> Result<Answer, AllocError>
+/// The answer whose body is the object that was begun, where all of it could be written so far.
+pub fn closed(
+    status: u16,
+    writer: Writer,
+    done: Result<(), AllocError>,
+) -> Result<Answer, AllocError>
     requires ends { OnOk done (IsTrue (can_end writer)) }
     requires whole { OnOk done (IsTrue (is_whole (end writer))) }
     ensures { (a : _) → OnOk done (answer_with status (end writer).text ≡ a) → IfOk result (λ r. r ≡ a) }
@@ -179,7 +183,8 @@ fn closed(status: u16, writer: Writer, done: Result<(), AllocError>) -> Result<A
     close(status, writer)
 }
 
-fn error_reply(alloc: Global, status: u16, word: &[u8]) -> Result<Answer, AllocError>
+/// The answer of an error, by its word alone.
+pub fn error_reply(alloc: Global, status: u16, word: &[u8]) -> Result<Answer, AllocError>
     ensures { IfOk result (λ a. a ≡ error_answer status word.now []) }
 {
     let mut writer = object(alloc)?;
