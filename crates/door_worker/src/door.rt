@@ -7,6 +7,7 @@ ghost use Rattle.rtb_base.specs.Faults.{RisesOnlyWhere};
 
 use crate::desk::{Desk, converse};
 use crate::worker::{Tools, Worker};
+use conj_index::Scratch;
 use exchange_shared::{Exchange, Seat};
 use link_door::{Door, Pause};
 use rtb_base::Steps;
@@ -58,9 +59,15 @@ pub fn serve_door<D: Disk, R: Wait, G: Door, P: Pause>(
     let mut worker = Worker {
         exchange,
         seat: Some(seat),
+        scratch: Scratch::new(alloc),
     };
     let end = serve_links(&tools, &mut worker, door);
-    let Worker { exchange: _, seat } = worker;
+    let Worker {
+        exchange: _,
+        seat,
+        scratch,
+    } = worker;
+    drop(scratch);
     match seat {
         Some(seat) => (seat, end),
         None => unreachable!(),

@@ -16,6 +16,7 @@ use crate::commands::{given_for, given_unread, is_edit, request_in};
 use crate::worker::Tools;
 use auction_core::{Command, Reply};
 use command_read::read_command;
+use conj_index::Scratch;
 use exchange_shared::{Exchange, Found, Seat, Settled, StoreFailed, Ticket};
 use http_wire::Message;
 use link_door::Pause;
@@ -28,11 +29,12 @@ use std::marker::Brand;
 use std::sync::Wait;
 use std::sync::ledger::{Blank, Ledger};
 
-/// Answers the message, which is taken up at the moment.
+/// Answers the message, which is taken up at the moment. Campaigns are found in the room.
 #[tactic(auto, using(crate::proofs::Answering::valid_as_read))]
 pub(crate) fn answer<'e, D: Disk, R: Wait, P: Pause>(
     exchange: &Exchange<D>,
     tools: &Tools<'e, R, P>,
+    scratch: &mut Scratch,
     seat: Seat<D>,
     message: &Message,
     moment: u64,
@@ -44,7 +46,7 @@ pub(crate) fn answer<'e, D: Disk, R: Wait, P: Pause>(
 {
     match read_command(tools.alloc, message) {
         Ok(command) => {
-            let answered = answer_command(exchange, tools, seat, &command, moment);
+            let answered = answer_command(exchange, tools, scratch, seat, &command, moment);
             drop(command);
             answered
         }
@@ -55,6 +57,7 @@ pub(crate) fn answer<'e, D: Disk, R: Wait, P: Pause>(
 fn answer_command<'e, D: Disk, R: Wait, P: Pause>(
     exchange: &Exchange<D>,
     tools: &Tools<'e, R, P>,
+    scratch: &mut Scratch,
     seat: Seat<D>,
     command: &Command,
     moment: u64,
@@ -65,7 +68,7 @@ fn answer_command<'e, D: Disk, R: Wait, P: Pause>(
     ensures answers { (message : AMessage) → IsCommandOf message (Ok command.now) → AnswersOne tools.now.public.now moment seat message result.1 result.0 }
     ensures writable { IsGivable result.1 }
 {
-    let (seat, settled) = enter(exchange, tools, seat, command, moment);
+    let (seat, settled) = enter(exchange, tools, scratch, seat, command, moment);
     match settled {
         Ok(settled) => conclude(exchange, tools, seat, command, settled),
         Err(AllocError) => (seat, Given::Memory),
@@ -76,6 +79,7 @@ fn answer_command<'e, D: Disk, R: Wait, P: Pause>(
 fn enter<'e, D: Disk, R: Wait, P: Pause>(
     exchange: &Exchange<D>,
     tools: &Tools<'e, R, P>,
+    scratch: &mut Scratch,
     seat: Seat<D>,
     command: &Command,
     moment: u64,
@@ -88,7 +92,7 @@ fn enter<'e, D: Disk, R: Wait, P: Pause>(
     ensures order { IsOrdered result.0.origin result.0.seen }
 {
     match command {
-        Command::Auction(request) => sell(exchange, tools, seat, command, request, moment),
+        Command::Auction(request) => sell(exchange, tools, scratch, seat, command, request, moment),
         _ => edit_or_report(exchange, tools, seat, command, moment),
     }
 }
@@ -97,6 +101,7 @@ fn enter<'e, D: Disk, R: Wait, P: Pause>(
 fn sell<'e, D: Disk, R: Wait, P: Pause>(
     exchange: &Exchange<D>,
     tools: &Tools<'e, R, P>,
+    scratch: &mut Scratch,
     seat: Seat<D>,
     command: &Command,
     request: &BidRequest,
@@ -112,7 +117,7 @@ fn sell<'e, D: Disk, R: Wait, P: Pause>(
 {
     let (seat, ticket) = exchange.begin(tools.rt, seat);
     match ticket {
-        Ok(ticket) => match find::<R, P, Brand>(tools, &ticket, request, Blank::new(1)) {
+        Ok(ticket) => match find::<R, P, Brand>(tools, scratch, &ticket, request, Blank::new(1)) {
             Ok(found) => {
                 tools.pause.between(tools.number);
                 settle::<D, R, P, Brand>(
@@ -138,6 +143,7 @@ fn sell<'e, D: Disk, R: Wait, P: Pause>(
 // What is found in the ticket's version. The steps are not counted.
 fn find<'e, R: Wait, P: Pause, L: Ledger>(
     tools: &Tools<'e, R, P>,
+    scratch: &mut Scratch,
     ticket: &Ticket,
     request: &BidRequest,
     blank: Blank,
@@ -148,7 +154,7 @@ fn find<'e, R: Wait, P: Pause, L: Ledger>(
     ensures { IfOk result (λ f. (added : Campaigns) → IsIndexOf added (version_in ticket.now).index → f.lists ≡ matches added request.now) }
 {
     let mut steps = Steps::<L>::new(blank);
-    ticket.find(tools.alloc, request, &mut steps)
+    ticket.find_with(tools.alloc, scratch, request, &mut steps)
 }
 
 fn settle<'e, D: Disk, R: Wait, P: Pause, L: Ledger>(

@@ -4,6 +4,7 @@ ghost use Rattle.door_worker.specs.Working.{AnswersBy};
 ghost use Rattle.session.specs.Talk.{IsGivable};
 
 use crate::messages::answer;
+use conj_index::Scratch;
 use exchange_shared::{Exchange, Seat};
 use http_wire::Message;
 use link_door::Pause;
@@ -25,11 +26,12 @@ pub(crate) struct Tools<'e, R: Wait, P: Pause> {
     pub number: u32,
 }
 
-// An exchange, and the worker's seat at it.
+// An exchange, the worker's seat at it, and the room in which it finds.
 pub(crate) struct Worker<'e, D: Disk> {
     pub exchange: &'e Exchange<D>,
     // None while a call has it.
     pub seat: Option<Seat<D>>,
+    pub scratch: Scratch,
 }
 
 impl<'e, D: Disk> Model for Worker<'e, D> {
@@ -59,7 +61,14 @@ impl<'e, D: Disk> Worker<'e, D> {
         let Some(seat) = self.seat.take() else {
             return Given::Memory;
         };
-        let (seat, given) = answer(self.exchange, tools, seat, message, moment);
+        let (seat, given) = answer(
+            self.exchange,
+            tools,
+            &mut self.scratch,
+            seat,
+            message,
+            moment,
+        );
         match mem::replace(&mut self.seat, Some(seat)) {
             None => given,
             Some(_) => unreachable!(),

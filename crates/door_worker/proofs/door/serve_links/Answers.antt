@@ -6,7 +6,7 @@ pub loop-init : goal.loop-init
 loop-init g c = record { here = refl; served = serves_none g.G.Link.Link _ _ _ c.requires.seat; faults = refl }
 
 pub serve_next-requires : goal.serve_next-requires
-serve_next-requires g c = record { seat = at_now g.G.Link.Link _ _ _ _ _ c.loop.invariant.served }
+serve_next-requires g c = (c.type_bounds.send-G-Link, at_now g.G.Link.Link _ _ _ _ _ c.loop.invariant.served)
 
 pub loop-preserved : goal.loop-preserved
 loop-preserved g c = record {

@@ -1,5 +1,0 @@
-pub mod Entering
-pub mod Giving
-pub mod Lengths
-pub mod Links
-pub mod Moving

@@ -1,4 +1,0 @@
-use Rattle.one_worker.proofs.door.serve_next.Given as goal
-
-abbrev pub ghosts-serve_one : goal.ghosts-serve_one
-ghosts-serve_one g a = record { name = a.blank.name; parts = a.blank.parts }

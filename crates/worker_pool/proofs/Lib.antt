@@ -1,0 +1,10 @@
+pub mod Closing
+pub mod Counting
+pub mod Finishing
+pub mod Joining
+pub mod Places
+pub mod Seating
+pub mod Sending
+pub mod Serving
+pub mod Solvent
+pub mod Writing
