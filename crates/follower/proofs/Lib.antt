@@ -1,0 +1,8 @@
+mod Asking
+mod Beginning
+mod Effects
+mod Following
+mod Holding
+mod Pieces
+mod Reports
+mod Standing

@@ -1,0 +1,12 @@
+use Rattle.std.proofs.Common.{◌≡◌, ◌<◌, ◌^◌, true, length}
+use Rattle.follower.specs.Following.{GoesOn, IsWithin}
+use Rattle.follower.proofs.follower.Follower.pass_blocks.Given as goal
+
+abbrev pub invariant-loop : goal.invariant-loop
+invariant-loop g l = record {
+  begun : 0 < l.self.gate;
+  goes : GoesOn l.fn.self l.self;
+  same : g.D.Disk.store l.self.disk ≡ g.D.Disk.store l.fn.self.disk;
+  faults : g.D.Disk.faults l.self.disk ≡ g.D.Disk.faults l.fn.self.disk;
+  within : (g.D.Disk.store l.fn.self.disk).told ≡ true → length (g.D.Disk.store l.fn.self.disk).reads < 2 ^ 64 → IsWithin (g.D.Disk.store l.fn.self.disk).reads l.fn.self → IsWithin (g.D.Disk.store l.fn.self.disk).reads l.self;
+}

@@ -1,0 +1,6 @@
+pub mod Doors
+pub mod Following
+pub mod Headers
+pub mod Passing
+pub mod Reading
+pub mod Reporting

@@ -1,0 +1,110 @@
+//! The reports of a follower over HTTP.
+ghost use Rattle.std.specs.Prelude.{◌≡◌, IfOk, MatchResult, false};
+ghost use Rattle.follower.specs.Reading.{report_asked};
+ghost use Rattle.follower.specs.Reporting.{AsksFor};
+ghost use Rattle.http_wire.specs.Answers.{IsWritable};
+
+use crate::answers::{damaged_answer, report_answer};
+use crate::follower::Follower;
+use command_read::{CommandFault, message_has_one_reading, read_command};
+use http_wire::{Answer, Message};
+use journal_file::JournalFault;
+use plain_exchange::Command;
+use rtb_disk::Disk;
+use rtb_response::error_reply;
+use session::{Given, Service};
+use std::alloc::{AllocError, Global};
+
+/// `GET /campaign/N` is answered with the report of campaign N behind all that the journal says by then, with the number
+/// of its effects last. Another path is not found, and any other method is refused: a follower changes nothing.
+impl<D: Disk> Service for Follower<D> {
+    ghost use Rattle.follower.specs.Reporting.{IsAnswer};
+
+    ghost answers = { λ old message given new. IsAnswer D.Disk old message given new };
+
+    fn answer(&mut self, message: &Message) -> Given {
+        if message.method.as_bytes() != b"GET".as_slice() {
+            return given(error_reply(self.alloc, 409, b"read-only"));
+        }
+        match asked_for(self.alloc, message) {
+            Ok(Some(n)) => self.report_to(n),
+            Ok(None) => given(error_reply(self.alloc, 404, b"not-found")),
+            Err(_) => Given::Memory,
+        }
+    }
+}
+
+// The campaign whose report the message asks for, where it does.
+fn asked_for(alloc: Global, message: &Message) -> Result<Option<u64>, AllocError>
+    ensures { IfOk result (AsksFor message.now) }
+{
+    message_has_one_reading(message);
+    match read_command(alloc, message) {
+        Ok(command) => {
+            let asked = report_in(&command);
+            drop(command);
+            Ok(asked)
+        }
+        Err(CommandFault::Refused { refusal }) => {
+            drop(refusal);
+            Ok(None)
+        }
+        Err(CommandFault::Memory) => Err(AllocError),
+    }
+}
+
+fn report_in(command: &Command) -> Option<u64>
+    ensures { result ≡ report_asked command.now }
+{
+    match command {
+        Command::Report(n) => Some(*n),
+        _ => None,
+    }
+}
+
+impl<D: Disk> Follower<D> {
+    ghost use Rattle.std.specs.Prelude.{◌≡◌, IfOk};
+    ghost use Rattle.follower.specs.Following.{state_in};
+    ghost use Rattle.follower.specs.Reporting.{IsReport, found_answer};
+    ghost use Rattle.session.specs.Talk.{IsGivable};
+
+    // The report of campaign `n` behind what the journal says now.
+    fn report_to(&mut self, n: u64) -> Given
+        ensures reports { IsReport D.Disk n self.old self.new result }
+        ensures givable { IsGivable result }
+    {
+        match self.catch_up() {
+            Ok(effects) => given(self.found(n, effects)),
+            Err(JournalFault::DiskFailed) => Given::StoreFailed,
+            Err(JournalFault::Damaged { at }) => given(damaged_answer(self.alloc, at)),
+            Err(JournalFault::Memory) => Given::Memory,
+        }
+    }
+
+    // The report of campaign `n` by what was carried out, so many effects.
+    fn found(&self, n: u64, effects: u64) -> Result<Answer, AllocError>
+        ensures { IfOk result (λ a. a ≡ found_answer (state_in self.now) n effects) }
+    {
+        match self.number(n) {
+            Some(number) => {
+                let report = self.report_at(number);
+                report_answer(self.alloc, number, &report, effects)
+            }
+            None => error_reply(self.alloc, 404, b"no-such-campaign"),
+        }
+    }
+}
+
+// What is given for a message: the answer, where there was memory for it. It tells of no entry.
+fn given(answer: Result<Answer, AllocError>) -> Given
+    requires { IfOk answer IsWritable }
+    ensures { MatchResult answer (λ a. result ≡ Given.Text a false) (λ _. result ≡ Given.Memory) }
+{
+    match answer {
+        Ok(answer) => Given::Text {
+            answer,
+            entered: false,
+        },
+        Err(_) => Given::Memory,
+    }
+}
