@@ -1,0 +1,4 @@
+pub mod Auditing
+pub mod Coming
+pub mod Judging
+pub mod Leading

@@ -1,0 +1,62 @@
+-- When the entries of a trace account for each other: an exchange of one thread, which takes the messages in their order
+-- at their moments, gives these answers, but where its memory or its store fails.
+use Rattle.std.specs.Prelude.{◌≡◌, ◌==◌, ◌&&◌, ◌||◌, ℕ, Bool, true, false, List, [], ◌∷◌, Option, Some, None, Result, Ok, Err, if◌then◌else◌}
+use Rattle.std.specs.Str.{bytes_eq}
+use Rattle.command_read.specs.Commands.{IsCommandOf}
+use Rattle.http_wire.specs.Answers.{memory_answer, store_failed_answer}
+use Rattle.http_wire.specs.declared.answer.Answer.{Answer}
+use Rattle.plain_exchange.specs.State.{State}
+use Rattle.plain_exchange.specs.Step.{step}
+use Rattle.plain_exchange.specs.declared.commands.Command.{Command}
+use Rattle.plain_exchange.specs.declared.commands.Command.TheVariants as command
+use Rattle.rtb_response.specs.Replies.{answer_of}
+use Rattle.rtb_types.specs.declared.request.BidRequest.{BidRequest}
+use Rattle.trace.specs.declared.entry.Entry.{Entry}
+use Rattle.trace.specs.declared.header.Header.{Header}
+
+-- the request of an auction
+abbrev pub request_of : Command → Option BidRequest
+request_of (command.Auction r) = Some r
+request_of (command.Add facts expr) = None
+request_of (command.Change n facts expr) = None
+request_of (command.Pause n) = None
+request_of (command.Resume n) = None
+request_of (command.Report n) = None
+request_of (command.Bill n) = None
+request_of (command.Lose n) = None
+
+-- the entry tells this answer: its status and its body
+abbrev pub tells : Entry → Answer → Bool
+tells e a = (e.status == a.status) && bytes_eq e.answer a.body
+
+-- what is answered where a command was carried out, and its store or the memory for its answer failed
+abbrev pub tells_failure : Entry → Bool
+tells_failure e = tells e store_failed_answer || tells e (memory_answer true)
+
+-- an answer that says nothing of the exchange
+abbrev pub passes : Entry → Bool
+passes e = tells e (memory_answer false) || tells_failure e
+
+-- the answer of an exchange of one thread to the command
+unfoldable pub answer_at : Header → State → ℕ → Command → Answer
+answer_at h s moment c = answer_of (request_of c) (Some h.public) (step h.ttl moment s c).reply
+
+unfoldable pub state_behind : Header → State → ℕ → Command → State
+state_behind h s moment c = (step h.ttl moment s c).after
+
+-- The state behind an entry whose message is this command, or is refused so; none where the entry does not account for
+-- its answer.
+abbrev pub account : Header → State → Entry → Result Command Answer → Option State
+account h s e (Err refusal) = if tells e refusal then Some s else None
+account h s e (Ok c) = if tells_failure e || tells e (answer_at h s e.moment c) then Some (state_behind h s e.moment c) else None
+
+-- What the entry leads to. Where memory was wanting before, nothing was done, whatever the message is; else it is by
+-- what the message is.
+pub data LeadsTo (h : Header) (s : State) (e : Entry) (after : Option State) : Type 0 where
+  undone : tells e (memory_answer false) ≡ true → after ≡ Some s → LeadsTo h s e after
+  done : tells e (memory_answer false) ≡ false → (found : Result Command Answer) → IsCommandOf e.message found → account h s e found ≡ after → LeadsTo h s e after
+
+-- the entries account for themselves, one behind the other, from the state to the state
+abbrev pub Accounts : Header → State → List Entry → State → Type 0
+Accounts h s [] t = t ≡ s
+Accounts h s (e ∷ es) t = (mid : State) × LeadsTo h s e (Some mid) × Accounts h mid es t

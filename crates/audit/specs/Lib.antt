@@ -1,0 +1,4 @@
+pub mod Accounts
+pub mod Verdicts
+pub mod Inputs
+pub mod Standing

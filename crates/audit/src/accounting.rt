@@ -1,0 +1,171 @@
+//! Whether an entry accounts for its answer.
+ghost use Rattle.std.specs.Prelude.{◌≡◌, ◌==◌, ◌&&◌, ◌||◌, ◌<◌, ◌^◌, false, IfOk, IsTrue, None, Ok, OnOk, Some, if◌then◌else◌};
+ghost use Rattle.std.specs.Option.{option_copied};
+ghost use Rattle.std.specs.Str.{bytes_eq};
+ghost use Rattle.auction_core.specs.Draft.{found_of, is_valid_command};
+ghost use Rattle.audit.specs.Accounts.{LeadsTo, account as accounted, passes, request_of, tells, tells_failure};
+ghost use Rattle.http_wire.specs.Answers.{memory_answer};
+ghost use Rattle.plain_exchange.specs.Step.{step};
+ghost use Rattle.rtb_response.specs.Replies.{answer_of};
+
+use auction_core::{Command, Core, Reply};
+use command_read::{CommandFault, read_command};
+use http_wire::Answer;
+use rtb_num::List;
+use rtb_response::write_reply;
+use rtb_types::BidRequest;
+use std::alloc::{AllocError, Global};
+use trace::{Entry, Header};
+
+// The edits of a table are fewer than this, since no exchange comes to so many.
+const MOST_EDITS: u64 = 1 << 63;
+
+/// Whether the entry accounts for its answer. Where it does, the exchange has taken its message.
+#[tactic(auto, using(crate::proofs::Leading::valid_as_read))]
+pub fn account(
+    alloc: Global,
+    core: &mut Core,
+    header: &Header,
+    entry: &Entry,
+) -> Result<bool, AllocError>
+    requires ttl { core.old.ttl ≡ header.now.ttl }
+    ensures leads { IfOk result (λ accounts. LeadsTo header.now core.old.state entry.now (if accounts then Some core.new.state else None)) }
+    ensures ttl { core.new.ttl ≡ core.old.ttl }
+{
+    if tells_memory(entry) {
+        return Ok(true);
+    }
+    match read_command(alloc, &entry.message) {
+        Ok(command) => {
+            let accounts = account_command(alloc, core, header, entry, &command);
+            drop(command);
+            accounts
+        }
+        Err(CommandFault::Refused { refusal }) => Ok(tells_answer(entry, &refusal)),
+        Err(CommandFault::Memory) => Err(AllocError),
+    }
+}
+
+/// Whether the answer says nothing of the exchange.
+pub fn passes(entry: &Entry) -> bool
+    ensures { result ≡ passes entry.now }
+{
+    tells_memory(entry) || tells_failure(entry)
+}
+
+#[tactic(auto, using(crate::proofs::Leading::accounts_so))]
+fn account_command(
+    alloc: Global,
+    core: &mut Core,
+    header: &Header,
+    entry: &Entry,
+    command: &Command,
+) -> Result<bool, AllocError>
+    requires valid { IsTrue (is_valid_command command.now) }
+    requires ttl { core.old.ttl ≡ header.now.ttl }
+    ensures leads { IfOk result (λ accounts. accounted header.now core.old.state entry.now (Ok command.now) ≡ (if accounts then Some core.new.state else None)) }
+    ensures ttl { core.new.ttl ≡ core.old.ttl }
+{
+    let reply = carry_out(alloc, core, command, entry.moment)?;
+    let accounts = tells_so(alloc, header, entry, command, &reply);
+    drop(reply);
+    accounts
+}
+
+// Carries the command out, by a look at every live campaign where it is an auction.
+fn carry_out(
+    alloc: Global,
+    core: &mut Core,
+    command: &Command,
+    moment: u64,
+) -> Result<Reply, AllocError>
+    requires valid { IsTrue (is_valid_command command.now) }
+    ensures reply { IfOk result (λ r. r ≡ (step core.old.ttl moment core.old.state command.now).reply) }
+    ensures state { OnOk result (core.new.state ≡ (step core.old.ttl moment core.old.state command.now).after) }
+    ensures ttl { core.new.ttl ≡ core.old.ttl }
+{
+    if core.table().edits() >= MOST_EDITS {
+        return Err(AllocError);
+    }
+    let found = find_for(alloc, core, command)?;
+    let draft = core.prepare(alloc, command, found.as_slice(), moment)?;
+    drop(found);
+    Ok(core.commit(draft))
+}
+
+// The live campaigns whose expressions are true of an auction's impressions.
+fn find_for(alloc: Global, core: &Core, command: &Command) -> Result<Vec<List<u32>>, AllocError>
+    ensures { IfOk result (λ found. found.items ≡ found_of core.now.state command.now) }
+{
+    match command {
+        Command::Auction(request) => core.scan(alloc, request),
+        _ => Ok(Vec::new(alloc)),
+    }
+}
+
+// Whether the entry tells the answer to the reply, or that the exchange failed behind it.
+fn tells_so(
+    alloc: Global,
+    header: &Header,
+    entry: &Entry,
+    command: &Command,
+    reply: &Reply,
+) -> Result<bool, AllocError>
+    ensures { IfOk result (λ r. r ≡ (tells_failure entry.now || tells entry.now (answer_of (request_of command.now) (Some header.now.public) reply.now))) }
+{
+    if tells_failure(entry) {
+        return Ok(true);
+    }
+    tells_reply(alloc, header, entry, command, reply)
+}
+
+// Whether the entry tells the answer to the reply.
+fn tells_reply(
+    alloc: Global,
+    header: &Header,
+    entry: &Entry,
+    command: &Command,
+    reply: &Reply,
+) -> Result<bool, AllocError>
+    ensures { IfOk result (λ r. r ≡ tells entry.now (answer_of (request_of command.now) (Some header.now.public) reply.now)) }
+{
+    let answer = write_reply(alloc, request_in(command), reply, Some(&header.public))?;
+    let tells = tells_answer(entry, &answer);
+    drop(answer);
+    Ok(tells)
+}
+
+fn request_in(command: &Command) -> Option<&BidRequest>
+    ensures { option_copied result ≡ request_of command.now }
+{
+    match command {
+        Command::Auction(request) => Some(request),
+        _ => None,
+    }
+}
+
+fn tells_answer(entry: &Entry, answer: &Answer) -> bool
+    ensures { result ≡ tells entry.now answer.now }
+{
+    tells(entry, answer.status, answer.body.as_bytes())
+}
+
+fn tells_memory(entry: &Entry) -> bool
+    ensures { result ≡ tells entry.now (memory_answer false) }
+{
+    tells(entry, 503, b"{\"error\":\"memory\"}")
+}
+
+fn tells_failure(entry: &Entry) -> bool
+    ensures { result ≡ tells_failure entry.now }
+{
+    tells(entry, 500, b"{\"error\":\"store-failed\"}")
+        || tells(entry, 503, b"{\"error\":\"memory-late\"}")
+}
+
+// Whether the entry tells this status and this body.
+fn tells(entry: &Entry, status: u16, body: &[u8]) -> bool
+    ensures { result ≡ ((entry.now.status == status) && bytes_eq entry.now.answer body.now) }
+{
+    entry.status == u32::from(status) && entry.answer.as_bytes() == body
+}

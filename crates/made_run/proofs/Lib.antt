@@ -1,0 +1,5 @@
+pub mod Held
+pub mod Lines
+pub mod Posts
+pub mod SoFar
+pub mod Taken

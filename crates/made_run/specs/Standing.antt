@@ -1,0 +1,19 @@
+-- A run as far as it was gathered. Only private clauses cite this file.
+use Rattle.std.specs.Prelude.{◌≡◌, ℕ, List}
+use Rattle.http_wire.specs.declared.message.Message.{Message}
+use Rattle.made_run.specs.Runs.{IsRunOf, header, trace_text, with_status}
+use Rattle.made_run.specs.declared.gathering.Gathering.{Gathering}
+use Rattle.trace.specs.declared.entry.Entry.{Entry}
+
+-- an exchange that holds sales for as long as the header says
+pub record IsReady (g : Gathering) : Type 0 where
+  pub header_is : g.header ≡ header
+  pub ttl : g.core.ttl ≡ 300000
+
+-- the answers to these messages were gathered
+pub record IsSoFar (posts : List (ℕ × Message)) (g : Gathering) : Type 0 where
+  pub entries : List Entry
+  pub run : IsRunOf posts entries g.core.state
+  pub trace_is : g.trace ≡ trace_text entries
+  pub sold_is : g.sold ≡ with_status 200 entries
+  pub no_bid_is : g.no_bid ≡ with_status 204 entries

@@ -1,0 +1,80 @@
+//! The answers that were sent, one behind the other. What is read of them is compared with what has to be answered, so
+//! no contract speaks of it here.
+use rtb_num::Txt;
+use std::alloc::{AllocError, Global};
+
+/// An answer as a client reads it.
+#[derive(Drop)]
+pub(crate) struct Told {
+    pub status: u32,
+    pub body: Txt,
+}
+
+/// The answer at the place, and the place behind it. None is there only where a link ended early, which a link in memory
+/// does for want of memory alone.
+pub(crate) fn told_at(
+    alloc: Global,
+    sent: &[u8],
+    place: usize,
+) -> Result<(Told, usize), AllocError> {
+    let Some((status, body, next)) = answer_at(sent, place) else {
+        return Err(AllocError);
+    };
+    let body = Txt::from_slice(alloc, body)?;
+    Ok((Told { status, body }, next))
+}
+
+// Its status, its body, and the place behind it.
+fn answer_at(sent: &[u8], place: usize) -> Option<(u32, &[u8], usize)> {
+    let rest = sent.get(place..)?;
+    let (line, fields) = line_of(rest)?;
+    let status = status_in(line)?;
+    let (length, behind) = length_in(fields)?;
+    let body = behind.get(..length)?;
+    let next = sent.len().checked_sub(behind.len())?.checked_add(length)?;
+    Some((status, body, next))
+}
+
+// An answer has no more lines between its status and the empty one.
+const MOST_FIELDS: u32 = 8;
+
+// How many bytes the body has, and what stands behind the fields: 0 where no field tells it (RFC 9110, section 15.3.5).
+fn length_in(fields: &[u8]) -> Option<(usize, &[u8])> {
+    let mut length = 0;
+    let mut rest = fields;
+    for _ in 0..MOST_FIELDS {
+        let (line, behind) = line_of(rest)?;
+        rest = behind;
+        if line.is_empty() {
+            return Some((length, rest));
+        }
+        if let Some(digits) = line.strip_prefix(b"Content-Length: ".as_slice()) {
+            length = number_in(digits)?;
+        }
+    }
+    None
+}
+
+// The line that the bytes begin with, without its end, and what stands behind it.
+fn line_of(bytes: &[u8]) -> Option<(&[u8], &[u8])> {
+    let end = bytes.iter().position(|byte| *byte == b'\r')?;
+    let line = bytes.get(..end)?;
+    let behind = bytes.get(end.checked_add(2)?..)?;
+    Some((line, behind))
+}
+
+fn status_in(line: &[u8]) -> Option<u32> {
+    let digits = line.get(9..12)?;
+    let status = number_in(digits)?;
+    u32::try_from(status).ok()
+}
+
+// A number of decimal digits.
+fn number_in(digits: &[u8]) -> Option<usize> {
+    let mut number = 0usize;
+    for digit in digits {
+        let value = digit.checked_sub(b'0')?;
+        number = number.checked_mul(10)?.checked_add(usize::from(value))?;
+    }
+    Some(number)
+}

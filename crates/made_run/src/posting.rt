@@ -1,0 +1,61 @@
+//! The messages of a run, in their order.
+ghost use Rattle.std.specs.Prelude.{◌≡◌, IfOk};
+ghost use Rattle.loadgen.specs.Draws.{behind_campaign, behind_request};
+ghost use Rattle.made_run.specs.Runs.{campaign_post, post, request_post};
+
+use http_wire::Message;
+use loadgen::Gen;
+use rtb_num::{Txt, write_decimal};
+use std::alloc::{AllocError, Global};
+
+/// How many campaigns there are.
+pub(crate) const CAMPAIGNS: u32 = 100;
+
+/// The message of the next campaign.
+#[tactic(auto, unfolding(crate::specs::Runs::campaign_post))]
+pub(crate) fn next_campaign(alloc: Global, drawn: &mut Gen) -> Result<Message, AllocError>
+    ensures message { IfOk result (λ m. m ≡ campaign_post drawn.old) }
+    ensures behind { drawn.new ≡ behind_campaign drawn.old }
+{
+    let body = drawn.campaign(alloc)?;
+    post(alloc, b"/campaign", body)
+}
+
+/// The message of the next bid request, which has this number.
+#[tactic(auto, unfolding(crate::specs::Runs::request_post))]
+pub(crate) fn next_request(
+    alloc: Global,
+    drawn: &mut Gen,
+    number: u32,
+) -> Result<Message, AllocError>
+    ensures message { IfOk result (λ m. m ≡ request_post number drawn.old) }
+    ensures behind { drawn.new ≡ behind_request drawn.old }
+{
+    let body = drawn.request(alloc, number)?;
+    post(alloc, b"/openrtb2/auction", body)
+}
+
+fn post(alloc: Global, target: &[u8], body: Txt) -> Result<Message, AllocError>
+    ensures { IfOk result (λ m. m ≡ post target.now body) }
+{
+    let method = Txt::from_slice(alloc, b"POST")?;
+    let target = Txt::from_slice(alloc, target)?;
+    Ok(Message {
+        method,
+        target,
+        body,
+        closes: false,
+    })
+}
+
+/// Appends the message as a client sends it (RFC 9112, section 2.1).
+pub(crate) fn put_message(message: &Message, out: &mut Txt) -> Result<(), AllocError> {
+    out.extend(message.method.as_bytes())?;
+    out.extend(b" ")?;
+    out.extend(message.target.as_bytes())?;
+    out.extend(b" HTTP/1.1\r\nHost: make.example\r\nContent-Length: ")?;
+    write_decimal(message.body.len() as u64, out)?;
+    out.extend(b"\r\n\r\n")?;
+    out.extend(message.body.as_bytes())?;
+    Ok(())
+}
