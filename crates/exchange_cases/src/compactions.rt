@@ -7,6 +7,8 @@ use link_door::{MemWorld, NoPause};
 use rtb_disk::{Disk, MemDisk};
 use rtb_num::{Failed, List, MemSink, MemSource, Txt};
 use std::alloc::{AllocError, Global};
+use std::sync::Wait;
+use std::thread::Threads;
 
 /// Answers a call of this area, or tells that it is none.
 ///
@@ -16,7 +18,13 @@ use std::alloc::{AllocError, Global};
 /// - `compact_crash | KEEP | JOURNAL | FILE`: eight letters for each stop of the run, at each call of the journal's disk
 ///   in turn, then at each of the file's, and last not at all. They say what a crash leaves by the picks 0 to 7, and
 ///   what a second run makes of that: the file, `c`, or nothing, since it was whole, `w`. The journal is as it was.
-pub fn answer(alloc: Global, call: &[u8], args: &[Txt], out: &mut Txt) -> Result<bool, AllocError> {
+pub fn answer<R: Threads + Wait + Sync>(
+    rt: &R,
+    alloc: Global,
+    call: &[u8],
+    args: &[Txt],
+    out: &mut Txt,
+) -> Result<bool, AllocError> {
     match args {
         [keep, journal, file] if call == b"compact_crash".as_slice() => {
             let case = Case {
@@ -24,7 +32,7 @@ pub fn answer(alloc: Global, call: &[u8], args: &[Txt], out: &mut Txt) -> Result
                 journal,
                 file,
             };
-            done(put_crashes(alloc, &case, out))
+            done(put_crashes(rt, alloc, &case, out))
         }
         [keep, journal, file, fails @ ..] if call == b"compact".as_slice() => {
             let case = Case {
@@ -32,7 +40,7 @@ pub fn answer(alloc: Global, call: &[u8], args: &[Txt], out: &mut Txt) -> Result
                 journal,
                 file,
             };
-            done(put_run(alloc, &case, fails, out))
+            done(put_run(rt, alloc, &case, fails, out))
         }
         _ => Ok(false),
     }
@@ -46,10 +54,17 @@ struct Case<'a> {
     file: &'a Txt,
 }
 
-fn put_run(alloc: Global, case: &Case<'_>, fails: &[Txt], out: &mut Txt) -> Result<(), AllocError> {
+fn put_run<R: Threads + Wait + Sync>(
+    rt: &R,
+    alloc: Global,
+    case: &Case<'_>,
+    fails: &[Txt],
+    out: &mut Txt,
+) -> Result<(), AllocError> {
     let mut sink = MemSink::new(alloc, numbers_at(alloc, fails, 3)?);
     let disks = failing_disks(alloc, case, fails)?;
     let ended = run_compact(
+        rt,
         alloc,
         case.keep,
         disks,
@@ -89,7 +104,8 @@ fn pair(alloc: Global, from: MemDisk, into: MemDisk) -> Result<List<MemDisk>, Al
 }
 
 // Runs `compact` over these disks.
-fn run_compact(
+fn run_compact<R: Threads + Wait + Sync>(
+    rt: &R,
     alloc: Global,
     keep: &[u8],
     disks: List<MemDisk>,
@@ -98,7 +114,7 @@ fn run_compact(
 ) -> Result<Outcome<MemWorld>, AllocError> {
     let words = words_of(alloc, keep);
     match (words, fails) {
-        (Ok(words), Ok(fails)) => Ok(run_words(alloc, words.as_slice(), disks, fails, sink)),
+        (Ok(words), Ok(fails)) => Ok(run_words(rt, alloc, words.as_slice(), disks, fails, sink)),
         _ => Err(AllocError),
     }
 }
@@ -109,7 +125,8 @@ fn words_of(alloc: Global, keep: &[u8]) -> Result<Vec<Txt>, AllocError> {
     words_in(alloc, line.as_bytes())
 }
 
-fn run_words(
+fn run_words<R: Threads + Wait + Sync>(
+    rt: &R,
     alloc: Global,
     words: &[Txt],
     disks: List<MemDisk>,
@@ -118,7 +135,7 @@ fn run_words(
 ) -> Outcome<MemWorld> {
     let mut world = MemWorld::new(alloc, List::new(alloc), disks, fails);
     let mut source = MemSource::new(Txt::new(alloc), List::new(alloc));
-    let outcome = run(alloc, words, &mut world, &NoPause, &mut source, sink);
+    let outcome = run(alloc, words, &mut world, &NoPause, &mut source, sink, rt);
     drop(world);
     outcome
 }
@@ -184,13 +201,18 @@ fn content_of<D: Disk + Drop>(alloc: Global, disk: D) -> Result<Txt, AllocError>
 
 // ---- crashes
 
-fn put_crashes(alloc: Global, case: &Case<'_>, out: &mut Txt) -> Result<(), AllocError> {
-    let ended = stopped_run(alloc, case, None, None);
+fn put_crashes<R: Threads + Wait + Sync>(
+    rt: &R,
+    alloc: Global,
+    case: &Case<'_>,
+    out: &mut Txt,
+) -> Result<(), AllocError> {
+    let ended = stopped_run(rt, alloc, case, None, None);
     let calls = calls_in(&ended);
     let whole = written_in(alloc, &ended);
     drop(ended);
     let (reads, writes) = calls?;
-    put_stops(alloc, case, &whole?, reads, writes, out)
+    put_stops(rt, alloc, case, &whole?, reads, writes, out)
 }
 
 // How many calls of each disk a run makes.
@@ -226,7 +248,8 @@ fn content_in(alloc: Global, disk: &Option<MemDisk>, pick: u64) -> Result<Txt, A
     }
 }
 
-fn put_stops(
+fn put_stops<R: Threads + Wait + Sync>(
+    rt: &R,
     alloc: Global,
     case: &Case<'_>,
     whole: &Txt,
@@ -235,17 +258,18 @@ fn put_stops(
     out: &mut Txt,
 ) -> Result<(), AllocError> {
     for stop in 1..=reads {
-        put_stop(alloc, case, whole, Some(stop), None, out)?;
+        put_stop(rt, alloc, case, whole, Some(stop), None, out)?;
         out.push(b' ')?;
     }
     for stop in 1..=writes.saturating_add(1) {
         put_space(stop.saturating_sub(1) as usize, out)?;
-        put_stop(alloc, case, whole, None, Some(stop), out)?;
+        put_stop(rt, alloc, case, whole, None, Some(stop), out)?;
     }
     Ok(())
 }
 
-fn put_stop(
+fn put_stop<R: Threads + Wait + Sync>(
+    rt: &R,
     alloc: Global,
     case: &Case<'_>,
     whole: &Txt,
@@ -253,14 +277,15 @@ fn put_stop(
     into_stop: Option<u64>,
     out: &mut Txt,
 ) -> Result<(), AllocError> {
-    let ended = stopped_run(alloc, case, from_stop, into_stop);
-    let told = put_letters(alloc, case, whole, &ended, out);
+    let ended = stopped_run(rt, alloc, case, from_stop, into_stop);
+    let told = put_letters(rt, alloc, case, whole, &ended, out);
     drop(ended);
     told
 }
 
 // A run where each call of a disk from that number on fails.
-fn stopped_run(
+fn stopped_run<R: Threads + Wait + Sync>(
+    rt: &R,
     alloc: Global,
     case: &Case<'_>,
     from_stop: Option<u64>,
@@ -268,7 +293,7 @@ fn stopped_run(
 ) -> Result<Outcome<MemWorld>, AllocError> {
     let from = stopping_disk(alloc, case.journal, from_stop)?;
     let into = stopping_disk(alloc, case.file, into_stop)?;
-    run_silently(alloc, case.keep, pair(alloc, from, into)?)
+    run_silently(rt, alloc, case.keep, pair(alloc, from, into)?)
 }
 
 fn stopping_disk(alloc: Global, content: &Txt, stop: Option<u64>) -> Result<MemDisk, AllocError> {
@@ -279,19 +304,21 @@ fn stopping_disk(alloc: Global, content: &Txt, stop: Option<u64>) -> Result<MemD
     Ok(disk)
 }
 
-fn run_silently(
+fn run_silently<R: Threads + Wait + Sync>(
+    rt: &R,
     alloc: Global,
     keep: &[u8],
     disks: List<MemDisk>,
 ) -> Result<Outcome<MemWorld>, AllocError> {
     let mut sink = MemSink::new(alloc, List::new(alloc));
-    let ended = run_compact(alloc, keep, disks, Ok(List::new(alloc)), &mut sink);
+    let ended = run_compact(rt, alloc, keep, disks, Ok(List::new(alloc)), &mut sink);
     drop(sink);
     ended
 }
 
 // A letter for each pick.
-fn put_letters(
+fn put_letters<R: Threads + Wait + Sync>(
+    rt: &R,
     alloc: Global,
     case: &Case<'_>,
     whole: &Txt,
@@ -300,7 +327,7 @@ fn put_letters(
 ) -> Result<(), AllocError> {
     for pick in 0..8u64 {
         let letter = match ended {
-            Ok(outcome) => letter_of(alloc, case, whole, outcome, pick)?,
+            Ok(outcome) => letter_of(rt, alloc, case, whole, outcome, pick)?,
             Err(_) => return Err(AllocError),
         };
         out.push(letter)?;
@@ -308,7 +335,8 @@ fn put_letters(
     Ok(())
 }
 
-fn letter_of(
+fn letter_of<R: Threads + Wait + Sync>(
+    rt: &R,
     alloc: Global,
     case: &Case<'_>,
     whole: &Txt,
@@ -325,12 +353,17 @@ fn letter_of(
         journal: &journal,
         file: &file,
     };
-    letter_of_again(alloc, &again, whole)
+    letter_of_again(rt, alloc, &again, whole)
 }
 
 // What a second run comes to.
-fn letter_of_again(alloc: Global, case: &Case<'_>, whole: &Txt) -> Result<u8, AllocError> {
-    let ended = stopped_run(alloc, case, None, None);
+fn letter_of_again<R: Threads + Wait + Sync>(
+    rt: &R,
+    alloc: Global,
+    case: &Case<'_>,
+    whole: &Txt,
+) -> Result<u8, AllocError> {
+    let ended = stopped_run(rt, alloc, case, None, None);
     let written = written_in(alloc, &ended);
     let status = status_in(&ended);
     drop(ended);

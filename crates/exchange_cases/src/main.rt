@@ -7,12 +7,15 @@
 #![tactic(auto)]
 
 mod answers;
+mod audit_runs;
 mod bodies;
 mod commands;
 mod compactions;
 mod conversations;
 mod exchanges;
+mod follows;
 mod journals;
+mod make_runs;
 mod markup;
 mod messages;
 mod offers;
@@ -24,14 +27,19 @@ mod sent;
 mod serving;
 mod small_service;
 mod sockets;
+mod stops;
 mod try_runs;
+mod waiting;
 mod which_runs;
 
-use case_lines::{Areas, run_cases};
-use rtb_num::{Sink, StdSink, StdSource, Txt};
+use case_lines::run_cases;
+use rtb_io::Status;
+use rtb_num::{Sink, Source, StdSink, StdSource, Txt};
 use std::alloc::{AllocError, Global};
 use std::io;
 use std::process::ExitCode;
+use std::sync::Wait;
+use std::thread::Threads;
 
 // The report on sockets and on all cases of standard input, or the status of what stood in the way.
 fn main(rt: HostRuntime) -> ExitCode {
@@ -40,7 +48,7 @@ fn main(rt: HostRuntime) -> ExitCode {
     if !tell_sockets(&rt, &mut sink) {
         return ExitCode::from(1);
     }
-    ExitCode::from(run_cases::<ExchangeCalls, _, _>(rt.alloc(), &mut source, &mut sink).code())
+    ExitCode::from(tell_cases(&rt, rt.alloc(), &mut source, &mut sink).code())
 }
 
 // Whether what was tried over sockets was written.
@@ -52,19 +60,37 @@ fn tell_sockets<O: Sink>(rt: &HostRuntime, sink: &mut O) -> bool {
     sink.write(tried.as_bytes()).is_ok()
 }
 
-// The areas, lower ones first.
-struct ExchangeCalls;
+// The report on all cases of the source.
+fn tell_cases<R: Threads + Wait + Sync, I: Source, O: Sink>(
+    rt: &R,
+    alloc: Global,
+    source: &mut I,
+    sink: &mut O,
+) -> Status {
+    let answer_to = |alloc: Global, call: &[u8], args: &[Txt], out: &mut Txt| {
+        answer(rt, alloc, call, args, out)
+    };
+    run_cases(&answer_to, alloc, source, sink)
+}
 
-impl Areas for ExchangeCalls {
-    fn answer(alloc: Global, call: &[u8], args: &[Txt], out: &mut Txt) -> Result<bool, AllocError> {
-        if answer_of_parts(alloc, call, args, out)? {
-            return Ok(true);
-        }
-        if answer_of_messages(alloc, call, args, out)? {
-            return Ok(true);
-        }
-        answer_of_exchanges(alloc, call, args, out)
+// The answer of a call by the areas, lower ones first. Workers are threads of the runtime.
+fn answer<R: Threads + Wait + Sync>(
+    rt: &R,
+    alloc: Global,
+    call: &[u8],
+    args: &[Txt],
+    out: &mut Txt,
+) -> Result<bool, AllocError> {
+    if answer_of_parts(alloc, call, args, out)? {
+        return Ok(true);
     }
+    if answer_of_messages(alloc, call, args, out)? {
+        return Ok(true);
+    }
+    if answer_of_exchanges(alloc, call, args, out)? {
+        return Ok(true);
+    }
+    answer_of_runs(rt, alloc, call, args, out)
 }
 
 // Clearing, markup and the wire.
@@ -102,7 +128,7 @@ fn answer_of_messages(
     sales::answer(alloc, call, args, out)
 }
 
-// An exchange, its journal, and the commands that run one.
+// An exchange, its journal, and what is said of words.
 fn answer_of_exchanges(
     alloc: Global,
     call: &[u8],
@@ -115,17 +141,40 @@ fn answer_of_exchanges(
     if journals::answer(alloc, call, args, out)? {
         return Ok(true);
     }
-    if serving::answer(alloc, call, args, out)? {
+    try_runs::answer(alloc, call, args, out)
+}
+
+// The commands that run an exchange.
+fn answer_of_runs<R: Threads + Wait + Sync>(
+    rt: &R,
+    alloc: Global,
+    call: &[u8],
+    args: &[Txt],
+    out: &mut Txt,
+) -> Result<bool, AllocError> {
+    if serving::answer(rt, alloc, call, args, out)? {
         return Ok(true);
     }
-    if runs::answer(alloc, call, args, out)? {
+    if stops::answer(rt, alloc, call, args, out)? {
         return Ok(true);
     }
-    if try_runs::answer(alloc, call, args, out)? {
+    if waiting::answer(rt, alloc, call, args, out)? {
         return Ok(true);
     }
-    if compactions::answer(alloc, call, args, out)? {
+    if follows::answer(rt, alloc, call, args, out)? {
         return Ok(true);
     }
-    which_runs::answer(alloc, call, args, out)
+    if runs::answer(rt, alloc, call, args, out)? {
+        return Ok(true);
+    }
+    if compactions::answer(rt, alloc, call, args, out)? {
+        return Ok(true);
+    }
+    if audit_runs::answer(rt, alloc, call, args, out)? {
+        return Ok(true);
+    }
+    if make_runs::answer(rt, alloc, call, args, out)? {
+        return Ok(true);
+    }
+    which_runs::answer(rt, alloc, call, args, out)
 }

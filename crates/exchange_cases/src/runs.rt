@@ -1,4 +1,4 @@
-//! Runs of all commands over a world in memory, which has one disk and one door.
+//! Runs of all commands over a world in memory, which has one disk and four doors.
 use crate::outside::one_moment;
 use crate::try_runs::{tell, words_in};
 use case_lines::{done, numbers_in};
@@ -7,19 +7,27 @@ use link_door::{MemDoor, MemWorld, NoPause};
 use rtb_disk::MemDisk;
 use rtb_num::{List, MemSink, MemSource, Txt};
 use std::alloc::{AllocError, Global};
+use std::sync::Wait;
+use std::thread::Threads;
 
 /// Answers a call of this area, or tells that it is none.
 ///
 /// - `run | WORDS | JOURNAL | WORLD | DISK | DOOR | WRITES`: the status, and what is written, where the disk has
-///   the bytes JOURNAL, no link comes through the door, and the source has no byte. Behind that are the numbers of
-///   the calls of the world, the disk and the door and of the writes that fail, from 1 on.
-pub fn answer(alloc: Global, call: &[u8], args: &[Txt], out: &mut Txt) -> Result<bool, AllocError> {
+///   the bytes JOURNAL, no link comes through the doors, and the source has no byte. Behind that are the numbers of
+///   the calls of the world, the disk and the first door and of the writes that fail, from 1 on.
+pub fn answer<R: Threads + Wait + Sync>(
+    rt: &R,
+    alloc: Global,
+    call: &[u8],
+    args: &[Txt],
+    out: &mut Txt,
+) -> Result<bool, AllocError> {
     match args {
         [line, journal, world, disk, door, writes] if call == b"run".as_slice() => {
             let disks = disks_of(alloc, journal, disk.as_bytes());
             let doors = doors_of(alloc, door.as_bytes());
             let world = world_of(alloc, disks, doors, world.as_bytes());
-            done(put_run(alloc, line.as_bytes(), world, writes.as_bytes(), out))
+            done(put_run(rt, alloc, line.as_bytes(), world, writes.as_bytes(), out))
         }
         _ => Ok(false),
     }
@@ -33,13 +41,20 @@ fn disks_of(alloc: Global, journal: &Txt, fails: &[u8]) -> Result<List<MemDisk>,
     Ok(disks)
 }
 
+// Four doors, of which the calls of the first fail.
 fn doors_of(alloc: Global, fails: &[u8]) -> Result<List<MemDoor>, AllocError> {
-    let fails = numbers_in(alloc, fails)?;
-    let moments = one_moment(alloc)?;
-    let door = MemDoor::new(alloc, List::new(alloc), moments, fails)?;
     let mut doors = List::new(alloc);
-    doors.push(door)?;
+    let first = numbers_in(alloc, fails)?;
+    doors.push(door_of(alloc, first)?)?;
+    for _ in 0..3u32 {
+        doors.push(door_of(alloc, List::new(alloc))?)?;
+    }
     Ok(doors)
+}
+
+fn door_of(alloc: Global, fails: List<u64>) -> Result<MemDoor, AllocError> {
+    let moments = one_moment(alloc)?;
+    MemDoor::new(alloc, List::new(alloc), moments, fails)
 }
 
 fn world_of(
@@ -54,7 +69,8 @@ fn world_of(
     }
 }
 
-fn put_run(
+fn put_run<R: Threads + Wait + Sync>(
+    rt: &R,
     alloc: Global,
     line: &[u8],
     world: Result<MemWorld, AllocError>,
@@ -65,17 +81,23 @@ fn put_run(
     let words = words_in(alloc, line)?;
     match world {
         Ok(world) => {
-            let status = status_of(alloc, words.as_slice(), world, &mut sink);
+            let status = status_of(rt, alloc, words.as_slice(), world, &mut sink);
             tell(status, sink.written(), out)
         }
         Err(error) => Err(error),
     }
 }
 
-fn status_of(alloc: Global, words: &[Txt], world: MemWorld, sink: &mut MemSink) -> u8 {
+fn status_of<R: Threads + Wait + Sync>(
+    rt: &R,
+    alloc: Global,
+    words: &[Txt],
+    world: MemWorld,
+    sink: &mut MemSink,
+) -> u8 {
     let mut world = world;
     let mut source = MemSource::new(Txt::new(alloc), List::new(alloc));
-    let outcome = run(alloc, words, &mut world, &NoPause, &mut source, sink);
+    let outcome = run(alloc, words, &mut world, &NoPause, &mut source, sink, rt);
     let status = outcome.status;
     drop(outcome);
     drop(world);

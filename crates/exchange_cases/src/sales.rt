@@ -1,6 +1,7 @@
 //! Calls of `rtb_response` for impressions that were sold.
 use crate::answers::put_reply;
 use crate::sent::message_of;
+use bumpalo::Bump;
 use campaign_read::read_campaign;
 use campaign_store::{SharedRecord, make_record};
 use case_lines::{done, kept};
@@ -161,17 +162,14 @@ fn push_sold(
 
 // The record of the campaign's body; a body that is none is told as want of memory.
 fn record_in(alloc: Global, body: &[u8]) -> Result<SharedRecord, AllocError> {
-    match read(alloc, body).ok() {
-        Some(doc) => {
-            let record = record_of(alloc, &doc);
-            drop(doc);
-            record
-        }
-        None => Err(AllocError),
+    let arena = Bump::new(alloc);
+    match read(alloc, &arena, body) {
+        Ok(doc) => record_of(alloc, &doc),
+        Err(_) => Err(AllocError),
     }
 }
 
-fn record_of(alloc: Global, doc: &Doc) -> Result<SharedRecord, AllocError> {
+fn record_of(alloc: Global, doc: &Doc<'_>) -> Result<SharedRecord, AllocError> {
     match read_campaign(alloc, doc).ok() {
         Some((facts, expr)) => make_record(alloc, facts, expr),
         None => Err(AllocError),

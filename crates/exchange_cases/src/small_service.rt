@@ -4,6 +4,7 @@ ghost use Rattle.std.specs.List.{list_any};
 ghost use Rattle.http_wire.specs.Answers.{IsWritable, statuses};
 ghost use Rattle.session.specs.Talk.{IsGivable};
 
+use bumpalo::Bump;
 use case_lines::kept;
 use exact_json::{JsonFault, read};
 use http_wire::{Allow, Answer, Message};
@@ -105,7 +106,7 @@ fn word_text(alloc: Global, word: &[u8]) -> Result<Txt, AllocError> {
 fn sell(alloc: Global, body: &[u8]) -> Result<Answer, AllocError>
     ensures { IfOk result IsWritable }
 {
-    match read(alloc, body).err() {
+    match fault_of(alloc, body) {
         None => Ok(no_content(alloc)),
         Some(JsonFault::Memory) => Err(AllocError),
         Some(JsonFault::Utf8 { at }) => refuse(alloc, b"json-utf8", at),
@@ -113,6 +114,12 @@ fn sell(alloc: Global, body: &[u8]) -> Result<Answer, AllocError>
         Some(JsonFault::Ended { at }) => refuse(alloc, b"json-ended", at),
         Some(JsonFault::Deep { at }) => refuse(alloc, b"json-deep", at),
     }
+}
+
+// Why the body is no JSON text, where it is none.
+fn fault_of(alloc: Global, body: &[u8]) -> Option<JsonFault> {
+    let arena = Bump::new(alloc);
+    read(alloc, &arena, body).err()
 }
 
 fn refuse(alloc: Global, word: &[u8], at: usize) -> Result<Answer, AllocError>

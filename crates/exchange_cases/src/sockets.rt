@@ -1,11 +1,12 @@
 //! The links, doors and the world of the system, over this machine's loopback: what it does there, no
 //! proof sees.
 use crate::outside::{read_three, write_piece};
-use link_door::{Door, OsWorld, TcpDoor, TcpLink, World};
+use link_door::{Door, Link, OsWorld, TcpDoor, TcpLink, World};
 use rtb_num::{Failed, List, Txt, write_decimal};
-use std::cell::Cell;
 use std::io::{self, Read, Write};
 use std::net::{TcpListener, TcpStream};
+use std::sync::atomic::{AtomicU64, Ordering};
+use std::thread::sleep;
 use std::time::{Clock, Duration};
 
 /// Appends a line for each thing that is tried:
@@ -13,6 +14,8 @@ use std::time::{Clock, Duration};
 /// - `link`: a read, a read and a write at a link that a door gives, what its peer reads, and the link's
 ///   next read, when the peer is gone.
 /// - `delay`: whether a link sends without delay.
+/// - `patience`: at links whose peers may take 200 milliseconds, a read where nothing comes, reads of a byte each ten
+///   milliseconds until one fails, a read of what came too late behind a write, and writes that nobody takes until one fails.
 /// - `door`: what a door gives that cannot accept, and three moments of it by a clock that can be read
 ///   twice, at 4998 and 4999.
 /// - `world`: for two doors at one address, whether each is reached; and whether doors and a disk come of
@@ -22,6 +25,8 @@ pub fn put_tried(rt: &HostRuntime, out: &mut Txt) -> io::Result<()> {
     put_link(rt, out)?;
     out.extend(b"\ndelay: ")?;
     put_delay(rt, out)?;
+    out.extend(b"\npatience: ")?;
+    put_patience(rt, out)?;
     out.extend(b"\ndoor: ")?;
     put_door(rt, out)?;
     out.extend(b"\nworld: ")?;
@@ -33,7 +38,7 @@ pub fn put_tried(rt: &HostRuntime, out: &mut Txt) -> io::Result<()> {
 fn put_link(rt: &HostRuntime, out: &mut Txt) -> io::Result<()> {
     let listener = TcpListener::bind(rt, "127.0.0.1:0")?;
     let peer = TcpStream::connect(rt, listener.local_addr()?)?;
-    let mut door = TcpDoor::new(listener, rt);
+    let mut door = TcpDoor::new(listener, rt, Duration::from_secs(60));
     let given = door.next();
     drop(door);
     match given {
@@ -42,7 +47,7 @@ fn put_link(rt: &HostRuntime, out: &mut Txt) -> io::Result<()> {
     }
 }
 
-fn put_passed(link: TcpLink, peer: TcpStream, out: &mut Txt) -> io::Result<()> {
+fn put_passed<C: Clock + Copy>(link: TcpLink<C>, peer: TcpStream, out: &mut Txt) -> io::Result<()> {
     let mut link = link;
     let mut peer = peer;
     let passed = pass_both_ways(&mut link, &mut peer, out);
@@ -53,7 +58,11 @@ fn put_passed(link: TcpLink, peer: TcpStream, out: &mut Txt) -> io::Result<()> {
     passed
 }
 
-fn pass_both_ways(link: &mut TcpLink, peer: &mut TcpStream, out: &mut Txt) -> io::Result<()> {
+fn pass_both_ways<C: Clock + Copy>(
+    link: &mut TcpLink<C>,
+    peer: &mut TcpStream,
+    out: &mut Txt,
+) -> io::Result<()> {
     let mut piece = [0u8; 8];
     peer.write_all(b"hello")?;
     read_three(link, out)?;
@@ -75,24 +84,97 @@ fn put_delay(rt: &HostRuntime, out: &mut Txt) -> io::Result<()> {
     let listener = TcpListener::bind(rt, "127.0.0.1:0")?;
     let stream = TcpStream::connect(rt, listener.local_addr()?)?;
     let twin = stream.try_clone()?;
-    let link = TcpLink::new(stream)?;
+    let link = TcpLink::new(stream, rt, Duration::from_secs(60))?;
     let at_once = twin.nodelay()?;
     drop(link);
     out.extend(if at_once { b"no" } else { b"yes" })?;
     Ok(())
 }
 
+fn put_patience(rt: &HostRuntime, out: &mut Txt) -> io::Result<()> {
+    put_silent(rt, out)?;
+    put_slow(rt, out)?;
+    put_answered(rt, out)?;
+    put_unread(rt, out)
+}
+
+// A link whose peer may take 200 milliseconds, and the peer.
+fn linked<'r>(rt: &'r HostRuntime) -> io::Result<(TcpLink<&'r HostRuntime>, TcpStream)> {
+    let listener = TcpListener::bind(rt, "127.0.0.1:0")?;
+    let peer = TcpStream::connect(rt, listener.local_addr()?)?;
+    let (stream, _) = listener.accept()?;
+    let link = TcpLink::new(stream, rt, Duration::from_millis(200))?;
+    Ok((link, peer))
+}
+
+// The peer sends nothing.
+fn put_silent(rt: &HostRuntime, out: &mut Txt) -> io::Result<()> {
+    let (link, peer) = linked(rt)?;
+    let mut link = link;
+    read_three(&mut link, out)?;
+    drop(peer);
+    Ok(())
+}
+
+// The peer sends a byte each ten milliseconds, which is read at once.
+fn put_slow(rt: &HostRuntime, out: &mut Txt) -> io::Result<()> {
+    let (link, peer) = linked(rt)?;
+    let (mut link, mut peer) = (link, peer);
+    let mut piece = [0u8; 1];
+    for _ in 0..1000u32 {
+        peer.write_all(b"a")?;
+        if link.read(&mut piece).is_err() {
+            out.extend(b"failed ")?;
+            return Ok(());
+        }
+        sleep(rt, Duration::from_millis(10));
+    }
+    Ok(())
+}
+
+// The peer sends too late, but has its time again behind a write.
+fn put_answered(rt: &HostRuntime, out: &mut Txt) -> io::Result<()> {
+    let (link, peer) = linked(rt)?;
+    let (mut link, mut peer) = (link, peer);
+    sleep(rt, Duration::from_millis(250));
+    peer.write_all(b"late")?;
+    write_piece(&mut link, b"answer", out)?;
+    read_three(&mut link, out)?;
+    drop(peer);
+    Ok(())
+}
+
+// The peer takes nothing of what is written, once the system has no more room for it.
+fn put_unread(rt: &HostRuntime, out: &mut Txt) -> io::Result<()> {
+    let (link, peer) = linked(rt)?;
+    let mut link = link;
+    let piece = [0u8; 4096];
+    for _ in 0..100_000u32 {
+        if link.write(&piece).is_err() {
+            out.extend(b"failed")?;
+            break;
+        }
+    }
+    drop(peer);
+    Ok(())
+}
+
 fn put_door(rt: &HostRuntime, out: &mut Txt) -> io::Result<()> {
     let listener = TcpListener::bind(rt, "127.0.0.1:0")?;
     listener.set_nonblocking(true)?;
-    let clock = Fading { left: Cell::new(2) };
-    let mut door = TcpDoor::new(listener, clock);
+    let clock = Fading {
+        left: AtomicU64::new(2),
+    };
+    let mut door = TcpDoor::new(listener, &clock, Duration::from_secs(60));
     put_given(door.next(), out)?;
     put_moments(&mut door, out)?;
     Ok(())
 }
 
-fn put_given(given: Result<Option<TcpLink>, Failed>, out: &mut Txt) -> io::Result<()> {
+fn put_given<C: Clock + Copy>(
+    given: Result<Option<TcpLink<C>>, Failed>,
+    out: &mut Txt,
+) -> io::Result<()> {
     match given {
         Ok(Some(link)) => {
             drop(link);
@@ -104,7 +186,7 @@ fn put_given(given: Result<Option<TcpLink>, Failed>, out: &mut Txt) -> io::Resul
     Ok(())
 }
 
-fn put_moments(door: &mut TcpDoor<Fading>, out: &mut Txt) -> io::Result<()> {
+fn put_moments(door: &mut TcpDoor<&Fading>, out: &mut Txt) -> io::Result<()> {
     for _ in 0..3u32 {
         write_decimal(door.moment(), out)?;
         out.push(b' ')?;
@@ -115,7 +197,7 @@ fn put_moments(door: &mut TcpDoor<Fading>, out: &mut Txt) -> io::Result<()> {
 // A clock that can be read so many times.
 #[derive(Drop)]
 struct Fading {
-    left: Cell<u64>,
+    left: AtomicU64,
 }
 
 impl Clock for Fading {
@@ -124,11 +206,11 @@ impl Clock for Fading {
     }
 
     fn since_1970(&self) -> io::Result<Duration> {
-        let left = self.left.get();
+        let left = self.left.load(Ordering::Relaxed);
         if left == 0 {
             return Err(io::Error::from(io::ErrorKind::Other));
         }
-        self.left.set(left - 1);
+        self.left.store(left - 1, Ordering::Relaxed);
         Ok(Duration::from_millis(5000 - left.min(5000)))
     }
 }

@@ -5,7 +5,10 @@ pub mod Campaigns
 pub mod Each
 pub mod Endings
 pub mod Facts
+pub mod Naming
 pub mod Places
 pub mod Replies
 pub mod Wanted
+pub mod Apart
 pub mod Appending
+pub mod Tracing

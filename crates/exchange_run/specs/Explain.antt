@@ -1,5 +1,6 @@
 -- What is said of words that are of no command, to whoever wrote them.
 use Rattle.std.specs.Prelude.{ℕ, nat_le, not, List, [], ◌∷◌, ◌++◌, length, find, get_or, Option, None, Some, is_some, if◌then◌else◌, codes}
+use Rattle.std.specs.Option.{option_map_or}
 use Rattle.std.specs.Str.{bytes_eq}
 use Rattle.json_out.specs.Strings.{string_text}
 use Rattle.run_words.specs.CommandLines.{command_line}
@@ -18,8 +19,17 @@ recover_example = codes "rtbx: a right command is: rtbx recover --journal exchan
 abbrev pub compact_example : List ℕ
 compact_example = codes "rtbx: a right command is: rtbx compact --journal exchange.journal --into compacted.journal\n"
 
+abbrev pub follow_example : List ℕ
+follow_example = codes "rtbx: a right command is: rtbx follow --listen 127.0.0.1:8081 --journal exchange.journal\n"
+
 abbrev pub which_example : List ℕ
 which_example = codes "rtbx: a right command is: rtbx which < expressions.json\n"
+
+abbrev pub audit_example : List ℕ
+audit_example = codes "rtbx: a right command is: rtbx audit --journal before.journal < trace\n"
+
+abbrev pub make_example : List ℕ
+make_example = codes "rtbx: a right command is: rtbx make 7 2000\n"
 
 -- the word that is wrong, written as a string of JSON, and what it is not
 abbrev pub about_word : List ℕ → List ℕ → List ℕ
@@ -47,11 +57,19 @@ abbrev pub examples : List ℕ
 examples = codes "rtbx: no command is named\n" ++ example_line ++ serve_example ++ recover_example ++ compact_example
 
 abbrev pub all_examples : List ℕ
-all_examples = examples ++ which_example
+all_examples = examples ++ (follow_example ++ (which_example ++ (audit_example ++ make_example)))
+
+-- a right command of that name, where it is one of these
+abbrev pub further_example : List ℕ → Option (List ℕ)
+further_example name =
+    if bytes_eq name (codes "follow") then Some follow_example
+    else (if bytes_eq name (codes "which") then Some which_example
+    else (if bytes_eq name (codes "audit") then Some audit_example
+    else (if bytes_eq name (codes "make") then Some make_example else None)))
 
 -- what is wrong with words of no command whose first names none of those below
 abbrev pub further_wrong : List ℕ → List ℕ → List ℕ
-further_wrong said name = if bytes_eq name (codes "which") then about_options said which_example else about_word name (codes " is no command\n")
+further_wrong said name = option_map_or (about_options said) (further_example name) (about_word name (codes " is no command\n"))
 
 -- what is wrong with the words of no command, and a right command; `said` is what `clap` says of options
 abbrev pub what_is_wrong : List ℕ → List (List ℕ) → List ℕ

@@ -1,22 +1,29 @@
 -- What the words of `rtbx` ask for, and what a run of them comes to.
 use Rattle.std.specs.Prelude.{◌≡◌, ◌≢◌, ◌⊎◌, ◌&&◌, ◌||◌, not, ℕ, List, [], ◌∷◌, Bool, true, false, Option, None, Some, if◌then◌else◌, option_map, codes}
 use Rattle.std.specs.Str.{bytes_eq}
-use Rattle.link_door.specs.declared.asked.Asked.{Asked as WorldCall}
 use Rattle.link_door.specs.declared.door.Door.{Ghosts as DoorGhosts}
 use Rattle.link_door.specs.declared.link.Link.{Ghosts as LinkGhosts}
+use Rattle.link_door.specs.declared.world.World.{Ghosts as WorldGhosts}
 use Rattle.rtb_disk.specs.declared.disk.Disk.{Ghosts as DiskGhosts}
 use Rattle.rtb_io.specs.Statuses.{code_of}
 use Rattle.rtb_io.specs.declared.status.Status.TheVariants as status
+use Rattle.run_commands.specs.Audit.{RunsAudit}
 use Rattle.run_commands.specs.Compact.{RunsCompact}
 use Rattle.run_commands.specs.Endings.{Ends, EndsBy}
+use Rattle.run_commands.specs.Follow.{Follows}
+use Rattle.run_commands.specs.Make.{RunsMake}
 use Rattle.run_commands.specs.Recover.{Recovers}
 use Rattle.run_commands.specs.Serve.{Serves}
 use Rattle.run_words.specs.CommandLines.{command_line, is_question}
+use Rattle.run_words.specs.declared.audit.AuditOptions.{AuditOptions}
 use Rattle.run_words.specs.declared.commands.CommandLine.{CommandLine}
 use Rattle.run_words.specs.declared.commands.CommandLine.TheVariants as line
 use Rattle.run_words.specs.declared.compact.CompactOptions.{CompactOptions}
+use Rattle.run_words.specs.declared.follow.FollowOptions.{FollowOptions}
+use Rattle.run_words.specs.declared.make.MakeOptions.{MakeOptions}
 use Rattle.run_words.specs.declared.recover.RecoverOptions.{RecoverOptions}
 use Rattle.run_words.specs.declared.serve.ServeOptions.{ServeOptions}
+use Rattle.worker_pool.specs.Pools.{History}
 use Rattle.exchange_run.specs.Answer.{HalfTold, Told}
 use Rattle.exchange_run.specs.Words.{Campaign, command_of}
 
@@ -52,7 +59,10 @@ abbrev pub IsQuestion : CommandLine → Type 0
 IsQuestion (line.Serve options) = ⊥
 IsQuestion (line.Recover options) = ⊥
 IsQuestion (line.Compact options) = ⊥
+IsQuestion (line.Follow options) = ⊥
 IsQuestion line.Which = ⊥
+IsQuestion (line.Audit options) = ⊥
+IsQuestion (line.Make options) = ⊥
 IsQuestion (line.Help topic) = Unit {0}
 IsQuestion line.Version = Unit {0}
 
@@ -61,47 +71,75 @@ abbrev pub is_which : CommandLine → Bool
 is_which (line.Serve options) = false
 is_which (line.Recover options) = false
 is_which (line.Compact options) = false
+is_which (line.Follow options) = false
 is_which line.Which = true
+is_which (line.Audit options) = false
+is_which (line.Make options) = false
 is_which (line.Help topic) = false
 is_which line.Version = false
+
+-- `audit` was asked
+abbrev pub is_audit : CommandLine → Bool
+is_audit (line.Serve options) = false
+is_audit (line.Recover options) = false
+is_audit (line.Compact options) = false
+is_audit (line.Follow options) = false
+is_audit line.Which = false
+is_audit (line.Audit options) = true
+is_audit (line.Make options) = false
+is_audit (line.Help topic) = false
+is_audit line.Version = false
 
 abbrev pub asks_which : Option Asked → Bool
 asks_which None = false
 asks_which (Some (sale campaigns)) = false
 asks_which (Some (other line)) = is_which line
 
+abbrev pub asks_audit : Option Asked → Bool
+asks_audit None = false
+asks_audit (Some (sale campaigns)) = false
+asks_audit (Some (other line)) = is_audit line
+
 -- the commands that read the source
 abbrev pub takes_input : List (List ℕ) → Bool
-takes_input words = names_try words || asks_which (words_of words)
+takes_input words = names_try words || (asks_which (words_of words) || asks_audit (words_of words))
 
--- nothing was asked of the world
-pub record IsApart {Disk Door : Type 0} (calls calls' : List WorldCall) (disks disks' : Option (List Disk)) (left left' : Option (List Door)) (count count' : ℕ) (given : List Door) (back second : Option Disk) : Type 0 where
-  pub calls_are : calls' ≡ calls
-  pub disks_are : disks' ≡ disks
-  pub doors_are : left' ≡ left
-  pub count_is : count' ≡ count
-  pub no_door : given ≡ []
-  pub no_disk : back ≡ None
-  pub no_second : second ≡ None
+-- all that comes back to the caller beside the status
+pub record Back (Door Disk : Type 0) : Type 0 where
+  pub doors : List Door
+  pub disk : Option Disk
+  pub other : Option Disk
+  pub past : Option History
 
--- What the run comes to by its words. `calls` is what the world was asked for so far, `disks` and `left` are the disks
--- and the doors that it has, `count` is its count of faults, and `given` and `back` are the doors and the disk that are
--- given back, and `second` the disk that `compact` reads.
-pub data Runs {Disk Door Link : Type 0} (G : DiskGhosts Disk) (H : DoorGhosts Door Link) (K : LinkGhosts Link) (words : List (List ℕ))
-    (calls calls' : List WorldCall) (disks disks' : Option (List Disk)) (left left' : Option (List Door)) (count count' : ℕ) (written written' : Option (List ℕ)) (code : ℕ) (given : List Door) (back second : Option Disk) : Type 0 where
-  tries : names_try words ≡ true → IsApart calls calls' disks disks' left left' count count' given back second
-      → Runs G H K words calls calls' disks disks' left left' count count' written written' code given back second
-  serves : (options : ServeOptions) → words_of words ≡ Some (other (line.Serve options)) → second ≡ None → Serves G H K options calls calls' disks disks' left left' count count' written written' code given back
-      → Runs G H K words calls calls' disks disks' left left' count count' written written' code given back second
-  recovers : (options : RecoverOptions) → words_of words ≡ Some (other (line.Recover options)) → left' ≡ left → given ≡ [] → second ≡ None → Recovers G options.journal calls calls' disks disks' count count' written written' code back
-      → Runs G H K words calls calls' disks disks' left left' count count' written written' code given back second
-  compacts : (options : CompactOptions) → words_of words ≡ Some (other (line.Compact options)) → left' ≡ left → given ≡ [] → RunsCompact G options calls calls' disks disks' count count' written written' code back second
-      → Runs G H K words calls calls' disks disks' left left' count count' written written' code given back second
-  shows : (asked : CommandLine) → IsQuestion asked → words_of words ≡ Some (other asked) → IsApart calls calls' disks disks' left left' count count' given back second → Shows written written' code
-      → Runs G H K words calls calls' disks disks' left left' count count' written written' code given back second
-  plans : asks_which (words_of words) ≡ true → IsApart calls calls' disks disks' left left' count count' given back second
-      → Runs G H K words calls calls' disks disks' left left' count count' written written' code given back second
-  unnamed : words_of words ≡ None → IsApart calls calls' disks disks' left left' count count' given back second → EndsBy status.Usage written written' code
-      → Runs G H K words calls calls' disks disks' left left' count count' written written' code given back second
-  starved : IsApart calls calls' disks disks' left left' count count' given back second → EndsBy status.Memory written written' code
-      → Runs G H K words calls calls' disks disks' left left' count count' written written' code given back second
+abbrev pub nothing : {Door Disk : Type 0} → Back Door Disk
+nothing = record { doors = []; disk = None; other = None; past = None }
+
+-- nothing was asked of the world, and nothing comes back
+pub record IsApart {World Door Disk : Type 0} (w w' : World) (back : Back Door Disk) : Type 0 where
+  pub world : w' ≡ w
+  pub none : back ≡ nothing
+
+-- What the run comes to by its words, from the world w to the world w'.
+pub data Runs {World Disk Door Link : Type 0} (W : WorldGhosts World Door Disk Link) (G : DiskGhosts Disk) (H : DoorGhosts Door Link) (K : LinkGhosts Link) (words : List (List ℕ))
+    (w w' : World) (written written' : Option (List ℕ)) (code : ℕ) (back : Back Door Disk) : Type 0 where
+  tries : names_try words ≡ true → IsApart w w' back → Runs W G H K words w w' written written' code back
+  serves : (options : ServeOptions) → words_of words ≡ Some (other (line.Serve options)) → back.other ≡ None → Serves W G H K options w w' written written' code back.doors back.disk back.past
+      → Runs W G H K words w w' written written' code back
+  recovers : (options : RecoverOptions) → words_of words ≡ Some (other (line.Recover options)) → W.doors_left w' ≡ W.doors_left w → back.doors ≡ [] → back.other ≡ None → back.past ≡ None
+      → Recovers G options.journal (W.asked w) (W.asked w') (W.disks_left w) (W.disks_left w') (W.faults w) (W.faults w') written written' code back.disk
+      → Runs W G H K words w w' written written' code back
+  compacts : (options : CompactOptions) → words_of words ≡ Some (other (line.Compact options)) → W.doors_left w' ≡ W.doors_left w → back.doors ≡ [] → back.past ≡ None
+      → RunsCompact G options (W.asked w) (W.asked w') (W.disks_left w) (W.disks_left w') (W.faults w) (W.faults w') written written' code back.disk back.other
+      → Runs W G H K words w w' written written' code back
+  follows : (options : FollowOptions) → words_of words ≡ Some (other (line.Follow options)) → back.other ≡ None → back.past ≡ None → Follows W G H K options w w' written written' code back.doors back.disk
+      → Runs W G H K words w w' written written' code back
+  shows : (asked : CommandLine) → IsQuestion asked → words_of words ≡ Some (other asked) → IsApart w w' back → Shows written written' code
+      → Runs W G H K words w w' written written' code back
+  audits : (options : AuditOptions) → words_of words ≡ Some (other (line.Audit options)) → back.doors ≡ [] → back.other ≡ None → back.past ≡ None
+      → (left left' : Option (List ℕ)) (faults faults' : ℕ) → RunsAudit W G options.journal w w' left left' faults faults' written written' code back.disk
+      → Runs W G H K words w w' written written' code back
+  makes : (options : MakeOptions) → words_of words ≡ Some (other (line.Make options)) → IsApart w w' back → RunsMake options written written' code
+      → Runs W G H K words w w' written written' code back
+  plans : asks_which (words_of words) ≡ true → IsApart w w' back → Runs W G H K words w w' written written' code back
+  unnamed : words_of words ≡ None → IsApart w w' back → EndsBy status.Usage written written' code → Runs W G H K words w w' written written' code back
+  starved : IsApart w w' back → EndsBy status.Memory written written' code → Runs W G H K words w w' written written' code back

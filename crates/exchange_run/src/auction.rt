@@ -12,7 +12,7 @@ ghost use Rattle.rtb_types.specs.Valid.{is_valid};
 
 use crate::opening::add_campaigns;
 use auction_core::{Command, Core, Reply};
-use core_index::{find_by_index, index_of_live};
+use live_index::{find_by_index, index_of_live};
 use rtb_base::Steps;
 use rtb_num::{List, Txt};
 use rtb_response::write_response;

@@ -13,7 +13,8 @@ ghost use Rattle.rtb_types.specs.Valid.{is_valid};
 
 use crate::auction::auction_line;
 use crate::words::command_in;
-use exact_json::{Doc, JsonFault, read};
+use bumpalo::Bump;
+use exact_json::{Doc, JsonFault, read, room_for};
 use refusal_text::{error_text, json_fault_text, request_fault_text};
 use rtb_io::{ReadFault, Status, read_all};
 use rtb_num::{Sink, Source, Txt};
@@ -106,12 +107,20 @@ fn bytes_reply(alloc: Global, words: &[Txt], bytes: &[u8]) -> Result<Reply, Allo
     if bytes.len() > MAX_INPUT {
         return refusal(alloc, b"body-too-large");
     }
-    match read(alloc, bytes) {
-        Ok(doc) => {
-            let reply = doc_reply(alloc, words, &doc);
-            drop(doc);
-            reply
-        }
+    let arena = Bump::try_with_capacity(alloc, room_for(bytes.len()))?;
+    let reply = text_reply(alloc, words, &arena, bytes);
+    drop(arena);
+    reply
+}
+
+fn text_reply(alloc: Global, words: &[Txt], arena: &Bump, bytes: &[u8]) -> Result<Reply, AllocError>
+    requires campaigns { IsSome (campaigns_of words.now) }
+    requires few { length words.now ≤ 64 }
+    requires fits { length bytes.now ≤ 262144 }
+    ensures { IfOk result (IsReply (campaigns_named words.now) bytes.now) }
+{
+    match read(alloc, arena, bytes) {
+        Ok(doc) => doc_reply(alloc, words, &doc),
         Err(fault) => json_refusal(alloc, fault),
     }
 }
@@ -128,7 +137,7 @@ fn refusal(alloc: Global, word: &[u8]) -> Result<Reply, AllocError>
 }
 
 // What is answered to the request that the text makes, or its first fault.
-fn doc_reply(alloc: Global, words: &[Txt], doc: &Doc) -> Result<Reply, AllocError>
+fn doc_reply(alloc: Global, words: &[Txt], doc: &Doc<'_>) -> Result<Reply, AllocError>
     requires campaigns { IsSome (campaigns_of words.now) }
     requires few { length words.now ≤ 64 }
     ensures { IfOk result (λ r. r ≡ tree_reply (campaigns_named words.now) (doc_tree doc.now)) }

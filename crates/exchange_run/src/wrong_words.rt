@@ -1,5 +1,5 @@
 ghost use Rattle.std.specs.Prelude.{◌≡◌, ◌<◌, ◌++◌, ℕ, List, None, Some, find, get_or, is_some, length, not, option_map, OnOk, OnErr, [], codes};
-ghost use Rattle.exchange_run.specs.Explain.{about_campaign, about_campaigns, about_options, about_word, all_examples, examples, explanation, further_wrong, what_is_wrong, wrong_campaign};
+ghost use Rattle.exchange_run.specs.Explain.{about_campaign, about_campaigns, about_options, about_word, all_examples, examples, explanation, further_example, further_wrong, what_is_wrong, wrong_campaign};
 ghost use Rattle.run_words.specs.CommandLines.{command_line};
 
 use crate::words::{MAX_CAMPAIGNS, is_campaign};
@@ -75,10 +75,29 @@ fn put_further(said: &[u8], name: &Txt, out: &mut Txt) -> Result<(), AllocError>
     ensures ok { OnOk result (out.new ≡ out.old ++ further_wrong said.now name.now) }
     ensures front { (more : List ℕ) × (out.new ≡ out.old ++ more) }
 {
-    if name.as_bytes() == b"which".as_slice() {
-        return put_about_options(said, WHICH_EXAMPLE, out);
+    match further_example(name.as_bytes()) {
+        Some(example) => put_about_options(said, example, out),
+        None => put_about_word(name, b" is no command\n", out),
     }
-    put_about_word(name, b" is no command\n", out)
+}
+
+// A right command of that name, where it is one of these.
+fn further_example(name: &[u8]) -> Option<&'static [u8]>
+    ensures { option_map (λ e. e.now) result ≡ further_example name.now }
+{
+    if name == b"follow".as_slice() {
+        return Some(FOLLOW_EXAMPLE);
+    }
+    if name == b"which".as_slice() {
+        return Some(WHICH_EXAMPLE);
+    }
+    if name == b"audit".as_slice() {
+        return Some(AUDIT_EXAMPLE);
+    }
+    if name == b"make".as_slice() {
+        return Some(MAKE_EXAMPLE);
+    }
+    None
 }
 
 const EXAMPLE: &[u8] = b"rtbx: a right command is: rtbx try 2.50@news.example 1.00\n";
@@ -92,14 +111,25 @@ const RECOVER_EXAMPLE: &[u8] =
 const COMPACT_EXAMPLE: &[u8] =
     b"rtbx: a right command is: rtbx compact --journal exchange.journal --into compacted.journal\n";
 
+const FOLLOW_EXAMPLE: &[u8] =
+    b"rtbx: a right command is: rtbx follow --listen 127.0.0.1:8081 --journal exchange.journal\n";
+
 const WHICH_EXAMPLE: &[u8] = b"rtbx: a right command is: rtbx which < expressions.json\n";
+
+const AUDIT_EXAMPLE: &[u8] =
+    b"rtbx: a right command is: rtbx audit --journal before.journal < trace\n";
+
+const MAKE_EXAMPLE: &[u8] = b"rtbx: a right command is: rtbx make 7 2000\n";
 
 fn put_all_examples(out: &mut Txt) -> Result<(), AllocError>
     ensures ok { OnOk result (out.new ≡ out.old ++ all_examples) }
     ensures front { (more : List ℕ) × (out.new ≡ out.old ++ more) }
 {
     put_examples(out)?;
+    out.extend(FOLLOW_EXAMPLE)?;
     out.extend(WHICH_EXAMPLE)?;
+    out.extend(AUDIT_EXAMPLE)?;
+    out.extend(MAKE_EXAMPLE)?;
     Ok(())
 }
 

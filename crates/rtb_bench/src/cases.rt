@@ -1,6 +1,6 @@
 //! Cases of named work, a line each; `case_lines` says what a case is.
 use crate::named_work::bench_run;
-use case_lines::{Areas, done, numbers_in};
+use case_lines::{done, numbers_in};
 use rtb_num::{MemSink, MemSource, Txt, write_decimal};
 use std::alloc::{AllocError, Global};
 
@@ -9,24 +9,20 @@ use std::alloc::{AllocError, Global};
 ///
 /// - `bench | WORDS | INPUT`: the status, and what is written.
 /// - `bench_failing | WORDS | INPUT | READS | WRITES`: the same.
-pub struct NamedWork;
-
-impl Areas for NamedWork {
-    fn answer(alloc: Global, call: &[u8], args: &[Txt], out: &mut Txt) -> Result<bool, AllocError> {
-        match args {
-            [line, input] if call == b"bench".as_slice() => {
-                done(run(alloc, line.as_bytes(), input, b"", b"", out))
-            }
-            [line, input, reads, writes] if call == b"bench_failing".as_slice() => done(run(
-                alloc,
-                line.as_bytes(),
-                input,
-                reads.as_bytes(),
-                writes.as_bytes(),
-                out,
-            )),
-            _ => Ok(false),
+pub fn answer(alloc: Global, call: &[u8], args: &[Txt], out: &mut Txt) -> Result<bool, AllocError> {
+    match args {
+        [line, input] if call == b"bench".as_slice() => {
+            done(run(alloc, line.as_bytes(), input, b"", b"", out))
         }
+        [line, input, reads, writes] if call == b"bench_failing".as_slice() => done(run(
+            alloc,
+            line.as_bytes(),
+            input,
+            reads.as_bytes(),
+            writes.as_bytes(),
+            out,
+        )),
+        _ => Ok(false),
     }
 }
 

@@ -1,11 +1,10 @@
 //! The jobs. Each answers how it ended.
 use crate::appends::{Outcome, append_blocks};
 use crate::auctions::{Asked, Shop, StateShop, ask_times};
-use crate::cases::NamedWork;
 use crate::messages::Piece;
 use crate::named_work::bench_run;
 use crate::plans::Plan;
-use crate::{book, messages, plans, turns};
+use crate::{book, cases, messages, plans, turns};
 use case_lines::run_cases;
 use rtb_disk::FileDisk;
 use rtb_io::{ReadFault, Status, read_all};
@@ -327,5 +326,5 @@ fn try_cases(rt: &HostRuntime, words: &[Txt]) -> Status {
     }
     let mut source = StdSource::new(rt.reader());
     let mut sink = StdSink::new(io::writer(rt));
-    run_cases::<NamedWork, _, _>(rt.alloc(), &mut source, &mut sink)
+    run_cases(&cases::answer, rt.alloc(), &mut source, &mut sink)
 }

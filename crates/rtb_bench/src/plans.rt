@@ -1,8 +1,9 @@
 //! Work on a request for the best expressions.
 ghost use Rattle.std.specs.Prelude.{◌≡◌, ◌≤◌, ◌<◌, length};
 
+use bumpalo::Bump;
 use cnf_match::CnfIndex;
-use exact_json::read;
+use exact_json::{Doc, read};
 use rtb_base::Steps;
 use rtb_num::{Txt, write_decimal};
 use std::alloc::{AllocError, Global};
@@ -68,18 +69,19 @@ fn answer_size(alloc: Global, bytes: &[u8]) -> Result<u64, AllocError> {
 
 // The sum of the numbers that were found.
 fn finds(alloc: Global, times: u32, bytes: &[u8]) -> Result<u64, AllocError> {
-    match read(alloc, bytes) {
-        Ok(doc) => {
-            let request = read_request(alloc, &doc);
-            drop(doc);
-            match request {
-                Ok(request) => {
-                    let sum = finds_in(alloc, times, &request);
-                    drop(request);
-                    sum
-                }
-                Err(_) => Ok(0),
-            }
+    let arena = Bump::new(alloc);
+    match read(alloc, &arena, bytes) {
+        Ok(doc) => finds_of(alloc, times, &doc),
+        Err(_) => Ok(0),
+    }
+}
+
+fn finds_of(alloc: Global, times: u32, doc: &Doc<'_>) -> Result<u64, AllocError> {
+    match read_request(alloc, doc) {
+        Ok(request) => {
+            let sum = finds_in(alloc, times, &request);
+            drop(request);
+            sum
         }
         Err(_) => Ok(0),
     }

@@ -14,11 +14,13 @@ use std::fs::File;
 use std::io::{self, Write};
 use std::process::ExitCode;
 use std::rt::Env;
+use std::sync::Wait;
+use std::thread::Threads;
 
 fn main(rt: HostRuntime) -> ExitCode {
     match fill_closed(&rt) {
         Ok(filled) => {
-            let status = run_words(&rt);
+            let status = run_words(&rt, &rt);
             drop(filled);
             ExitCode::from(status)
         }
@@ -42,8 +44,8 @@ fn fill_closed(rt: &HostRuntime) -> io::Result<(File, File, File)> {
     Ok((first, second, third))
 }
 
-// Runs the command that the words name.
-fn run_words(rt: &HostRuntime) -> u8 {
+// Runs the command that the words name. Its workers are threads of the second.
+fn run_words<R: Threads + Wait + Sync>(rt: &HostRuntime, threads: &R) -> u8 {
     let alloc = rt.alloc();
     let mut sink = StdSink::new(io::writer(rt));
     match words_of(rt) {
@@ -51,7 +53,7 @@ fn run_words(rt: &HostRuntime) -> u8 {
             let mut source = StdSource::new(rt.reader());
             let mut world = OsWorld::new(rt);
             let words = words.as_slice();
-            let status = status_of_run(alloc, words, &mut world, &mut source, &mut sink);
+            let status = status_of_run(alloc, words, &mut world, &mut source, &mut sink, threads);
             complain(alloc, words, &mut rt.stderr());
             status
         }
@@ -64,18 +66,18 @@ fn run_words(rt: &HostRuntime) -> u8 {
 }
 
 // Runs the command, and lets go of what the world handed out.
-fn status_of_run<W: World, S: Source, K: Sink>(
+fn status_of_run<W: World, S: Source, K: Sink, R: Threads + Wait + Sync>(
     alloc: Global,
     words: &[Txt],
     world: &mut W,
     source: &mut S,
     sink: &mut K,
+    rt: &R,
 ) -> u8
 where
-    W::Door: Drop,
     W::Disk: Drop,
 {
-    let outcome = run(alloc, words, world, &NoPause, source, sink);
+    let outcome = run(alloc, words, world, &NoPause, source, sink, rt);
     let status = outcome.status;
     drop(outcome);
     status

@@ -1,3 +1,4 @@
-mod Growing
 mod Handing
+mod Making
+mod Serving
 mod Telling

@@ -1,5 +1,10 @@
+pub mod Audit
 pub mod Compact
 pub mod Endings
+pub mod Follow
+pub mod Given
 pub mod Journals
+pub mod Make
 pub mod Recover
 pub mod Serve
+pub mod Served

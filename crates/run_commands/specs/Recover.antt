@@ -25,9 +25,9 @@ pub data Tells (store : Store) (faults faults' : ℕ) (written written' : Option
   counted : (line : List ℕ) → TellsState store line → faults' ≡ faults → Ends status.Done line written written' code → Tells store faults faults' written written' code
   faulty : (fault : JournalFault) → HasCause store faults faults' fault → EndsAt fault written written' code → Tells store faults faults' written written' code
 
--- What the command comes to: the world gave no disk, or what is on the disk is told. The disk is asked for by the path.
+-- What the command comes to: the world gave no disk, or what is on the disk is told. The disk is asked for by the path, to be read alone.
 -- `left` are the disks that the world has, `count` is its count of faults, and `back` is the disk that is given back.
 pub data Recovers {Disk : Type 0} (G : Ghosts Disk) (path : List ℕ) (asked asked' : List Asked) (left left' : Option (List Disk)) (count count' : ℕ) (written written' : Option (List ℕ)) (code : ℕ) (back : Option Disk) : Type 0 where
-  no_disk : AsksAtMost asked asked' (asked_for.Disk path) → left' ≡ left → Rose count count' → back ≡ None → EndsBy status.NoDisk written written' code → Recovers G path asked asked' left left' count count' written written' code back
-  read : (disk disk' : Disk) → asked' ≡ asked ++ asked_for.Disk path ∷ [] → HandsOut left left' (disk ∷ []) → count' ≡ count → back ≡ Some disk' → IsUnwritten (G.store disk) (G.store disk')
+  no_disk : AsksAtMost asked asked' (asked_for.DiskToRead path) → left' ≡ left → Rose count count' → back ≡ None → EndsBy status.NoDisk written written' code → Recovers G path asked asked' left left' count count' written written' code back
+  read : (disk disk' : Disk) → asked' ≡ asked ++ asked_for.DiskToRead path ∷ [] → HandsOut left left' (disk ∷ []) → count' ≡ count → back ≡ Some disk' → IsUnwritten (G.store disk) (G.store disk')
       → Tells (G.store disk) (G.faults disk) (G.faults disk') written written' code → Recovers G path asked asked' left left' count count' written written' code back

@@ -32,6 +32,7 @@ pub fn compact<W: World, K: Sink>(
 ) -> Outcome<W>
     ensures compacts { RunsCompact ⟦<W::Disk as Disk>⟧ options.now (W.asked world.old) (W.asked world.new) (W.disks_left world.old) (W.disks_left world.new) (W.faults world.old) (W.faults world.new) (K.written sink.old) (K.written sink.new) result.status result.disk result.other }
     ensures doors { result.doors ≡ [] }
+    ensures past { result.past ≡ None }
     ensures others { W.doors_left world.new ≡ W.doors_left world.old }
     ensures cause { RisesOnlyWhere (result.status ≡ code_of NotWritten) (K.faults sink.old) (K.faults sink.new) }
 {
@@ -51,6 +52,7 @@ fn compact_from<W: World, K: Sink>(
 ) -> Outcome<W>
     ensures compacts { (disks : Option (List W.Disk)) (asked : List Asked) → HandsOut disks (W.disks_left world.old) (from ∷ []) → W.asked world.old ≡ asked ++ asked_for.Disk options.now.journal ∷ [] → RunsCompact ⟦<W::Disk as Disk>⟧ options.now asked (W.asked world.new) disks (W.disks_left world.new) (W.faults world.old) (W.faults world.new) (K.written sink.old) (K.written sink.new) result.status result.disk result.other }
     ensures doors { result.doors ≡ [] }
+    ensures past { result.past ≡ None }
     ensures others { W.doors_left world.new ≡ W.doors_left world.old }
     ensures cause { RisesOnlyWhere (result.status ≡ code_of NotWritten) (K.faults sink.old) (K.faults sink.new) }
 {

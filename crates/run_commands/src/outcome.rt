@@ -1,6 +1,8 @@
 ghost use Rattle.std.specs.Prelude.{◌≡◌, [], None, Some};
 ghost use Rattle.rtb_io.specs.Statuses.{code_of};
 
+use exchange_state::ExchangeState;
+use hist_lock::Past;
 use link_door::World;
 use rtb_io::Status;
 use rtb_num::List;
@@ -17,6 +19,8 @@ pub struct Outcome<W: World> {
     pub disk: Option<W::Disk>,
     /// The disk of the journal that `compact` reads.
     pub other: Option<W::Disk>,
+    /// The history of the exchange, where `serve` opened one.
+    pub past: Option<Past<ExchangeState<W::Disk>>>,
 }
 
 impl<W: World> Outcome<W> {
@@ -26,12 +30,14 @@ impl<W: World> Outcome<W> {
         ensures doors { result.doors ≡ [] }
         ensures disk { result.disk ≡ None }
         ensures other { result.other ≡ None }
+        ensures past { result.past ≡ None }
     {
         Outcome {
             status,
             doors: List::new(alloc),
             disk: None,
             other: None,
+            past: None,
         }
     }
 
@@ -41,12 +47,14 @@ impl<W: World> Outcome<W> {
         ensures doors { result.doors ≡ [] }
         ensures disk { result.disk ≡ Some disk }
         ensures other { result.other ≡ None }
+        ensures past { result.past ≡ None }
     {
         Outcome {
             status: status.code(),
             doors: List::new(alloc),
             disk: Some(disk),
             other: None,
+            past: None,
         }
     }
 
@@ -61,12 +69,53 @@ impl<W: World> Outcome<W> {
         ensures doors { result.doors ≡ [] }
         ensures disk { result.disk ≡ disk }
         ensures other { result.other ≡ Some other }
+        ensures past { result.past ≡ None }
     {
         Outcome {
             status: status.code(),
             doors: List::new(alloc),
             disk,
             other: Some(other),
+            past: None,
+        }
+    }
+
+    /// A run that was handed out a disk and these doors, and opened no exchange.
+    pub fn with_doors(status: Status, doors: List<W::Door>, disk: W::Disk) -> Outcome<W>
+        ensures status { result.status ≡ code_of status }
+        ensures doors { result.doors ≡ doors }
+        ensures disk { result.disk ≡ Some disk }
+        ensures other { result.other ≡ None }
+        ensures past { result.past ≡ None }
+    {
+        Outcome {
+            status: status.code(),
+            doors,
+            disk: Some(disk),
+            other: None,
+            past: None,
+        }
+    }
+
+    /// A run that opened an exchange, with these doors or none.
+    pub fn with_past(
+        status: Status,
+        doors: List<W::Door>,
+        disk: W::Disk,
+        past: Past<ExchangeState<W::Disk>>,
+    ) -> Outcome<W>
+        ensures status { result.status ≡ code_of status }
+        ensures doors { result.doors ≡ doors }
+        ensures disk { result.disk ≡ Some disk }
+        ensures other { result.other ≡ None }
+        ensures past { result.past ≡ Some past }
+    {
+        Outcome {
+            status: status.code(),
+            doors,
+            disk: Some(disk),
+            other: None,
+            past: Some(past),
         }
     }
 }

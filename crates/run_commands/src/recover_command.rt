@@ -18,8 +18,8 @@ use rtb_num::{Failed, Sink, Txt};
 use run_words::RecoverOptions;
 use std::alloc::Global;
 
-/// Runs the command `recover`: reads the journal, writes no byte to it, and prints the counts of the exchange
-/// that it gives.
+/// Runs the command `recover`: reads the journal, which is there and is read alone, writes no byte to it, and prints
+/// the counts of the exchange that it gives.
 ///
 /// It ends with status 0, or 4 where the world gave no disk, 5 where the disk failed, 6 where the journal is
 /// damaged, or 9 for want of memory, each with a line of its own; and in place of each of them 7, where the
@@ -33,10 +33,11 @@ pub fn recover<W: World, K: Sink>(
     ensures recovers { Recovers ⟦<W::Disk as Disk>⟧ options.now.journal (W.asked world.old) (W.asked world.new) (W.disks_left world.old) (W.disks_left world.new) (W.faults world.old) (W.faults world.new) (K.written sink.old) (K.written sink.new) result.status result.disk }
     ensures doors { result.doors ≡ [] }
     ensures other { result.other ≡ None }
+    ensures past { result.past ≡ None }
     ensures others { W.doors_left world.new ≡ W.doors_left world.old }
     ensures cause { RisesOnlyWhere (result.status ≡ code_of NotWritten) (K.faults sink.old) (K.faults sink.new) }
 {
-    match world.disk(&options.journal) {
+    match world.disk_to_read(&options.journal) {
         Ok(disk) => {
             let (disk, status) = tell_journal(alloc, disk, sink);
             Outcome::with_disk(alloc, status, disk)

@@ -1,102 +1,207 @@
-ghost use Rattle.std.specs.Prelude.{◌≡◌, ◌≢◌, [], ◌∷◌, ◌++◌, Option, Some, List};
-ghost use Rattle.link_door.specs.Worlds.{HandsOut};
-ghost use Rattle.link_door.specs.declared.asked.Asked.{Asked};
-ghost use Rattle.link_door.specs.declared.asked.Asked.TheVariants as asked_for;
-ghost use Rattle.rtb_base.specs.Faults.{RisesOnlyWhere};
+ghost use Rattle.std.specs.Prelude.{◌≡◌, ◌<◌, ◌^◌, ℕ, [], List, Option, None, IfErr, IfOk, length, true};
+ghost use Rattle.std.specs.Io.KnownBytes.{Appends};
+ghost use Rattle.exchange_shared.specs.Opening.{IsOriginOver};
+ghost use Rattle.exchange_shared.specs.Seats.{IsOrdered, MayCall, lock_of};
+ghost use Rattle.exchange_state.specs.Standing.{SaysFront};
+ghost use Rattle.exchange_state.specs.Tickets.{IsLegalFrom};
+ghost use Rattle.exchange_state.specs.Views.{calls, failures};
+ghost use Rattle.hist_lock.specs.Views.{first_seat};
+ghost use Rattle.rtb_base.specs.Faults.{RisesOnlyWhere, RoseBy};
+ghost use Rattle.rtb_disk.specs.Stores.{EachImage};
 ghost use Rattle.rtb_io.specs.Statuses.{code_of};
 ghost use Rattle.rtb_io.specs.declared.status.Status.TheVariants.{NotWritten};
-ghost use Rattle.run_commands.specs.Serve.{Announces, EndsBehind, EndsWithoutDoor, Listens, Opens, Serves, first_line};
+ghost use Rattle.run_commands.specs.Given.{GivesDisk};
+ghost use Rattle.worker_pool.specs.Pools.{KeepsBudgets};
+ghost use Rattle.run_commands.specs.Serve.{Announces, EndsBehind, EndsWithoutDoors, IsRefused, IsRun, Serves, first_line, workers_of};
 
 use crate::journals::end_at;
 use crate::outcome::Outcome;
-use crate::rooms::{list_with, only_item};
 use crate::status_lines::end_with;
+use exchange_shared::{Exchange, Seat};
+use exchange_state::ExchangeState;
+use hist_lock::Past;
+use journal_file::JournalFault;
 use link_door::{Door, Link, Pause, World, WorldFault};
-use one_worker::{DoorEnd, Exchange, Served, serve_door};
+use rtb_base::Steps;
 use rtb_disk::Disk;
 use rtb_io::{Status, write_all};
-use rtb_num::{Failed, Sink};
+use rtb_num::{Failed, List, Sink, Txt, write_decimal};
 use run_words::ServeOptions;
-use std::alloc::Global;
+use std::alloc::{AllocError, Global};
+use std::marker::Brand;
+use std::sync::Wait;
+use std::sync::ledger::{Blank, Ledger};
+use std::thread::Threads;
+use worker_pool::{Pool, PoolEnd, budgets_hold_at_each_place, serve_doors};
 
-/// Runs the command `serve`: opens the journal, opens a door, says that it serves, and serves the links that
-/// come through the door, one after the other, until no more will come.
+/// Runs the command `serve`: opens the journal, opens a door for each worker, says that it serves, and serves the links
+/// that come through the doors, each worker one link after the other, until no more will come. Then it writes once more
+/// what is not durable.
 ///
-/// It ends with status 0, or 3 where the world gave no door, 4 where it gave no disk, 5 where the disk failed
-/// while the journal was opened, 6 where the journal is damaged, 8 where the door failed, or 9 for want of
-/// memory, each with a line of its own; and in place of each of them 7, where the sink failed. Where the sink
-/// fails at the first line, nothing is served.
-pub fn serve<W: World, P: Pause, K: Sink>(
+/// It ends with status 0, or 3 where the world gave no doors, 4 where it gave no disk, 5 where the disk failed while the
+/// journal was opened, 6 where the journal is damaged, 8 where a door failed, 9 for want of memory, or 11 where the last
+/// write failed, each with a line of its own; and in place of each of them 7, where the sink failed. Where the sink fails
+/// at the first line, nothing is served.
+pub fn serve<W: World, P: Pause + Sync, K: Sink, R: Threads + Wait + Sync>(
     alloc: Global,
     options: &ServeOptions,
     world: &mut W,
     pause: &P,
     sink: &mut K,
+    rt: &R,
 ) -> Outcome<W>
-    ensures serves { Serves ⟦<W::Disk as Disk>⟧ ⟦<W::Door as Door>⟧ ⟦<<W::Door as Door>::Link as Link>⟧ options.now (W.asked world.old) (W.asked world.new) (W.disks_left world.old) (W.disks_left world.new) (W.doors_left world.old) (W.doors_left world.new) (W.faults world.old) (W.faults world.new) (K.written sink.old) (K.written sink.new) result.status result.doors result.disk }
+    ensures serves { Serves ⟦<W as World>⟧ ⟦<W::Disk as Disk>⟧ ⟦<W::Door as Door>⟧ ⟦<<W::Door as Door>::Link as Link>⟧ options.now world.old world.new (K.written sink.old) (K.written sink.new) result.status result.doors result.disk result.past }
     ensures other { result.other ≡ None }
     ensures cause { RisesOnlyWhere (result.status ≡ code_of NotWritten) (K.faults sink.old) (K.faults sink.new) }
 {
-    match world.disk(&options.journal) {
-        Ok(disk) => serve_disk(alloc, options, world, pause, sink, disk),
-        Err(Failed) => Outcome::without_world(alloc, end_with(Status::NoDisk, sink).code()),
+    match first_line(alloc, options) {
+        Ok(line) => {
+            let tools = Tools {
+                alloc,
+                options,
+                line: &line,
+                pause,
+                rt,
+            };
+            let outcome = serve_journal(&tools, world, sink);
+            drop(line);
+            outcome
+        }
+        Err(AllocError) => Outcome::without_world(alloc, end_with(Status::Memory, sink).code()),
+    }
+}
+
+// What the command is given, and its first line, which is made before anything is asked of the world.
+#[derive(Clone, Copy)]
+struct Tools<'a, P, R> {
+    alloc: Global,
+    options: &'a ServeOptions,
+    line: &'a Txt,
+    pause: &'a P,
+    rt: &'a R,
+}
+
+fn first_line(alloc: Global, options: &ServeOptions) -> Result<Txt, AllocError>
+    ensures { IfOk result (λ line. line ≡ first_line options.now) }
+{
+    let workers = workers_of(options);
+    let mut line = Txt::new(alloc);
+    line.extend(b"serving with ")?;
+    write_decimal(u64::from(workers), &mut line)?;
+    line.extend(b" workers\n")?;
+    Ok(line)
+}
+
+// As many workers as the words tell: from 1 to this.
+const MOST_WORKERS: u64 = 64;
+
+fn workers_of(options: &ServeOptions) -> u32
+    ensures workers { result ≡ workers_of options.now }
+    ensures some { 0 < result }
+{
+    options.workers.max(1).min(MOST_WORKERS) as u32
+}
+
+// The same, with the line.
+fn serve_journal<'a, W: World, P: Pause + Sync, K: Sink, R: Threads + Wait + Sync>(
+    tools: &Tools<'a, P, R>,
+    world: &mut W,
+    sink: &mut K,
+) -> Outcome<W>
+    requires line { tools.now.line.now ≡ first_line tools.now.options.now }
+    ensures serves { Serves ⟦<W as World>⟧ ⟦<W::Disk as Disk>⟧ ⟦<W::Door as Door>⟧ ⟦<<W::Door as Door>::Link as Link>⟧ tools.now.options.now world.old world.new (K.written sink.old) (K.written sink.new) result.status result.doors result.disk result.past }
+    ensures other { result.other ≡ None }
+    ensures cause { RisesOnlyWhere (result.status ≡ code_of NotWritten) (K.faults sink.old) (K.faults sink.new) }
+{
+    match world.disk(&tools.options.journal) {
+        Ok(disk) => serve_disk(tools, world, sink, disk),
+        Err(Failed) => {
+            let status = end_with(Status::NoDisk, sink);
+            Outcome::without_world(tools.alloc, status.code())
+        }
     }
 }
 
 // The same, with the disk that the world gave.
-fn serve_disk<W: World, P: Pause, K: Sink>(
-    alloc: Global,
-    options: &ServeOptions,
+fn serve_disk<'a, W: World, P: Pause + Sync, K: Sink, R: Threads + Wait + Sync>(
+    tools: &Tools<'a, P, R>,
     world: &mut W,
-    pause: &P,
     sink: &mut K,
     disk: W::Disk,
 ) -> Outcome<W>
-    ensures serves { (disks : Option (List W.Disk)) (asked : List Asked) → HandsOut disks (W.disks_left world.old) (disk ∷ []) → W.asked world.old ≡ asked ++ asked_for.Disk options.now.journal ∷ [] → Serves ⟦<W::Disk as Disk>⟧ ⟦<W::Door as Door>⟧ ⟦<<W::Door as Door>::Link as Link>⟧ options.now asked (W.asked world.new) disks (W.disks_left world.new) (W.doors_left world.old) (W.doors_left world.new) (W.faults world.old) (W.faults world.new) (K.written sink.old) (K.written sink.new) result.status result.doors result.disk }
+    requires line { tools.now.line.now ≡ first_line tools.now.options.now }
+    ensures serves { (before : W) → GivesDisk ⟦<W as World>⟧ tools.now.options.now.journal before world.old disk
+        → Serves ⟦<W as World>⟧ ⟦<W::Disk as Disk>⟧ ⟦<W::Door as Door>⟧ ⟦<<W::Door as Door>::Link as Link>⟧ tools.now.options.now before world.new (K.written sink.old) (K.written sink.new) result.status result.doors result.disk result.past }
     ensures other { result.other ≡ None }
     ensures cause { RisesOnlyWhere (result.status ≡ code_of NotWritten) (K.faults sink.old) (K.faults sink.new) }
 {
-    match Exchange::open(alloc, disk, options.ttl) {
-        Ok(exchange) => serve_exchange(alloc, options, world, pause, sink, exchange),
-        Err((disk, fault)) => Outcome::with_disk(alloc, end_at(alloc, fault, sink), disk),
+    match open::<W::Disk, Brand>(tools.alloc, disk, tools.options.ttl, Blank::new(1)) {
+        Ok((exchange, seat)) => serve_exchange(tools, world, sink, exchange, seat),
+        Err((disk, fault)) => {
+            let status = end_at(tools.alloc, fault, sink);
+            Outcome::with_disk(tools.alloc, status, disk)
+        }
     }
+}
+
+// Opens the journal on the disk. The steps are not counted.
+fn open<D: Disk, L: Ledger>(
+    alloc: Global,
+    disk: D,
+    ttl: u64,
+    blank: Blank,
+) -> Result<(Exchange<D>, Seat<D>), (D, JournalFault)>
+    requires name { blank.name ≡ L.name }
+    requires parts { blank.parts ≡ L.parts }
+    requires some { 0 < blank.parts }
+    ensures first { IfOk result (λ r. r.1 ≡ first_seat (lock_of r.0) r.1.origin) }
+    ensures seat { IfOk result (λ r. MayCall (lock_of r.0) r.1) }
+    ensures origin { IfOk result (λ r. IsOriginOver (D.store disk) (D.faults disk) ttl r.1.origin) }
+    ensures refused { IfErr result (λ e. IsRefused ⟦<D as Disk>⟧ disk e.0 e.1) }
+{
+    let mut steps = Steps::<L>::new(blank);
+    Exchange::start(alloc, disk, ttl, &mut steps)
 }
 
 // The same, with the exchange that was opened from the disk.
-fn serve_exchange<W: World, P: Pause, K: Sink>(
-    alloc: Global,
-    options: &ServeOptions,
+fn serve_exchange<'a, W: World, P: Pause + Sync, K: Sink, R: Threads + Wait + Sync>(
+    tools: &Tools<'a, P, R>,
     world: &mut W,
-    pause: &P,
     sink: &mut K,
     exchange: Exchange<W::Disk>,
+    seat: Seat<W::Disk>,
 ) -> Outcome<W>
-    ensures listens { (disk : W.Disk) → Opens ⟦<W::Disk as Disk>⟧ ⟦<W::Door as Door>⟧ ⟦<<W::Door as Door>::Link as Link>⟧ options.now disk exchange → Listens ⟦<W::Disk as Disk>⟧ ⟦<W::Door as Door>⟧ ⟦<<W::Door as Door>::Link as Link>⟧ options.now disk (W.asked world.old) (W.asked world.new) (W.doors_left world.old) (W.doors_left world.new) (W.faults world.old) (W.faults world.new) (K.written sink.old) (K.written sink.new) result.status result.doors result.disk }
-    ensures disks { W.disks_left world.new ≡ W.disks_left world.old }
+    requires line { tools.now.line.now ≡ first_line tools.now.options.now }
+    requires seat { MayCall (lock_of exchange) seat }
+    requires first { seat ≡ first_seat (lock_of exchange) seat.origin }
+    ensures serves { (before : W) (disk : W.Disk) → GivesDisk ⟦<W as World>⟧ tools.now.options.now.journal before world.old disk
+        → IsOriginOver (W.Disk.store disk) (W.Disk.faults disk) tools.now.options.now.ttl seat.origin
+        → Serves ⟦<W as World>⟧ ⟦<W::Disk as Disk>⟧ ⟦<W::Door as Door>⟧ ⟦<<W::Door as Door>::Link as Link>⟧ tools.now.options.now before world.new (K.written sink.old) (K.written sink.new) result.status result.doors result.disk result.past }
     ensures other { result.other ≡ None }
     ensures cause { RisesOnlyWhere (result.status ≡ code_of NotWritten) (K.faults sink.old) (K.faults sink.new) }
 {
-    match world.doors(alloc, &options.listen, 1) {
+    let workers = workers_of(tools.options);
+    match world.doors(tools.alloc, &tools.options.listen, workers) {
         Ok(doors) => {
-            let (door, room) = only_item(doors);
-            let ended = announce(alloc, options, pause, sink, exchange, door);
-            let Ended { disk, door, status } = ended;
-            Outcome {
-                status: status.code(),
-                doors: list_with(room, door),
-                disk: Some(disk),
-                other: None,
-            }
+            let ended = announce(tools, sink, exchange, seat, doors);
+            let Ended {
+                doors,
+                disk,
+                past,
+                status,
+            } = ended;
+            Outcome::with_past(status, doors, disk, past)
         }
         Err(fault) => {
-            let status = end_without_door(fault, sink);
-            Outcome::with_disk(alloc, status, exchange.into_disk())
+            let status = end_without_doors(fault, sink);
+            let (disk, past) = close_idle(exchange, seat);
+            Outcome::with_past(status, List::new(tools.alloc), disk, past)
         }
     }
 }
 
-fn end_without_door<K: Sink>(fault: WorldFault, sink: &mut K) -> Status
-    ensures ends { EndsWithoutDoor fault (K.written sink.old) (K.written sink.new) (code_of result) }
+pub(crate) fn end_without_doors<K: Sink>(fault: WorldFault, sink: &mut K) -> Status
+    ensures ends { EndsWithoutDoors fault (K.written sink.old) (K.written sink.new) (code_of result) }
     ensures cause { RisesOnlyWhere (result ≡ NotWritten) (K.faults sink.old) (K.faults sink.new) }
 {
     match fault {
@@ -105,55 +210,124 @@ fn end_without_door<K: Sink>(fault: WorldFault, sink: &mut K) -> Status
     }
 }
 
+// Closes an exchange in which nothing came.
+fn close_idle<D: Disk>(exchange: Exchange<D>, seat: Seat<D>) -> (D, Past<ExchangeState<D>>)
+    requires seat { MayCall (lock_of exchange) seat }
+    requires first { seat ≡ first_seat (lock_of exchange) seat.origin }
+    ensures origin { result.1.origin ≡ seat.origin }
+    ensures untouched { result.1.seen ≡ [] }
+    ensures order { IsOrdered result.1.origin result.1.seen }
+    ensures legal { IsLegalFrom result.1.origin (calls result.1.seen) }
+    ensures budgets { KeepsBudgets result.1 }
+    ensures crash { result.1.origin.told ≡ true → EachImage (SaysFront result.1.origin result.1.seen) (D.store result.0).now }
+    ensures failed { RoseBy (failures result.1.seen) result.1.origin.faults (D.faults result.0) }
+{
+    budgets_hold_at_each_place();
+    exchange.close(seat)
+}
+
 // How the serving ended, and what it was done with.
-struct Ended<D, G> {
+struct Ended<D: Disk, G> {
+    doors: List<G>,
     disk: D,
-    door: G,
+    past: Past<ExchangeState<D>>,
     status: Status,
 }
 
-// Says that it serves, and serves the door.
-fn announce<D: Disk, G: Door, P: Pause, K: Sink>(
-    alloc: Global,
-    options: &ServeOptions,
-    pause: &P,
+// Says that it serves, and serves the doors.
+fn announce<
+    'a,
+    D: Disk + Send,
+    G: Door + Drop + Send,
+    P: Pause + Sync,
+    K: Sink,
+    R: Threads + Wait + Sync,
+>(
+    tools: &Tools<'a, P, R>,
     sink: &mut K,
     exchange: Exchange<D>,
-    door: G,
+    seat: Seat<D>,
+    doors: List<G>,
 ) -> Ended<D, G>
-    ensures announces { (disk : D) → Opens ⟦<D as Disk>⟧ ⟦<G as Door>⟧ ⟦<<G as Door>::Link as Link>⟧ options.now disk exchange → Announces ⟦<D as Disk>⟧ ⟦<G as Door>⟧ ⟦<<G as Door>::Link as Link>⟧ options.now disk result.disk door result.door (K.written sink.old) (K.written sink.new) (code_of result.status) }
+    requires line { tools.now.line.now ≡ first_line tools.now.options.now }
+    requires seat { MayCall (lock_of exchange) seat }
+    requires first { seat ≡ first_seat (lock_of exchange) seat.origin }
+    requires some { 0 < length doors }
+    requires few { length doors < 2 ^ 32 }
+    ensures announces { (disk : D) → IsOriginOver (D.store disk) (D.faults disk) tools.now.options.now.ttl seat.origin
+        → Announces ⟦<D as Disk>⟧ ⟦<G as Door>⟧ ⟦<<G as Door>::Link as Link>⟧ tools.now.options.now disk result.disk doors result.doors result.past (K.written sink.old) (K.written sink.new) (code_of result.status) }
     ensures cause { RisesOnlyWhere (result.status ≡ NotWritten) (K.faults sink.old) (K.faults sink.new) }
 {
-    match write_all(sink, b"serving with 1 workers\n") {
-        Ok(()) => {
-            let served = serve_door(alloc, exchange, door, pause, &options.public);
-            let Served {
-                exchange,
-                door,
-                end,
-            } = served;
+    match write_all(sink, tools.line.as_bytes()) {
+        Ok(()) => serve_all(tools, sink, exchange, seat, doors),
+        Err(Failed) => {
+            let (disk, past) = close_idle(exchange, seat);
             Ended {
-                status: end_behind(end, sink),
-                disk: exchange.into_disk(),
-                door,
+                doors,
+                disk,
+                past,
+                status: Status::NotWritten,
             }
         }
-        Err(Failed) => Ended {
-            status: Status::NotWritten,
-            disk: exchange.into_disk(),
-            door,
-        },
     }
 }
 
-// What is left to be written once the door was served.
-fn end_behind<K: Sink>(end: DoorEnd, sink: &mut K) -> Status
+// Serves the doors behind the first line.
+fn serve_all<
+    'a,
+    D: Disk + Send,
+    G: Door + Drop + Send,
+    P: Pause + Sync,
+    K: Sink,
+    R: Threads + Wait + Sync,
+>(
+    tools: &Tools<'a, P, R>,
+    sink: &mut K,
+    exchange: Exchange<D>,
+    seat: Seat<D>,
+    doors: List<G>,
+) -> Ended<D, G>
+    requires seat { MayCall (lock_of exchange) seat }
+    requires first { seat ≡ first_seat (lock_of exchange) seat.origin }
+    requires some { 0 < length doors }
+    requires few { length doors < 2 ^ 32 }
+    ensures run { (disk : D) (before : Option (List ℕ)) → IsOriginOver (D.store disk) (D.faults disk) tools.now.options.now.ttl seat.origin → Appends before (K.written sink.old) (first_line tools.now.options.now)
+        → IsRun ⟦<D as Disk>⟧ ⟦<G as Door>⟧ ⟦<<G as Door>::Link as Link>⟧ tools.now.options.now disk result.disk doors result.doors result.past before (K.written sink.new) (code_of result.status) }
+    ensures cause { RisesOnlyWhere (result.status ≡ NotWritten) (K.faults sink.old) (K.faults sink.new) }
+{
+    let public = &tools.options.public;
+    let pool = serve_doors(
+        exchange,
+        tools.rt,
+        tools.alloc,
+        tools.pause,
+        public,
+        seat,
+        doors,
+    );
+    let Pool {
+        doors,
+        disk,
+        past,
+        end,
+    } = pool;
+    Ended {
+        doors,
+        disk,
+        past,
+        status: end_behind(end, sink),
+    }
+}
+
+// What is left to be written once the doors were served.
+fn end_behind<K: Sink>(end: PoolEnd, sink: &mut K) -> Status
     ensures ends { EndsBehind end (K.written sink.old) (K.written sink.new) (code_of result) }
     ensures cause { RisesOnlyWhere (result ≡ NotWritten) (K.faults sink.old) (K.faults sink.new) }
 {
     match end {
-        DoorEnd::Served => Status::Done,
-        DoorEnd::Failed => end_with(Status::DoorFailed, sink),
-        DoorEnd::Spent => end_with(Status::Memory, sink),
+        PoolEnd::Served => Status::Done,
+        PoolEnd::DoorFailed => end_with(Status::DoorFailed, sink),
+        PoolEnd::LastWriteFailed => end_with(Status::LastWriteFailed, sink),
+        PoolEnd::Memory => end_with(Status::Memory, sink),
     }
 }

@@ -21,9 +21,10 @@ required name = record (new_rule name) { long = Some name; required = true }
 abbrev pub number_between : ℕ → ℕ → Text → Text → Rule
 number_between least most default name = record (new_rule name) { long = Some name; defaults = default ∷ []; parser = Some (parser.Unsigned least most) }
 
--- `serve --listen A --journal P --public U --ttl T`, with T from 1 to a year, in milliseconds
+-- `serve --listen A --journal P --public U --workers N --ttl T`, with N from 1 to 64, and T from 1 to a year, in milliseconds
 abbrev pub serve_app : App
-serve_app = with_rule (with_rule (with_rule (with_rule (new_app (codes "serve")) (required (codes "listen"))) (required (codes "journal"))) (required (codes "public"))) (number_between 1 31536000000 (codes "300000") (codes "ttl"))
+serve_app = with_rule (with_rule (with_rule (with_rule (with_rule (new_app (codes "serve")) (required (codes "listen"))) (required (codes "journal"))) (required (codes "public"))) (number_between 1 64 (codes "4") (codes "workers")))
+    (number_between 1 31536000000 (codes "300000") (codes "ttl"))
 
 -- `recover --journal P`
 abbrev pub recover_app : App
@@ -48,14 +49,19 @@ number_parser = parser.Unsigned 0 (2 ^ 64 - 1)
 abbrev pub number_in : Text → Option ℕ
 number_in text = if accepts false number_parser text then Some (digits_value 10 (without_leading_plus text)) else None
 
+-- how many workers, and for how many milliseconds a sale is held
+abbrev pub serve_numbers : List Row → Option (ℕ × ℕ)
+serve_numbers rows = option_and_then (λ workers. option_map (λ ttl. (workers, ttl)) (number_in (text_of (codes "ttl") rows))) (number_in (text_of (codes "workers") rows))
+
 -- port 0 is none to listen at: nobody is told where the system then listens
 abbrev pub serve_of : List Row → Option ServeOptions
-serve_of rows = if has_port_0 (text_of (codes "listen") rows) then None else option_map (λ ttl. record {
+serve_of rows = if has_port_0 (text_of (codes "listen") rows) then None else option_map (λ numbers. record {
   listen = text_of (codes "listen") rows;
   journal = text_of (codes "journal") rows;
   public = text_of (codes "public") rows;
-  ttl = ttl;
-}) (number_in (text_of (codes "ttl") rows))
+  workers = numbers.0;
+  ttl = numbers.1;
+}) (serve_numbers rows)
 
 abbrev pub recover_of : List Row → RecoverOptions
 recover_of rows = record { journal = text_of (codes "journal") rows }

@@ -1,5 +1,8 @@
+pub mod Audit
 pub mod Addresses
 pub mod CommandLines
 pub mod Commands
+pub mod Make
 pub mod Compact
+pub mod Follow
 pub mod Which

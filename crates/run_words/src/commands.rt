@@ -1,10 +1,13 @@
 ghost use Rattle.std.specs.Prelude.{◌≡◌, ◌||◌, MatchResult, None, Some, codes};
 ghost use Rattle.std.specs.Str.{bytes_eq};
-ghost use Rattle.run_words.specs.CommandLines.{about, asked, command_line, compact_line, further_line, is_question, recover_line, serve_line, which_line};
+ghost use Rattle.run_words.specs.CommandLines.{about, asked, audit_line, command_line, compact_line, follow_line, further_line, is_question, last_line, make_line, recover_line, serve_line, which_line};
 ghost use Rattle.run_words.specs.declared.fault.WordsFault.TheVariants.{Usage};
 
+use crate::audit::{AuditOptions, audit_options};
 use crate::compact::{CompactOptions, compact_options};
 use crate::fault::WordsFault;
+use crate::follow::{FollowOptions, follow_options};
+use crate::make::{MakeOptions, make_options};
 use crate::recover::{RecoverOptions, recover_options};
 use crate::serve::{ServeOptions, serve_options};
 use crate::which::which_words;
@@ -22,10 +25,16 @@ pub enum Topic {
     Recover,
     /// The command `compact`.
     Compact,
+    /// The command `follow`.
+    Follow,
     /// The command `try`.
     Try,
     /// The command `which`.
     Which,
+    /// The command `audit`.
+    Audit,
+    /// The command `make`.
+    Make,
 }
 
 /// What words ask for, where they are of no command that is read by hand.
@@ -39,6 +48,12 @@ pub enum CommandLine {
     Which,
     /// `compact` with its options.
     Compact(CompactOptions),
+    /// `follow` with its options.
+    Follow(FollowOptions),
+    /// `audit` with its options.
+    Audit(AuditOptions),
+    /// `make` with what it is to make.
+    Make(MakeOptions),
     /// `--help`, alone or behind a command's name.
     Help(Topic),
     /// `--version`, likewise.
@@ -78,10 +93,55 @@ fn further_line(
 ) -> Result<CommandLine, WordsFault>
     ensures { MatchResult result (λ line. further_line words.now name.now rest.now ≡ Some line) (λ e. e ≡ Usage → further_line words.now name.now rest.now ≡ None) }
 {
+    if name.as_bytes() == b"follow".as_slice() {
+        return follow_line(alloc, words, rest);
+    }
+    last_line(alloc, words, name, rest)
+}
+
+// The same, of words whose first does not name that either.
+fn last_line(
+    alloc: Global,
+    words: &[Txt],
+    name: &Txt,
+    rest: &[Txt],
+) -> Result<CommandLine, WordsFault>
+    ensures { MatchResult result (λ line. last_line words.now name.now rest.now ≡ Some line) (λ e. e ≡ Usage → last_line words.now name.now rest.now ≡ None) }
+{
     if name.as_bytes() == b"which".as_slice() {
         return which_line(alloc, words, rest);
     }
+    if name.as_bytes() == b"audit".as_slice() {
+        return audit_line(alloc, words, rest);
+    }
+    if name.as_bytes() == b"make".as_slice() {
+        return make_line(alloc, words, rest);
+    }
     question(Topic::Program, words)
+}
+
+fn make_line(alloc: Global, words: &[Txt], rest: &[Txt]) -> Result<CommandLine, WordsFault>
+    ensures { MatchResult result (λ line. make_line words.now rest.now ≡ Some line) (λ e. e ≡ Usage → make_line words.now rest.now ≡ None) }
+{
+    match asked(Topic::Make, rest) {
+        Some(line) => Ok(line),
+        None => match make_options(alloc, words) {
+            Ok(options) => Ok(CommandLine::Make(options)),
+            Err(fault) => Err(fault),
+        },
+    }
+}
+
+fn audit_line(alloc: Global, words: &[Txt], rest: &[Txt]) -> Result<CommandLine, WordsFault>
+    ensures { MatchResult result (λ line. audit_line words.now rest.now ≡ Some line) (λ e. e ≡ Usage → audit_line words.now rest.now ≡ None) }
+{
+    match asked(Topic::Audit, rest) {
+        Some(line) => Ok(line),
+        None => match audit_options(alloc, words) {
+            Ok(options) => Ok(CommandLine::Audit(options)),
+            Err(fault) => Err(fault),
+        },
+    }
 }
 
 fn which_line(alloc: Global, words: &[Txt], rest: &[Txt]) -> Result<CommandLine, WordsFault>
@@ -137,6 +197,18 @@ fn compact_line(alloc: Global, words: &[Txt], rest: &[Txt]) -> Result<CommandLin
         Some(line) => Ok(line),
         None => match compact_options(alloc, words) {
             Ok(options) => Ok(CommandLine::Compact(options)),
+            Err(fault) => Err(fault),
+        },
+    }
+}
+
+fn follow_line(alloc: Global, words: &[Txt], rest: &[Txt]) -> Result<CommandLine, WordsFault>
+    ensures { MatchResult result (λ line. follow_line words.now rest.now ≡ Some line) (λ e. e ≡ Usage → follow_line words.now rest.now ≡ None) }
+{
+    match asked(Topic::Follow, rest) {
+        Some(line) => Ok(line),
+        None => match follow_options(alloc, words) {
+            Ok(options) => Ok(CommandLine::Follow(options)),
             Err(fault) => Err(fault),
         },
     }

@@ -1,8 +1,11 @@
 //! Texts for a person, of which no contract speaks.
 use crate::address::has_port_0;
+use crate::audit::audit_command;
 use crate::commands::Topic;
 use crate::compact::compact_command;
 use crate::fault::WordsFault;
+use crate::follow::follow_command;
+use crate::make::make_command;
 use crate::recover::recover_command;
 use crate::serve::serve_command;
 use crate::texts::texts;
@@ -43,7 +46,7 @@ fn text_of(alloc: Global, text: Result<String, AllocError>) -> Result<Txt, Alloc
 
 const PROGRAM_ABOUT: &str = "An ad exchange for OpenRTB 2.5";
 
-const SERVE_ABOUT: &str = "Serves the exchange over HTTP, with one worker, until it is stopped";
+const SERVE_ABOUT: &str = "Serves the exchange over HTTP, by several workers, until it is stopped";
 
 const RECOVER_ABOUT: &str =
     "Reads a journal, changes nothing, and prints the counts of its exchange";
@@ -51,11 +54,20 @@ const RECOVER_ABOUT: &str =
 const COMPACT_ABOUT: &str =
     "Writes a journal anew, without old sales: to another file, while nobody serves it";
 
+const FOLLOW_ABOUT: &str =
+    "Reports campaigns over HTTP from a journal that a server writes, and changes nothing";
+
 const TRY_ABOUT: &str =
     "Sells one bid request of standard input to the campaigns BID or BID@DOMAIN";
 
 const WHICH_ABOUT: &str =
     "Prints the best expressions of standard input for an assignment, and why";
+
+const AUDIT_ABOUT: &str =
+    "Reads a trace from standard input, and says whether the exchange of a journal gives its answers";
+
+const MAKE_ABOUT: &str =
+    "Serves drawn campaigns and requests in memory, and prints the counts or the trace of the run";
 
 const PROGRAM_END: &str = "\
 Examples:
@@ -63,12 +75,15 @@ Examples:
   rtbx serve --listen 127.0.0.1:8080 --journal exchange.journal --public http://ads.example
   rtbx recover --journal exchange.journal
   rtbx compact --journal exchange.journal --into compacted.journal
+  rtbx follow --listen 127.0.0.1:8081 --journal exchange.journal
   rtbx which < expressions.json
+  rtbx audit --journal before.journal < trace
+  rtbx make 7 2000
   rtbx serve --help";
 
 const SERVE_END: &str = "\
 Example:
-  rtbx serve --listen 127.0.0.1:8080 --journal exchange.journal --public http://ads.example --ttl 300000";
+  rtbx serve --listen 127.0.0.1:8080 --journal exchange.journal --public http://ads.example --workers 4 --ttl 300000";
 
 const CAMPAIGN_HELP: &str =
     "BID or BID@DOMAIN: US dollars per thousand impressions, of every site or of this domain alone";
@@ -85,9 +100,22 @@ const COMPACT_END: &str = "\
 Example:
   rtbx compact --journal exchange.journal --into compacted.journal --keep 1000000";
 
+const FOLLOW_END: &str = "\
+Example:
+  rtbx follow --listen 127.0.0.1:8081 --journal exchange.journal";
+
 const WHICH_END: &str = "\
 Example:
   rtbx which < expressions.json";
+
+const AUDIT_END: &str = "\
+Example:
+  rtbx audit --journal before.journal < trace";
+
+const MAKE_END: &str = "\
+Examples:
+  rtbx make 7 2000
+  rtbx make 7 2000 trace > trace";
 
 // The command with what is told of it.
 fn told_command<'a>(alloc: Global, topic: Topic) -> Result<Command<'a>, AllocError> {
@@ -106,8 +134,16 @@ fn told_command<'a>(alloc: Global, topic: Topic) -> Result<Command<'a>, AllocErr
             COMPACT_ABOUT,
             COMPACT_END,
         ),
+        Topic::Follow => told(
+            follow_command(alloc),
+            "rtbx follow",
+            FOLLOW_ABOUT,
+            FOLLOW_END,
+        ),
         Topic::Try => told(try_command(alloc), "rtbx try", TRY_ABOUT, TRY_END),
         Topic::Which => told(which_command(alloc), "rtbx which", WHICH_ABOUT, WHICH_END),
+        Topic::Audit => told(audit_command(alloc), "rtbx audit", AUDIT_ABOUT, AUDIT_END),
+        Topic::Make => told(make_command(alloc), "rtbx make", MAKE_ABOUT, MAKE_END),
     }
 }
 
@@ -150,8 +186,20 @@ fn commands<'a>(alloc: Global) -> Result<Vec<Command<'a>>, AllocError> {
     let serve = named(alloc, "serve", SERVE_ABOUT);
     let recover = named(alloc, "recover", RECOVER_ABOUT);
     let compact = named(alloc, "compact", COMPACT_ABOUT);
+    let follow = named(alloc, "follow", FOLLOW_ABOUT);
     let which = named(alloc, "which", WHICH_ABOUT);
-    Ok(vec![in alloc; try_command, serve, recover, compact, which]?)
+    let audit = named(alloc, "audit", AUDIT_ABOUT);
+    let make = named(alloc, "make", MAKE_ABOUT);
+    Ok(vec![in alloc;
+        try_command,
+        serve,
+        recover,
+        compact,
+        follow,
+        which,
+        audit,
+        make,
+    ]?)
 }
 
 // For its help alone: its words are read by hand.
@@ -183,7 +231,10 @@ fn refusal_of<'a>(alloc: Global, words: &'a [&'a str]) -> Result<Txt, AllocError
         ["serve", ..] => refusal_by(alloc, serve_command(alloc), words),
         ["recover", ..] => refusal_by(alloc, recover_command(alloc), words),
         ["compact", ..] => refusal_by(alloc, compact_command(alloc), words),
+        ["follow", ..] => refusal_by(alloc, follow_command(alloc), words),
         ["which", ..] => refusal_by(alloc, which_command(alloc), words),
+        ["audit", ..] => refusal_by(alloc, audit_command(alloc), words),
+        ["make", ..] => refusal_by(alloc, make_command(alloc), words),
         _ => Ok(Txt::new(alloc)),
     }
 }
@@ -206,10 +257,13 @@ fn refusal_by<'a>(
     }
 }
 
-// What is wrong with the paths or with the port, where something is.
+// What is wrong with the paths, with the third word of `make` or with the port, where something is.
 fn value_refusal(alloc: Global, matches: &ArgMatches<'_>) -> Result<Txt, AllocError> {
     if has_one_path(matches) {
         return Txt::from_slice(alloc, b"--into has to name another file than --journal");
+    }
+    if has_other_word(matches) {
+        return Txt::from_slice(alloc, b"the third word of make has to be trace");
     }
     port_refusal(alloc, matches)
 }
@@ -218,6 +272,14 @@ fn value_refusal(alloc: Global, matches: &ArgMatches<'_>) -> Result<Txt, AllocEr
 fn has_one_path(matches: &ArgMatches<'_>) -> bool {
     match matches.get_str("into") {
         Some(into) => is_path(matches.get_str("journal"), into),
+        None => false,
+    }
+}
+
+// Whether a word stands where `trace` may.
+fn has_other_word(matches: &ArgMatches<'_>) -> bool {
+    match matches.get_str("trace") {
+        Some(word) => word.as_bytes() != b"trace".as_slice(),
         None => false,
     }
 }

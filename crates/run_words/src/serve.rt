@@ -1,6 +1,6 @@
 ghost use Rattle.std.specs.Prelude.{◌≡◌, IfOk, MatchResult, None, Some, codes, false, map, option_and_then};
 ghost use Rattle.clap.specs.Words.{app_of, found_of, rows_of, rule_of};
-ghost use Rattle.run_words.specs.Commands.{given_by, number_between, serve_app, serve_of, serve_options};
+ghost use Rattle.run_words.specs.Commands.{given_by, number_between, serve_app, serve_numbers, serve_of, serve_options};
 ghost use Rattle.run_words.specs.declared.fault.WordsFault.TheVariants.{Usage};
 
 use crate::address::has_port_0;
@@ -15,12 +15,14 @@ use std::alloc::{AllocError, Global};
 /// The options of `serve`.
 #[derive(Drop)]
 pub struct ServeOptions {
-    /// The address of the door, as `127.0.0.1:8080`, with a port other than 0.
+    /// The address of the doors, as `127.0.0.1:8080`, with a port other than 0.
     pub listen: Txt,
     /// The path of the journal.
     pub journal: Txt,
     /// What stands before `/bill/N` and `/lose/N` in notices, as `http://ads.example`.
     pub public: Txt,
+    /// How many workers serve, each with a door of its own: 1 to 64.
+    pub workers: u64,
     /// How many milliseconds a sale is held: 1 to 31,536,000,000, a year.
     pub ttl: u64,
 }
@@ -56,15 +58,25 @@ fn options(alloc: Global, matches: &ArgMatches<'_>) -> Result<ServeOptions, Word
     }
     let journal = option_text(alloc, matches, "journal")?;
     let public = option_text(alloc, matches, "public")?;
-    match number(matches, "ttl") {
-        Some(ttl) => Ok(ServeOptions {
+    match numbers(matches) {
+        Some((workers, ttl)) => Ok(ServeOptions {
             listen,
             journal,
             public,
+            workers,
             ttl,
         }),
         None => Err(WordsFault::Usage),
     }
+}
+
+// How many workers, and for how many milliseconds a sale is held.
+fn numbers(matches: &ArgMatches<'_>) -> Option<(u64, u64)>
+    ensures { result ≡ serve_numbers (rows_of (found_of matches.now)) }
+{
+    let workers = number(matches, "workers")?;
+    let ttl = number(matches, "ttl")?;
+    Some((workers, ttl))
 }
 
 const LISTEN_HELP: &str = "The host and the port to listen at, from 1 to 65535, as 127.0.0.1:8080";
@@ -74,6 +86,11 @@ const JOURNAL_HELP: &str =
 
 const PUBLIC_HELP: &str =
     "What stands before /bill/N and /lose/N in notices, as http://ads.example";
+
+/// More workers than processors gain nothing but links that wait for less.
+const MAX_WORKERS: u64 = 64;
+
+const WORKERS_HELP: &str = "How many workers serve, as 4, up to 64; each serves one link at a time";
 
 /// A year, in milliseconds.
 const MAX_TTL: u64 = 31_536_000_000;
@@ -88,9 +105,18 @@ pub(crate) fn serve_command<'a>(alloc: Global) -> Result<Command<'a>, AllocError
     let listen = text_option(alloc, "listen", LISTEN_HELP);
     let journal = text_option(alloc, "journal", JOURNAL_HELP);
     let public = text_option(alloc, "public", PUBLIC_HELP);
+    let workers = workers_option(alloc);
     let ttl = ttl_option(alloc);
-    let options = vec![in alloc; listen, journal, public, ttl]?;
+    let options = vec![in alloc; listen, journal, public, workers, ttl]?;
     Command::new(alloc, "serve").args(options)
+}
+
+// How many workers serve: four, where it is not given.
+fn workers_option<'a>(alloc: Global) -> Arg<'a>
+    ensures rule { rule_of result ≡ number_between 1 64 (codes "4") (codes "workers") }
+    ensures local { result.global ≡ false }
+{
+    number_option(alloc, "workers", 1, MAX_WORKERS, "4", WORKERS_HELP)
 }
 
 // How long a sale is held: five minutes, where it is not given.

@@ -3,7 +3,7 @@ ghost use Rattle.std.specs.Prelude.{◌≡◌, ◌<◌, IfOk, IsTrue};
 ghost use Rattle.auction_core.specs.Core.{listed};
 ghost use Rattle.auction_core.specs.Draft.{found_of, is_valid_command};
 ghost use Rattle.conj_index.specs.Content.{IsIndexOf};
-ghost use Rattle.core_index.specs.Reached.{live_expressions};
+ghost use Rattle.live_index.specs.Reached.{live_expressions};
 ghost use Rattle.plain_exchange.specs.State.{State};
 ghost use Rattle.plain_exchange.specs.declared.commands.Command.TheVariants as asked;
 ghost use Rattle.rtb_types.specs.declared.request.BidRequest.{BidRequest as Asked};
@@ -13,8 +13,8 @@ use super::campaigns::{exchange_of, has_few_edits};
 use auction_core::{Command, Core, Reply};
 use command_read::{CommandFault, read_command};
 use conj_index::Index;
-use core_index::{find_by_index, index_of_live};
 use http_wire::Message;
+use live_index::{find_by_index, index_of_live};
 use rtb_base::Steps;
 use rtb_num::{List, Txt};
 use rtb_response::write_reply;
@@ -39,7 +39,7 @@ pub struct Shop {
 impl Model for Shop {
     ghost use Rattle.auction_core.specs.Core.{CoreState, listed};
     ghost use Rattle.conj_index.specs.Content.{IsIndexOf};
-    ghost use Rattle.core_index.specs.Reached.{live_expressions};
+    ghost use Rattle.live_index.specs.Reached.{live_expressions};
 
     ghost Value = { CoreState };
 

@@ -1,9 +1,8 @@
 ghost use Rattle.std.specs.Prelude.{◌≡◌, ◌+◌, ◌%◌, ◌^◌, length};
-ghost use Rattle.exact_json.specs.View.{pairs_in, tree_of, trees_in};
+ghost use Rattle.exact_json.specs.View.{pair_of, pairs_of, tree_of, trees_of};
 ghost use Rattle.rtb_bench.specs.Counts.{bytes_in, pairs_bytes, pairs_values, trees_bytes, trees_values, values_in};
 
-use exact_json::{Items, Members, Value};
-use rtb_num::Txt;
+use exact_json::{Member, Value};
 
 /// What was counted so far, each number up to multiples of 2^64.
 #[derive(Clone, Copy)]
@@ -28,7 +27,7 @@ impl Counts {
 
 /// What is counted with the value and all that is in it.
 #[cycle(counting)]
-pub(crate) fn with_tree(counts: Counts, value: &Value) -> Counts
+pub(crate) fn with_tree(counts: Counts, value: &Value<'_>) -> Counts
     ensures values { result.values ≡ (counts.values + values_in (tree_of value.now)) % 2 ^ 64 }
     ensures bytes { result.bytes ≡ (counts.bytes + bytes_in (tree_of value.now)) % 2 ^ 64 }
 {
@@ -53,7 +52,7 @@ fn with_value(counts: Counts) -> Counts
 }
 
 // The bytes of one text more.
-fn with_text(counts: Counts, text: &Txt) -> Counts
+fn with_text(counts: Counts, text: &[u8]) -> Counts
     ensures values { result.values ≡ counts.values }
     ensures bytes { result.bytes ≡ (counts.bytes + length text.now) % 2 ^ 64 }
 {
@@ -64,25 +63,33 @@ fn with_text(counts: Counts, text: &Txt) -> Counts
 }
 
 #[cycle(counting)]
-fn with_items(counts: Counts, items: &Items) -> Counts
-    ensures values { result.values ≡ (counts.values + trees_values (trees_in items.now)) % 2 ^ 64 }
-    ensures bytes { result.bytes ≡ (counts.bytes + trees_bytes (trees_in items.now)) % 2 ^ 64 }
+fn with_items(counts: Counts, items: &[Value<'_>]) -> Counts
+    ensures values { result.values ≡ (counts.values + trees_values (trees_of items.now)) % 2 ^ 64 }
+    ensures bytes { result.bytes ≡ (counts.bytes + trees_bytes (trees_of items.now)) % 2 ^ 64 }
 {
     let mut counts = counts;
-    for value in items.as_slice() {
+    for value in items {
         counts = with_tree(counts, value);
     }
     counts
 }
 
 #[cycle(counting)]
-fn with_members(counts: Counts, members: &Members) -> Counts
-    ensures values { result.values ≡ (counts.values + pairs_values (pairs_in members.now)) % 2 ^ 64 }
-    ensures bytes { result.bytes ≡ (counts.bytes + pairs_bytes (pairs_in members.now)) % 2 ^ 64 }
+fn with_members(counts: Counts, members: &[Member<'_>]) -> Counts
+    ensures values { result.values ≡ (counts.values + pairs_values (pairs_of members.now)) % 2 ^ 64 }
+    ensures bytes { result.bytes ≡ (counts.bytes + pairs_bytes (pairs_of members.now)) % 2 ^ 64 }
 {
     let mut counts = counts;
-    for pair in members.as_slice() {
-        counts = with_tree(with_text(counts, &pair.0), &pair.1);
+    for member in members {
+        counts = with_member(counts, member);
     }
     counts
+}
+
+#[cycle(counting)]
+fn with_member(counts: Counts, member: &Member<'_>) -> Counts
+    ensures values { result.values ≡ (counts.values + values_in (pair_of member.now).1) % 2 ^ 64 }
+    ensures bytes { result.bytes ≡ (counts.bytes + (length (pair_of member.now).0 + bytes_in (pair_of member.now).1)) % 2 ^ 64 }
+{
+    with_tree(with_text(counts, member.name), &member.value)
 }

@@ -8,7 +8,8 @@ ghost use Rattle.rtb_bench.specs.Counts.{bytes_in, values_in};
 ghost use Rattle.rtb_bench.specs.Answer.{IsLine, counts_line, fault_line, kind_of, place_of as place_in};
 
 use super::counts::{Counts, with_tree};
-use exact_json::{JsonFault, read};
+use bumpalo::Bump;
+use exact_json::{JsonFault, read, room_for};
 use rtb_num::{Txt, write_decimal};
 use std::alloc::{AllocError, Global};
 
@@ -45,7 +46,10 @@ fn with_reading(alloc: Global, bytes: &[u8], counts: Counts) -> Result<Counts, J
     ensures bytes { (t : Tree) → IsText t bytes.now → IfOk result (λ r. r.bytes ≡ (counts.bytes + bytes_in t) % 2 ^ 64) }
     ensures fault { IfErr result (Explains bytes.now) }
 {
-    match read(alloc, bytes) {
+    let Ok(arena) = Bump::try_with_capacity(alloc, room_for(bytes.len())) else {
+        return Err(JsonFault::Memory);
+    };
+    match read(alloc, &arena, bytes) {
         Ok(doc) => Ok(with_tree(counts, doc.root())),
         Err(fault) => Err(fault),
     }
@@ -122,8 +126,8 @@ fn fault_after(alloc: Global, bytes: &[u8], fault: JsonFault) -> JsonFault
     requires { Explains bytes.now fault }
     ensures { Explains bytes.now result }
 {
-    match read(alloc, bytes) {
-        Ok(_doc) => fault,
+    match with_reading(alloc, bytes, Counts::zero()) {
+        Ok(_) => fault,
         Err(fault) => fault,
     }
 }

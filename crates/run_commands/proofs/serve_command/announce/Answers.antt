@@ -1,26 +1,22 @@
-use Rattle.std.proofs.Common.{refl}
+use Rattle.std.proofs.Common.{◌∙◌, refl, subst, List, ℕ}
+use Rattle.std.specs.Io.KnownBytes.{Appends}
+use Rattle.rtb_io.specs.Fronts.{AppendsFront}
 use Rattle.run_commands.specs.Serve.{served, unannounced}
-use Rattle.run_commands.proofs.Growing.{grown, opened_only}
+use Rattle.run_commands.proofs.Serving.{is_idle}
 use Rattle.run_commands.proofs.serve_command.announce.Goals as goal
 
 pub returns-in-Ok-clause-announces : goal.returns-in-Ok-clause-announces
-returns-in-Ok-clause-announces g c = λ disk opens.
-    let after = c.serve_door-served.result.exchange in
-    let h = c.serve_door-served.ensures in
-    served c.serve_door-served.result.end
-    (record {
-      before = c.args.exchange;
-      after = after;
-      opened = opens;
-      links = h.links;
-      goes_on = h.journal;
-      disk_is = c.into_disk.ensures;
-      grows = grown g.D.Disk g.G.Door g.G.Link.Link c.args.options.now disk c.into_disk.result c.args.exchange after opens h.journal c.into_disk.ensures;
-      all = h.all;
-      cause = h.cause;
-    })
-    (g.K.Sink.written c.write_all.new.sink) c.in-Ok.ensures.ok c.end_behind.ensures.ends
+returns-in-Ok-clause-announces g c = λ disk begins.
+    let line = c.as_bytes.ensures.value ∙ c.requires.line in
+    served (c.serve_all.ensures.run disk (g.K.Sink.written c.args.sink.now) begins
+    (subst (λ (text : List ℕ). Appends (g.K.Sink.written c.args.sink.now) (g.K.Sink.written c.write_all.new.sink) text) line c.in-Ok.ensures.ok))
 
 pub returns-in-Err-clause-announces : goal.returns-in-Err-clause-announces
-returns-in-Err-clause-announces g c = λ disk opens.
-    unannounced (opened_only g.D.Disk g.G.Door g.G.Link.Link c.args.options.now disk c.into_disk-in-Err.result c.args.exchange opens c.into_disk-in-Err.ensures) refl refl c.in-Err.ensures.err
+returns-in-Err-clause-announces g c = λ disk begins.
+    let line = c.as_bytes.ensures.value ∙ c.requires.line in
+    let h = c.close_idle-disk.ensures in
+    let past = c.close_idle-disk.result.1 in
+    unannounced
+    (is_idle g.D.Disk g.G.Door g.G.Link.Link c.args.tools.now.options.now disk c.close_idle-disk.result.0 c.args.seat.origin past begins h.origin h.untouched h.legal h.budgets h.order h.crash h.failed)
+    refl refl
+    (subst (λ (text : List ℕ). AppendsFront (g.K.Sink.written c.args.sink.now) (g.K.Sink.written c.write_all.new.sink) text) line c.in-Err.ensures.err)

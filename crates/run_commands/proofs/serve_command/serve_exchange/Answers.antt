@@ -1,37 +1,56 @@
-use Rattle.std.proofs.Common.{refl, subst, sym}
-use Rattle.link_door.specs.Worlds.{HandsOut}
-use Rattle.run_commands.specs.Serve.{Announces, EndsWithoutDoor, listens, no_door}
-use Rattle.run_commands.proofs.Growing.{opened_only}
-use Rattle.run_commands.proofs.Telling.{gives_no_door, rises_by_code}
+use Rattle.std.proofs.Common.{◌≡◌, ◌∙◌, ◌++◌, ◌∷◌, [], List, ℕ, ap, length, refl, subst, sym}
+use Rattle.link_door.specs.Worlds.{AsksAtMost}
+use Rattle.link_door.specs.declared.asked.Asked.{Asked}
+use Rattle.link_door.specs.declared.asked.Asked.TheVariants as asked_for
+use Rattle.run_commands.specs.Serve.{Announces, EndsWithoutDoors, no_doors, opened}
+use Rattle.run_commands.proofs.Serving.{is_idle}
+use Rattle.run_commands.proofs.Telling.{has_failed, rises_by_code}
 use Rattle.run_commands.proofs.serve_command.serve_exchange.Goals as goal
 
-pub returns-in-Ok-clause-listens : goal.returns-in-Ok-clause-listens
-returns-in-Ok-clause-listens g c = λ disk opens.
-    let door = c.only_item-door.result.0 in
+pub returns-in-Ok-clause-serves : goal.returns-in-Ok-clause-serves
+returns-in-Ok-clause-serves g c = λ before disk gives begins.
+    let o = c.args.tools.now.options.now in
+    let h = c.in-Ok.ensures in
     let ended = c.announce-ended.result in
-    listens ended.disk door ended.door c.in-Ok.ensures.asks
-    (subst (λ doors. HandsOut (g.W.World.doors_left c.args.world.now) (g.W.World.doors_left c.doors.new.self) doors) c.only_item-door.ensures.item c.in-Ok.ensures.doors)
-    (c.in-Ok.ensures.cause.2 (λ e. cc)) c.list_with.ensures refl
-    (subst (λ code. Announces g.W.Disk.Disk g.W.Door.Door g.W.Door.Link.Link c.args.options.now disk ended.disk door ended.door (g.K.Sink.written c.args.sink.now) (g.K.Sink.written c.announce-ended.new.sink) code)
-    (sym c.code.ensures) (c.announce-ended.ensures.announces disk opens))
+    let n = c.workers_of-workers.ensures.workers in
+    let w = g.W.World in
+    let out = c.with_past.ensures in
+    opened disk ended.disk ended.past c.args.world.now c.in-Ok.doors gives
+    (record {
+      count = h.count ∙ n;
+      asked = subst (λ (k : ℕ). w.asked c.doors.new.self ≡ w.asked c.args.world.now ++ asked_for.Doors o.listen k ∷ []) n h.asks;
+      doors_are = h.doors;
+      disks = c.doors.ensures.disks;
+      faults = h.cause.2 (λ e. cc);
+    })
+    (subst (λ back. Announces g.W.Disk.Disk g.W.Door.Door g.W.Door.Link.Link o disk ended.disk c.in-Ok.doors back ended.past (g.K.Sink.written c.args.sink.now) (g.K.Sink.written c.announce-ended.new.sink) c.with_past.result.status) (sym out.doors)
+    (subst (λ (code : ℕ). Announces g.W.Disk.Disk g.W.Door.Door g.W.Door.Link.Link o disk ended.disk c.in-Ok.doors ended.doors ended.past (g.K.Sink.written c.args.sink.now) (g.K.Sink.written c.announce-ended.new.sink) code) (sym out.status)
+    (c.announce-ended.ensures.announces disk begins)))
+    out.disk out.past
 
-pub returns-in-Err-clause-listens : goal.returns-in-Err-clause-listens
-returns-in-Err-clause-listens g c = λ disk opens.
-    let back = c.into_disk.result in
-    no_door back c.in-Err.ensures.asks c.in-Err.ensures.doors c.with_disk.ensures.doors c.with_disk.ensures.disk
-    (opened_only g.W.Disk.Disk g.W.Door.Door g.W.Door.Link.Link c.args.options.now disk back c.args.exchange opens c.into_disk.ensures)
-    c.in-Err.fault (gives_no_door c.in-Err.fault _ _ c.in-Err.ensures.cause)
-    (subst (λ code. EndsWithoutDoor c.in-Err.fault (g.K.Sink.written c.args.sink.now) (g.K.Sink.written c.end_without_door-status.new.sink) code)
-    (sym c.with_disk.ensures.status) c.end_without_door-status.ensures.ends)
-
-pub returns-in-Ok-clause-disks : goal.returns-in-Ok-clause-disks
-returns-in-Ok-clause-disks g c = c.doors.ensures.disks
+pub returns-in-Err-clause-serves : goal.returns-in-Err-clause-serves
+returns-in-Err-clause-serves g c = λ before disk gives begins.
+    let o = c.args.tools.now.options.now in
+    let h = c.in-Err.ensures in
+    let idle = c.close_idle-disk.ensures in
+    let back = c.close_idle-disk.result.0 in
+    let past = c.close_idle-disk.result.1 in
+    let n = c.workers_of-workers.ensures.workers in
+    let w = g.W.World in
+    let out = c.with_past-in-Err.ensures in
+    no_doors disk back past c.args.world.now gives c.in-Err.fault
+    (record {
+      asked = subst (λ (k : ℕ). AsksAtMost (w.asked c.args.world.now) (w.asked c.doors.new.self) (asked_for.Doors o.listen k)) n h.asks;
+      doors = h.doors;
+      disks = c.doors.ensures.disks;
+      faults = has_failed c.in-Err.fault _ _ h.cause;
+    })
+    (is_idle g.W.Disk.Disk g.W.Door.Door g.W.Door.Link.Link o disk back c.args.seat.origin past begins idle.origin idle.untouched idle.legal idle.budgets idle.order idle.crash idle.failed)
+    (out.doors ∙ c.new.ensures) out.disk out.past
+    (subst (λ (code : ℕ). EndsWithoutDoors c.in-Err.fault (g.K.Sink.written c.args.sink.now) (g.K.Sink.written c.end_without_doors-status.new.sink) code) (sym out.status) c.end_without_doors-status.ensures.ends)
 
 pub returns-in-Ok-clause-cause : goal.returns-in-Ok-clause-cause
-returns-in-Ok-clause-cause g c = rises_by_code c.announce-ended.result.status _ _ _ c.code.ensures c.announce-ended.ensures.cause
-
-pub returns-in-Err-clause-disks : goal.returns-in-Err-clause-disks
-returns-in-Err-clause-disks g c = c.doors.ensures.disks
+returns-in-Ok-clause-cause g c = rises_by_code c.announce-ended.result.status _ _ _ c.with_past.ensures.status c.announce-ended.ensures.cause
 
 pub returns-in-Err-clause-cause : goal.returns-in-Err-clause-cause
-returns-in-Err-clause-cause g c = rises_by_code c.end_without_door-status.result _ _ _ c.with_disk.ensures.status c.end_without_door-status.ensures.cause
+returns-in-Err-clause-cause g c = rises_by_code c.end_without_doors-status.result _ _ _ c.with_past-in-Err.ensures.status c.end_without_doors-status.ensures.cause

@@ -12,10 +12,10 @@ tested b bytes text name word e p q = ap (λ x. bytes_eq x word) (sym p) ∙ ap 
 
 pub returns-then-eq : goal.returns-then-eq
 returns-then-eq c =
-    let is_which = tested true _ _ c.args.name.now (codes "which") c.if-eq.ensures c.as_bytes.ensures.value c.as_slice.ensures in
-    subst (λ (x : Option CommandLine). MatchResult c.which_line.result (λ l. x ≡ Some l) (λ f. f ≡ Usage → x ≡ None)) (sym (cond-true _ _ _ is_which)) c.which_line.ensures
+    let is_follow = tested true _ _ c.args.name.now (codes "follow") c.if-eq.ensures c.as_bytes.ensures.value c.as_slice.ensures in
+    subst (λ (x : Option CommandLine). MatchResult c.follow_line.result (λ l. x ≡ Some l) (λ f. f ≡ Usage → x ≡ None)) (sym (cond-true _ _ _ is_follow)) c.follow_line.ensures
 
 pub returns : goal.returns
 returns c =
-    let is_which = tested false _ _ c.args.name.now (codes "which") c.if-eq.ensures c.as_bytes.ensures.value c.as_slice.ensures in
-    subst (λ (x : Option CommandLine). MatchResult c.question.result (λ l. x ≡ Some l) (λ f. f ≡ Usage → x ≡ None)) (sym (cond-false _ _ _ is_which)) c.question.ensures
+    let is_follow = tested false _ _ c.args.name.now (codes "follow") c.if-eq.ensures c.as_bytes.ensures.value c.as_slice.ensures in
+    subst (λ (x : Option CommandLine). MatchResult c.last_line.result (λ l. x ≡ Some l) (λ f. f ≡ Usage → x ≡ None)) (sym (cond-false _ _ _ is_follow)) c.last_line.ensures

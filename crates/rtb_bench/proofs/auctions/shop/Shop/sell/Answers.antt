@@ -2,7 +2,7 @@ use Rattle.std.proofs.Common.{◌≡◌, ◌∙◌, ℕ, ap, map, subst, sym}
 use Rattle.auction_core.specs.Core.{CoreState, listed_as}
 use Rattle.auction_core.specs.Draft.{IsDraftOf}
 use Rattle.conj_index.specs.Content.{IsIndexOf}
-use Rattle.core_index.specs.Reached.{live_expressions}
+use Rattle.live_index.specs.Reached.{live_expressions}
 use Rattle.plain_exchange.specs.declared.commands.Command.{Command}
 use Rattle.plain_exchange.specs.State.{State}
 use Rattle.plain_exchange.specs.Step.{step}

@@ -1,0 +1,79 @@
+-- What comes of an exchange that was opened, and of doors that were served.
+use Rattle.std.proofs.Common.{◌≡◌, ◌∙◌, ℕ, ◌≤◌, List, [], ◌++◌, Option, true, ap, arith, length, map, subst, sym}
+use Rattle.std.specs.Io.KnownBytes.{Appends}
+use Rattle.std.proofs.lemmas.List.{take_all}
+use Rattle.exchange_shared.specs.Opening.{IsOriginOver}
+use Rattle.exchange_shared.specs.Seats.{IsOrdered}
+use Rattle.exchange_state.specs.Standing.{SaysFront}
+use Rattle.exchange_state.specs.Tickets.{IsLegalFrom, effects_after}
+use Rattle.exchange_state.specs.Views.{calls, failures, stable}
+use Rattle.exchange_state.specs.declared.entries.Entry.{Entry}
+use Rattle.exchange_state.specs.declared.entries.Origin.{Origin}
+use Rattle.link_door.specs.declared.door.Door.{Ghosts as DoorGhosts}
+use Rattle.link_door.specs.declared.link.Link.{Ghosts as LinkGhosts}
+use Rattle.plain_exchange.specs.declared.changes.Effect.{Effect}
+use Rattle.recovery.specs.Texts.{HasText}
+use Rattle.rtb_base.specs.Faults.{RoseBy}
+use Rattle.rtb_disk.specs.Stores.{EachImage, Store}
+use Rattle.rtb_disk.specs.declared.disk.Disk.{Ghosts as DiskGhosts}
+use Rattle.run_commands.specs.Serve.{EndsBehind, IsIdle, IsRun, first_line}
+use Rattle.run_commands.specs.Served.{IsWritten}
+use Rattle.run_words.specs.declared.serve.ServeOptions.{ServeOptions}
+use Rattle.worker_pool.specs.Pools.{AreServed, EndsAs, History, KeepsBudgets, LeaveNone}
+use Rattle.worker_pool.specs.declared.pool.PoolEnd.{PoolEnd}
+use Rattle.worker_pool.specs.declared.pool.PoolEnd.TheVariants as ending
+
+-- the crash of a disk leaves a front of the effects
+abbrev pub SaysFronts : Store → History → Type 0
+SaysFronts store past = past.origin.told ≡ true → EachImage (SaysFront past.origin past.seen) store.now
+
+-- where all effects are durable, the front is all
+whole : (o : Origin) (l : List Entry) (image : List ℕ) → stable l ≡ length (effects_after o (calls l)) → SaysFront o l image → HasText image (o.effects ++ effects_after o (calls l))
+whole o l image all says =
+    let n : length (effects_after o (calls l)) ≤ says.count = omega (arith, all, says.durable) in
+    subst (λ (more : List Effect). HasText image (o.effects ++ more)) (take_all says.count (effects_after o (calls l)) n) says.text
+
+pub written : (store : Store) (past : History) → SaysFronts store past → stable past.seen ≡ length (effects_after past.origin (calls past.seen)) → IsWritten store past
+written store past crash all = λ told image is. whole past.origin past.seen image all (crash told image is)
+
+module _ {Disk Door Link : Type 0} (G : DiskGhosts Disk) (H : DoorGhosts Door Link) (K : LinkGhosts Link) (options : ServeOptions) where
+  pub is_idle : (disk disk' : Disk) (o : Origin) (past : History) → IsOriginOver (G.store disk) (G.faults disk) options.ttl o → past.origin ≡ o → past.seen ≡ []
+      → IsLegalFrom past.origin (calls past.seen) → KeepsBudgets past → IsOrdered past.origin past.seen → SaysFronts (G.store disk') past → RoseBy (failures past.seen) past.origin.faults (G.faults disk')
+      → IsIdle G H K options disk disk' past
+  is_idle disk disk' o past begins origin none legal budgets order crash counted = record {
+    served = record {
+      begins = subst (λ (x : Origin). IsOriginOver (G.store disk) (G.faults disk) options.ttl x) (sym origin) begins;
+      legal = legal;
+      budgets = budgets;
+      order = order;
+      answers = record { alls = []; each = tt; few = omega arith };
+      crash = crash;
+      failed = subst (λ (n : ℕ). RoseBy (failures past.seen) n (G.faults disk')) (ap (λ (x : Origin). x.faults) origin ∙ begins.faults_are) counted;
+    };
+    untouched = none;
+  }
+
+  pub is_run : (disk disk' : Disk) (doors doors' : List Door) (o : Origin) (past : History) (end : PoolEnd) (before announced written' : Option (List ℕ)) (code : ℕ)
+      → IsOriginOver (G.store disk) (G.faults disk) options.ttl o → past.origin ≡ o → IsLegalFrom past.origin (calls past.seen) → KeepsBudgets past → IsOrdered past.origin past.seen
+      → AreServed K options.public past (map H.held doors) (map H.held doors') → SaysFronts (G.store disk') past → RoseBy (failures past.seen) past.origin.faults (G.faults disk')
+      → (end ≡ ending.Served → LeaveNone (map H.held doors) (map H.held doors')) → EndsAs past (map H.faults doors) (map H.faults doors') end
+      → Appends before announced (first_line options) → EndsBehind end announced written' code
+      → IsRun G H K options disk disk' doors doors' past before written' code
+  is_run disk disk' doors doors' o past end before announced written' code begins origin legal budgets order answers crash counted all why line ends = record {
+    served = record {
+      begins = subst (λ (x : Origin). IsOriginOver (G.store disk) (G.faults disk) options.ttl x) (sym origin) begins;
+      legal = legal;
+      budgets = budgets;
+      order = order;
+      answers = answers;
+      crash = crash;
+      failed = subst (λ (n : ℕ). RoseBy (failures past.seen) n (G.faults disk')) (ap (λ (x : Origin). x.faults) origin ∙ begins.faults_are) counted;
+    };
+    end = end;
+    why = why;
+    all = all;
+    last = λ is. written (G.store disk') past crash (subst (λ (e : PoolEnd). EndsAs past (map H.faults doors) (map H.faults doors') e) is why).1;
+    announced = announced;
+    line = line;
+    ends = ends;
+  }

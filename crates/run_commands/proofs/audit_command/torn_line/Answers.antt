@@ -1,0 +1,5 @@
+use Rattle.std.proofs.Common.{rules}
+use Rattle.run_commands.proofs.audit_command.torn_line.Goals as goal
+
+pub returns : goal.returns
+returns c = search rules

@@ -1,0 +1,3 @@
+mod Hands
+mod Sending
+mod Valid

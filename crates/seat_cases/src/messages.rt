@@ -1,0 +1,105 @@
+//! The messages that cases name.
+ghost use Rattle.std.specs.Prelude.{◌≡◌, IfOk, IfSome, IsTrue};
+ghost use Rattle.auction_core.specs.Draft.{is_simple, is_valid_command};
+
+use case_lines::kept;
+use command_read::{CommandFault, read_command};
+use http_wire::Message;
+use plain_exchange::Command;
+use rtb_num::Txt;
+use std::alloc::{AllocError, Global};
+
+const SHOES: &[u8] =
+    b"{\"seat\":\"s1\",\"adomain\":\"shoes.example\",\"w\":300,\"h\":250,\"secure\":1,\"bid\":2.50,\"budget\":10,\"adm\":\"<p>${AUCTION_PRICE}</p>\",\"crid\":\"c1\",\"target\":[[{\"attr\":\"domain\",\"in\":[\"news.example\"]}]]}";
+
+const CARS: &[u8] =
+    b"{\"seat\":\"s2\",\"adomain\":\"cars.example\",\"w\":300,\"h\":250,\"secure\":1,\"bid\":1.00,\"budget\":10,\"adm\":\"B\",\"crid\":\"c2\"}";
+
+/// The bid request of each case: one impression on news.example, from 0.30 on.
+pub const REQUEST: &[u8] =
+    b"{\"id\":\"b1\",\"imp\":[{\"id\":\"1\",\"bidfloor\":0.30,\"banner\":{\"w\":300,\"h\":250}}],\"site\":{\"domain\":\"news.example\"}}";
+
+/// The campaign of that name; nothing where there is none.
+///
+/// `shoes` want news.example for 2.50, and `cars` bid 1.00 on all sites.
+pub fn campaign_named(name: &[u8]) -> &'static [u8] {
+    if name == b"shoes".as_slice() {
+        return SHOES;
+    }
+    if name == b"cars".as_slice() {
+        return CARS;
+    }
+    &[]
+}
+
+/// The command that a message to the target asks for; none where it is refused.
+pub fn command_of(alloc: Global, target: &[u8], body: &[u8]) -> Result<Option<Command>, AllocError>
+    ensures valid { IfOk result (λ r. IfSome r (λ c. IsTrue (is_valid_command c))) }
+{
+    let message = message_of(alloc, target, body)?;
+    let command = read(alloc, &message);
+    drop(message);
+    command
+}
+
+#[tactic(auto, using(crate::proofs::Valid::valid_as_read))]
+fn read(alloc: Global, message: &Message) -> Result<Option<Command>, AllocError>
+    ensures valid { IfOk result (λ r. IfSome r (λ c. IsTrue (is_valid_command c))) }
+{
+    match read_command(alloc, message) {
+        Ok(command) => Ok(Some(command)),
+        Err(CommandFault::Memory) => Err(AllocError),
+        Err(refused) => {
+            drop(refused);
+            Ok(None)
+        }
+    }
+}
+
+fn message_of(alloc: Global, target: &[u8], body: &[u8]) -> Result<Message, AllocError> {
+    let mut message = Message {
+        method: Txt::new(alloc),
+        target: Txt::new(alloc),
+        body: Txt::new(alloc),
+        closes: false,
+    };
+    let filled = fill(&mut message, target, body);
+    kept(message, filled)
+}
+
+fn fill(message: &mut Message, target: &[u8], body: &[u8]) -> Result<(), AllocError> {
+    message.method.extend(b"POST")?;
+    message.target.extend(target)?;
+    message.body.extend(body)
+}
+
+/// Whether it is no auction.
+pub fn is_no_auction(command: &Command) -> bool
+    ensures { result ≡ is_simple command.now }
+{
+    match command {
+        Command::Auction(_) => false,
+        _ => true,
+    }
+}
+
+/// The command that adds the campaign of that name.
+pub fn campaign(alloc: Global, name: &[u8]) -> Result<Option<Command>, AllocError>
+    ensures { IfOk result (λ r. IfSome r (λ c. IsTrue (is_simple c))) }
+{
+    match command_of(alloc, b"/campaign", campaign_named(name)) {
+        Ok(Some(command)) => Ok(if_simple(command)),
+        Ok(None) => Ok(None),
+        Err(refused) => Err(refused),
+    }
+}
+
+fn if_simple(command: Command) -> Option<Command>
+    ensures { IfSome result (λ c. IsTrue (is_simple c)) }
+{
+    if is_no_auction(&command) {
+        return Some(command);
+    }
+    drop(command);
+    None
+}

@@ -1,0 +1,227 @@
+//! What one worker does with its seat.
+ghost use Rattle.std.specs.Prelude.{◌≡◌, None, IfOk, IfSome, IsTrue};
+ghost use Rattle.auction_core.specs.Draft.{is_simple, is_valid_command};
+ghost use Rattle.exchange_shared.specs.Seats.{MayBeSettled, Seat as ASeat, lock_of};
+ghost use Rattle.exchange_state.specs.Tickets.{IsVersionOf, version_in};
+ghost use Rattle.exchange_state.specs.Views.{calls, out};
+ghost use Rattle.seat_cases.specs.Hands.{GoesOn, IsHand, WasSought};
+
+use crate::answers::{put_numbered, put_reply};
+use exchange_shared::{Exchange, Found, Published, Seat, Settled, Ticket};
+use plain_exchange::{Command, Reply};
+use rtb_base::Steps;
+use rtb_disk::Disk;
+use rtb_num::Txt;
+use std::alloc::{AllocError, Global};
+use std::sync::Wait;
+use std::sync::ledger::Ledger;
+
+/// The moment of each command.
+pub const MOMENT: u64 = 1000;
+
+/// What a worker has: its seat, and how many effects stood with its last command.
+#[derive(Drop)]
+pub struct Hand<D: Disk> {
+    pub seat: Seat<D>,
+    pub upto: u64,
+}
+
+/// A version, and what was found in it for an auction.
+#[derive(Drop)]
+pub struct Sought {
+    pub ticket: Ticket,
+    pub found: Found,
+    pub auction: Command,
+}
+
+/// Carries out a command other than an auction; the reply, where memory is there.
+pub fn carry_out<D: Disk, R: Wait>(
+    rt: &R,
+    exchange: &Exchange<D>,
+    hand: Hand<D>,
+    command: &Command,
+) -> (Hand<D>, Result<Reply, AllocError>)
+    requires hand { IsHand (lock_of exchange.now) hand }
+    requires simple { IsTrue (is_simple command.now) }
+    ensures { GoesOn (lock_of exchange.now) hand result.0 }
+{
+    let Hand { seat, upto } = hand;
+    let (seat, settled) = exchange.simple(rt, seat, command, MOMENT);
+    match settled {
+        Ok(settled) => {
+            let Settled { reply, upto } = settled;
+            (Hand { seat, upto }, Ok(reply))
+        }
+        Err(refused) => (Hand { seat, upto }, Err(refused)),
+    }
+}
+
+/// Makes the worker's last command durable; whether it is.
+pub fn keep<D: Disk, R: Wait>(rt: &R, exchange: &Exchange<D>, hand: Hand<D>) -> (Hand<D>, bool)
+    requires hand { IsHand (lock_of exchange.now) hand }
+    ensures { GoesOn (lock_of exchange.now) hand result.0 }
+{
+    let Hand { seat, upto } = hand;
+    match exchange.make_durable(rt, seat, upto) {
+        Ok(kept) => (Hand { seat: kept, upto }, true),
+        Err(failed) => (
+            Hand {
+                seat: failed.seat,
+                upto,
+            },
+            false,
+        ),
+    }
+}
+
+/// Writes what is not durable; whether all is.
+pub fn flush<D: Disk, R: Wait>(rt: &R, exchange: &Exchange<D>, hand: Hand<D>) -> (Hand<D>, bool)
+    requires hand { IsHand (lock_of exchange.now) hand }
+    ensures on { GoesOn (lock_of exchange.now) hand result.0 }
+    ensures home { out result.0.seat.seen ≡ None }
+{
+    let Hand { seat, upto } = hand;
+    match exchange.flush(rt, seat) {
+        Ok(kept) => (Hand { seat: kept, upto }, true),
+        Err(failed) => (
+            Hand {
+                seat: failed.seat,
+                upto,
+            },
+            false,
+        ),
+    }
+}
+
+/// Publishes a version where one is due, and says its edit.
+pub fn publish<D: Disk, R: Wait, L: Ledger>(
+    rt: &R,
+    alloc: Global,
+    exchange: &Exchange<D>,
+    hand: Hand<D>,
+    steps: &mut Steps<L>,
+    out: &mut Txt,
+) -> (Hand<D>, Result<(), AllocError>)
+    requires hand { IsHand (lock_of exchange.now) hand }
+    ensures { GoesOn (lock_of exchange.now) hand result.0 }
+{
+    let Hand { seat, upto } = hand;
+    let (seat, published) = exchange.republish(rt, alloc, seat, steps);
+    (Hand { seat, upto }, put_published(published, out))
+}
+
+fn put_published(
+    published: Result<Published, AllocError>,
+    out: &mut Txt,
+) -> Result<(), AllocError> {
+    match published {
+        Ok(Published::New { edit }) => put_numbered(b"version", edit, out),
+        Ok(Published::Kept { edit }) => put_numbered(b"kept", edit, out),
+        Err(refused) => Err(refused),
+    }
+}
+
+/// Looks at the version and finds in it for the auction; nothing for another command.
+pub fn seek<D: Disk, R: Wait, L: Ledger>(
+    rt: &R,
+    alloc: Global,
+    exchange: &Exchange<D>,
+    hand: Hand<D>,
+    auction: Command,
+    steps: &mut Steps<L>,
+) -> (Hand<D>, Result<Option<Sought>, AllocError>)
+    requires hand { IsHand (lock_of exchange.now) hand }
+    requires valid { IsTrue (is_valid_command auction) }
+    ensures on { GoesOn (lock_of exchange.now) hand result.0 }
+    ensures sought { IfOk result.1 (λ r. IfSome r (WasSought result.0.seat)) }
+{
+    let Hand { seat, upto } = hand;
+    let (seat, ticket) = exchange.begin(rt, seat);
+    match ticket {
+        Ok(ticket) => {
+            let found = find_for(alloc, &ticket, &auction, steps);
+            (Hand { seat, upto }, put_together(ticket, found, auction))
+        }
+        Err(refused) => {
+            drop(auction);
+            (Hand { seat, upto }, Err(refused))
+        }
+    }
+}
+
+// What the version gives for the auction; nothing for another command.
+fn find_for<L: Ledger>(
+    alloc: Global,
+    ticket: &Ticket,
+    auction: &Command,
+    steps: &mut Steps<L>,
+) -> Result<Option<Found>, AllocError>
+    ensures { (s : ASeat) → IsVersionOf s.origin (calls s.seen) (version_in ticket.now) → IfOk result (λ r. IfSome r (λ f. MayBeSettled s (version_in ticket.now) f.lists auction.now)) }
+{
+    match auction {
+        Command::Auction(request) => {
+            let found = ticket.find(alloc, request, steps)?;
+            Ok(Some(found))
+        }
+        _ => Ok(None),
+    }
+}
+
+fn put_together(
+    ticket: Ticket,
+    found: Result<Option<Found>, AllocError>,
+    auction: Command,
+) -> Result<Option<Sought>, AllocError>
+    requires valid { IsTrue (is_valid_command auction) }
+    ensures { (s : ASeat) → IfOk found (λ r. IfSome r (λ f. MayBeSettled s (version_in ticket) f.lists auction)) → IfOk result (λ r. IfSome r (WasSought s)) }
+{
+    match found {
+        Ok(Some(found)) => Ok(Some(Sought {
+            ticket,
+            found,
+            auction,
+        })),
+        Ok(None) => {
+            drop(ticket);
+            drop(auction);
+            Ok(None)
+        }
+        Err(refused) => {
+            drop(ticket);
+            drop(auction);
+            Err(refused)
+        }
+    }
+}
+
+/// Sells over what was found, and says the reply.
+pub fn settle<D: Disk, R: Wait, L: Ledger>(
+    rt: &R,
+    exchange: &Exchange<D>,
+    hand: Hand<D>,
+    sought: Sought,
+    steps: &mut Steps<L>,
+    out: &mut Txt,
+) -> (Hand<D>, Result<(), AllocError>)
+    requires hand { IsHand (lock_of exchange.now) hand }
+    requires sought { WasSought hand.seat sought }
+    ensures { GoesOn (lock_of exchange.now) hand result.0 }
+{
+    let Hand { seat, upto } = hand;
+    let Sought {
+        ticket,
+        found,
+        auction,
+    } = sought;
+    let (seat, settled) = exchange.settle(rt, seat, ticket, found, &auction, MOMENT, steps);
+    drop(auction);
+    match settled {
+        Ok(settled) => {
+            let Settled { reply, upto } = settled;
+            let told = put_reply(&reply, out);
+            drop(reply);
+            (Hand { seat, upto }, told)
+        }
+        Err(refused) => (Hand { seat, upto }, Err(refused)),
+    }
+}

@@ -1,0 +1,304 @@
+//! The commands of a session.
+ghost use Rattle.std.specs.Prelude.{◌≡◌, ◌<◌, IsTrue};
+ghost use Rattle.auction_core.specs.Draft.{is_simple};
+ghost use Rattle.exchange_state.specs.Settling.{IsStanding};
+ghost use Rattle.state_cases.specs.Session.{GoesOn};
+
+use crate::answers::{number_at, put_mark, put_reply, word_at};
+use crate::messages::{REQUEST, campaign_named, command_of, is_no_auction};
+use crate::session::{MOST_ENTRIES, Session, open};
+use exchange_state::{ExchangeState, Settled};
+use journal_file::JournalFault;
+use plain_exchange::{Command, Reply};
+use rtb_base::Steps;
+use rtb_disk::{Disk, MemDisk};
+use rtb_num::{Txt, write_decimal};
+use std::alloc::{AllocError, Global};
+use std::marker::Brand;
+use std::mem::replace;
+use std::sync::ledger::{Blank, Ledger};
+
+/// The moment of each command.
+pub const MOMENT: u64 = 1000;
+
+/// Answers the commands, with `; ` between two answers. Every command has the moment 1000, and is that of worker 1.
+///
+/// - `post TARGET NAME`: the reply to the command that the message asks for, in a word and its number; `messages.rt` has
+///   the campaigns by name.
+/// - `turn TIMES N`: campaign N is paused and resumed in turn so many times; says how often it was done.
+/// - `find`: looks at the version, and says its edit and the numbers of what it finds for the bid request.
+/// - `settle`: sells over what was found last; says the campaign and the price in micro-dollars, or `no bid`.
+/// - `publish`: builds a version where one is due, and publishes it; says its edit, or `not due`.
+/// - `edition` and `durable`: the edit of the version, and how many effects are durable.
+/// - `take`: takes the journal; says `out`, `nothing`, or the length of the block, its end, and `again` where it failed
+///   before.
+/// - `write`: appends the block, or repairs the journal with it; says `written` or `failed`.
+/// - `put`: puts the journal back.
+/// - `reopen`: the state is opened again from the disk that the journal leaves, where it is home; else all is let go.
+pub fn run(
+    alloc: Global,
+    disk: MemDisk,
+    commands: &[Txt],
+    out: &mut Txt,
+) -> Result<(), AllocError> {
+    run_with::<Brand>(alloc, disk, commands, Blank::new(1), out)
+}
+
+fn run_with<L: Ledger>(
+    alloc: Global,
+    disk: MemDisk,
+    commands: &[Txt],
+    blank: Blank,
+    out: &mut Txt,
+) -> Result<(), AllocError>
+    requires name { blank.name ≡ L.name }
+    requires parts { blank.parts ≡ L.parts }
+    requires some { 0 < blank.parts }
+{
+    let mut steps = Steps::<L>::new(blank);
+    run_over(alloc, disk, commands, &mut steps, out)
+}
+
+fn run_over<D: Disk + Drop, L: Ledger>(
+    alloc: Global,
+    disk: D,
+    commands: &[Txt],
+    steps: &mut Steps<L>,
+    out: &mut Txt,
+) -> Result<(), AllocError> {
+    match open(alloc, disk, steps) {
+        Ok(session) => {
+            let mut place = Some(session);
+            let told = run_all(alloc, &mut place, commands, steps, out);
+            drop(place);
+            told
+        }
+        Err(fault) => put_fault(fault, out),
+    }
+}
+
+fn put_fault(fault: JournalFault, out: &mut Txt) -> Result<(), AllocError> {
+    match fault {
+        JournalFault::Memory => Err(AllocError),
+        _ => out.extend(b"not opened"),
+    }
+}
+
+fn run_all<D: Disk + Drop, L: Ledger>(
+    alloc: Global,
+    place: &mut Option<Session<D>>,
+    commands: &[Txt],
+    steps: &mut Steps<L>,
+    out: &mut Txt,
+) -> Result<(), AllocError> {
+    for (i, command) in commands.iter().enumerate() {
+        put_mark(i, out)?;
+        run_at(alloc, place, command.as_bytes(), steps, out)?;
+    }
+    Ok(())
+}
+
+fn run_at<D: Disk + Drop, L: Ledger>(
+    alloc: Global,
+    place: &mut Option<Session<D>>,
+    command: &[u8],
+    steps: &mut Steps<L>,
+    out: &mut Txt,
+) -> Result<(), AllocError> {
+    if word_at(command, 0) == b"reopen".as_slice() {
+        return reopen(alloc, place, steps, out);
+    }
+    match place {
+        Some(session) => session.run(alloc, command, steps, out),
+        None => out.extend(b"closed"),
+    }
+}
+
+// ---- the disk
+
+// The state is opened again from the disk, where the journal is home; else it is let go.
+fn reopen<D: Disk + Drop, L: Ledger>(
+    alloc: Global,
+    place: &mut Option<Session<D>>,
+    steps: &mut Steps<L>,
+    out: &mut Txt,
+) -> Result<(), AllocError> {
+    match place.take() {
+        Some(session) => match session.into_disk() {
+            Some(disk) => open_again(alloc, place, disk, steps, out),
+            None => out.extend(b"out"),
+        },
+        None => out.extend(b"closed"),
+    }
+}
+
+fn open_again<D: Disk + Drop, L: Ledger>(
+    alloc: Global,
+    place: &mut Option<Session<D>>,
+    disk: D,
+    steps: &mut Steps<L>,
+    out: &mut Txt,
+) -> Result<(), AllocError> {
+    match open(alloc, disk, steps) {
+        Ok(session) => {
+            drop(replace(place, Some(session)));
+            out.extend(b"opened")
+        }
+        Err(fault) => put_fault(fault, out),
+    }
+}
+
+// ---- one command
+
+impl<D: Disk + Drop> Session<D> {
+    ghost use Rattle.std.specs.Prelude.{IsTrue};
+    ghost use Rattle.auction_core.specs.Draft.{is_simple};
+
+    fn run<L: Ledger>(
+        &mut self,
+        alloc: Global,
+        command: &[u8],
+        steps: &mut Steps<L>,
+        out: &mut Txt,
+    ) -> Result<(), AllocError> {
+        let name = word_at(command, 0);
+        if name == b"post".as_slice() {
+            return self.post(alloc, command, out);
+        }
+        if name == b"turn".as_slice() {
+            let done = self.turn(number_at(command, 1), number_at(command, 2))?;
+            return write_decimal(done, out);
+        }
+        if name == b"find".as_slice() {
+            return self.find(alloc, steps, out);
+        }
+        if name == b"settle".as_slice() {
+            return self.settle(steps, out);
+        }
+        if name == b"publish".as_slice() {
+            return self.publish(alloc, steps, out);
+        }
+        self.run_rest(name, out)
+    }
+
+    fn run_rest(&mut self, name: &[u8], out: &mut Txt) -> Result<(), AllocError> {
+        if name == b"edition".as_slice() {
+            return write_decimal(self.state.edition(), out);
+        }
+        if name == b"durable".as_slice() {
+            return write_decimal(self.state.durable(), out);
+        }
+        if name == b"take".as_slice() {
+            return self.take(out);
+        }
+        if name == b"write".as_slice() {
+            return self.write(out);
+        }
+        if name == b"put".as_slice() {
+            return self.put(out);
+        }
+        out.extend(b"?")
+    }
+
+    fn post(&mut self, alloc: Global, command: &[u8], out: &mut Txt) -> Result<(), AllocError> {
+        let body = campaign_named(word_at(command, 2));
+        match command_of(alloc, word_at(command, 1), body)? {
+            Some(command) => {
+                let told = self.post_one(&command, out);
+                drop(command);
+                told
+            }
+            None => out.extend(b"refused"),
+        }
+    }
+
+    fn post_one(&mut self, command: &Command, out: &mut Txt) -> Result<(), AllocError> {
+        if !is_no_auction(command) {
+            return out.extend(b"an auction");
+        }
+        let reply = self.carry_out(command)?;
+        let told = put_reply(&reply, out);
+        drop(reply);
+        told
+    }
+
+    // Worker 1 carries out a command other than an auction.
+    #[tactic(auto, using(crate::proofs::Sessions::standing))]
+    fn carry_out(&mut self, command: &Command) -> Result<Reply, AllocError>
+        requires simple { IsTrue (is_simple command.now) }
+    {
+        if self.entries >= MOST_ENTRIES {
+            return Err(AllocError);
+        }
+        self.entries += 1;
+        carry_out_in(&mut self.state, command)
+    }
+
+    // Pauses campaign n and resumes it in turn, so many times at most. How often it was done.
+    fn turn(&mut self, times: u64, n: u64) -> Result<u64, AllocError> {
+        for i in 0..times {
+            if !self.turn_at(i, n)? {
+                return Ok(i);
+            }
+        }
+        Ok(times)
+    }
+
+    fn turn_at(&mut self, i: u64, n: u64) -> Result<bool, AllocError> {
+        let command = turned(i, n);
+        let reply = self.carry_out(&command);
+        drop(command);
+        let reply = reply?;
+        let done = is_turned(&reply);
+        drop(reply);
+        Ok(done)
+    }
+
+    fn find<L: Ledger>(
+        &mut self,
+        alloc: Global,
+        steps: &mut Steps<L>,
+        out: &mut Txt,
+    ) -> Result<(), AllocError> {
+        match command_of(alloc, b"/openrtb2/auction", REQUEST)? {
+            Some(auction) => {
+                self.seek(alloc, auction, steps)?;
+                self.put_sought(out)
+            }
+            None => out.extend(b"refused"),
+        }
+    }
+}
+
+fn carry_out_in<D: Disk + Drop>(
+    state: &mut ExchangeState<D>,
+    command: &Command,
+) -> Result<Reply, AllocError>
+    requires simple { IsTrue (is_simple command.now) }
+    requires stands { IsStanding state.old }
+    ensures { GoesOn state.old state.new }
+{
+    let settled = state.simple(command, MOMENT);
+    reply_of(settled)
+}
+
+/// The reply, where the command was carried out.
+pub fn reply_of(settled: Result<Settled, AllocError>) -> Result<Reply, AllocError> {
+    match settled {
+        Ok(settled) => Ok(settled.reply),
+        Err(refused) => Err(refused),
+    }
+}
+
+fn turned(i: u64, n: u64) -> Command
+    ensures { IsTrue (is_simple result) }
+{
+    if i % 2 == 0 {
+        return Command::Pause(n);
+    }
+    Command::Resume(n)
+}
+
+fn is_turned(reply: &Reply) -> bool {
+    matches!(reply, Reply::Paused { .. } | Reply::Resumed { .. })
+}
