@@ -34,9 +34,8 @@ def try_calls(program, folder):
         print("calls: left out, since there is no strace")
         return
     told = folder / "strace"
-    with running(program, folder / "calls") as server, server.link() as link:
-        link.send(get("/campaign/1"))
-        link.answer()
+    # strace begins before the link: it breaks off a wait that has a limit.
+    with running(program, folder / "calls") as server:
         with subprocess.Popen(["strace", "-f", "-o", told, "-p", str(server.process.pid)], stderr=subprocess.PIPE) as tracer:
             said = tracer.stderr.readline() if select.select([tracer.stderr], [], [], LIMIT)[0] else b""
             if b"attached" not in said:
@@ -44,12 +43,12 @@ def try_calls(program, folder):
                 tracer.kill()
                 return
             answers = []
-            for _, data, _, _ in steps():
-                link.send(data)
-                answers.append(link.answer())
-            # The first read was waiting already.
-            wanted = [name for it in steps() for name in it[3]][1:]
-            came = last_calls(told, wanted)
+            with server.link() as link:
+                for _, data, _, _ in steps():
+                    link.send(data)
+                    answers.append(link.answer())
+                wanted = [name for it in steps() for name in it[3]]
+                came = last_calls(told, wanted)
             tracer.send_signal(signal.SIGINT)
             tracer.wait(LIMIT)
     CHECKS.same("the answers", answers, [wanted for _, _, wanted, _ in steps()])

@@ -148,8 +148,8 @@ def try_full(program, folder):
             ("a report waits for the repair", get("/campaign/2"), failed, None),
             ("a pause too", post("/pause/1"), failed, None),
             ("there is room: the campaign stands", get("/campaign/2"), report(2, bid="1"), resource.RLIM_INFINITY),
-            ("and what was refused was not done", get("/campaign/1"), report(1), None),
-            ("a sale", SELL, won_by_a(1), None),
+            ("and so does the pause", get("/campaign/1"), report(1, "paused"), None),
+            ("a sale", SELL, won_by_b(1), None),
             ("full again", post("/bill/1"), failed, 3),
         ]
         for step, data, wanted, room in steps:
@@ -157,5 +157,5 @@ def try_full(program, folder):
                 limit_files(pid, room if room == resource.RLIM_INFINITY else journal.stat().st_size + room)
             link.send(data)
             CHECKS.same(step, link.answer(), wanted)
-    told = counts(campaigns=2, live=2, sales=1, held=1)
+    told = counts(campaigns=2, live=1, sales=1, held=1)
     CHECKS.same("killed then: the last is not kept", recovered(program, journal), told)

@@ -11,22 +11,22 @@ from contextlib import contextmanager
 from serving.checks import CHECKS, LIMIT, SILENCE, Stopped
 from serving.messages import PUBLIC
 
-FIRST_LINE = b"serving with 1 workers\n"
+def first_line(workers):
+    return f"serving with {workers} workers\n".encode()
 
 
 class Running:
     """A server that runs, at an address of loopback."""
 
-    def __init__(self, program, journal, port=None, ttl=300000):
+    def __init__(self, program, journal, port=None, ttl=300000, workers=1, env=None):
         self.port = port or free_port()
-        self.command = serve_words(program, journal, self.port, ttl)
-        self.process = subprocess.Popen(
-            self.command, stdin=subprocess.DEVNULL, stdout=subprocess.PIPE, stderr=subprocess.PIPE, restore_signals=False
-        )
+        self.command = serve_words(program, journal, self.port, ttl, workers)
+        given = {"stdin": subprocess.DEVNULL, "stdout": subprocess.PIPE, "stderr": subprocess.PIPE}
+        self.process = subprocess.Popen(self.command, restore_signals=False, env=env and {**os.environ, **env}, **given)
         line = read_line(self.process.stdout)
-        if line != FIRST_LINE:
+        if line != first_line(workers):
             self.kill()
-            CHECKS.same(f"the first line of {' '.join(map(str, self.command))}", line, FIRST_LINE)
+            CHECKS.same(f"the first line of {' '.join(map(str, self.command))}", line, first_line(workers))
             raise Stopped
 
     def link(self):
@@ -50,8 +50,9 @@ def running(*args, **more):
         server.kill()
 
 
-def serve_words(program, journal, port, ttl=300000):
-    return [program, "serve", "--listen", f"127.0.0.1:{port}", "--journal", journal, "--public", PUBLIC, "--ttl", str(ttl)]
+def serve_words(program, journal, port, ttl=300000, workers=1):
+    words = [program, "serve", "--listen", f"127.0.0.1:{port}", "--journal", journal, "--public", PUBLIC]
+    return [*words, "--workers", str(workers), "--ttl", str(ttl)]
 
 
 def free_port():

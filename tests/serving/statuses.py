@@ -7,8 +7,8 @@ import subprocess
 from contextlib import suppress
 
 from serving.checks import CHECKS, LIMIT
-from serving.messages import A, get, new, post, report, request
-from serving.program import FIRST_LINE, Link, counts, ended, free_port, read_line, recovered, running, serve_words
+from serving.messages import A, error, get, new, post, report, request
+from serving.program import Link, converse, counts, ended, first_line, free_port, read_line, recovered, running, serve_words
 from serving.journals import HEAD
 
 
@@ -26,7 +26,10 @@ def try_usage(program, folder):
         ["serve", *full, "--ttl", "0"],
         ["serve", *full, "--ttl", "31536000001"],
         ["serve", *full, "--listen", "127.0.0.1:2"],
-        ["serve", *full, "--workers", "2"],
+        ["serve", *full, "--workers", "0"],
+        ["serve", *full, "--workers", "65"],
+        ["serve", *full, "--workers", "x"],
+        ["serve", *full, "--workers", "2", "--workers", "2"],
         ["recover"],
         ["recover", "--journal"],
         ["recover", "--listen", "127.0.0.1:1"],
@@ -44,10 +47,14 @@ def try_usage(program, folder):
     CHECKS.holds("no file was made", not (folder / "j").exists())
     with running(program, folder / "year", ttl=31536000000):
         CHECKS.same("a year is no wrong time", recovered(program, folder / "year"), counts())
+    with running(program, folder / "most", workers=64) as server:
+        converse(server, [("64 workers", get("/campaign/1"), error(404, "no-such-campaign"))])
+    line = ended(serve_words(program, folder, free_port())[:-4])[1]
+    CHECKS.same("without workers", line, b"rtbx: cannot open journal\n")
     for words in [["--help"], ["--version"], ["serve", "--help"], ["recover", "--help"], ["try", "--help"], ["serve", "--version"]]:
         status, out, errors = ended([program, *words])
         CHECKS.same(f"rtbx {' '.join(words)}", (status, out.startswith(b"rtbx") or b"Usage" in out, errors), (0, True, b""))
-    named = {"serve": [b"--listen", b"--journal", b"--public", b"--ttl"], "recover": [b"--journal"], "try": [b"BID@DOMAIN"]}
+    named = {"serve": [b"--listen", b"--journal", b"--public", b"--workers", b"--ttl"], "recover": [b"--journal"], "try": [b"BID@DOMAIN"]}
     for command, options in named.items():
         out = ended([program, command, "--help"])[1]
         CHECKS.same(f"rtbx {command} --help names its options", [it for it in options if it not in out], [])
@@ -67,8 +74,6 @@ def try_statuses(program, folder):
     for place in [folder, folder / "none" / "journal"]:
         for command in [serve_words(program, place, free_port()), [program, "recover", "--journal", place]]:
             CHECKS.same(f"{command[1]}: {place.name}", ended(command)[:2], (4, b"rtbx: cannot open journal\n"))
-    for command in [serve_words(program, "/dev/null", free_port()), [program, "recover", "--journal", "/dev/null"]]:
-        CHECKS.same(f"{command[1]}: what cannot be synced", ended(command)[:2], (5, b"rtbx: journal failed\n"))
     with open("/dev/full", "wb") as full:
         CHECKS.same("output that fails", ended(serve_words(program, journal, free_port()), stdout=full)[0], 7)
         CHECKS.same("recover with it", ended([program, "recover", "--journal", journal], stdout=full)[0], 7)
@@ -131,7 +136,7 @@ def serve_closed(way, program, journal):
     words = closed(way, serve_words(program, journal, port))
     with subprocess.Popen(words, stdin=subprocess.DEVNULL, stdout=subprocess.PIPE, stderr=subprocess.DEVNULL) as process:
         try:
-            CHECKS.same(f"serve {way}", read_line(process.stdout), FIRST_LINE)
+            CHECKS.same(f"serve {way}", read_line(process.stdout), first_line(1))
             with Link(port) as link:
                 link.send(get("/campaign/1"))
                 CHECKS.same(f"serve {way}: a report", link.answer(), report(1))
