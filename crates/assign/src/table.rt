@@ -1,3 +1,4 @@
+//! The assignment of an impression: the rows of its request, and the law that no attribute stands twice.
 ghost use Rattle.std.specs.Prelude.{◌≡◌, ◌<◌, ◌++◌, length, get_or, option_and_then, option_map, IfOk, IsTrue, OnOk};
 ghost use Rattle.std.specs.List.{flat_map};
 ghost use Rattle.target_expr.specs.Truth.{are_single, value_at};

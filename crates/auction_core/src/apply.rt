@@ -1,4 +1,4 @@
-// Effects of a journal are carried out.
+//! Effects of a journal are carried out.
 ghost use Rattle.std.specs.Prelude.{◌≡◌, ◌≤◌, ◌<◌, ◌+◌, ◌^◌, IfErr, None, OnErr, OnOk, Option, Some, [], ◌∷◌};
 ghost use Rattle.std.specs.Option.{option_copied};
 ghost use Rattle.auction_core.specs.Applying.{Applies, Explains};

@@ -1,4 +1,4 @@
-// Effects of a compacted journal are carried out.
+//! Effects of a compacted journal are carried out.
 ghost use Rattle.std.specs.Prelude.{◌≡◌, ◌≤◌, ◌<◌, ◌+◌, ◌-◌, ◌^◌, ◌==◌, ◌&&◌, if◌then◌else◌, false, true, [], ◌∷◌, IfOk, IsTrue, None, Some, length, min, nat_le};
 ghost use Rattle.std.specs.Option.{option_copied, option_map_or};
 ghost use Rattle.auction_core.specs.Applying.{Applies};

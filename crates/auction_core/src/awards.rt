@@ -1,4 +1,4 @@
-// Who wins the impressions of a request, each beside the sales of those before it.
+//! Who wins the impressions of a request, each beside the sales of those before it.
 ghost use Rattle.std.specs.Prelude.{◌≡◌, ◌≤◌, ◌<◌, ◌-◌, ◌+◌, ◌^◌, ◌==◌, ◌++◌, if◌then◌else◌, IfOk, IfSome, IsTrue, OnOk, Option, Some, fold, length, map, option_map, slice_get, take};
 ghost use Rattle.std.specs.List.{flat_map, list_all};
 ghost use Rattle.std.specs.Option.{option_map_or, option_to_list};

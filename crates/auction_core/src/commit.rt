@@ -1,4 +1,4 @@
-// What was prepared is carried out.
+//! What was prepared is carried out.
 ghost use Rattle.std.specs.Prelude.{◌≡◌, ◌≤◌, ◌<◌, ◌+◌, ◌^◌, ℕ, IsTrue, is_some, length, map};
 ghost use Rattle.auction_core.specs.Draft.{CanCarry, CanHoldAll, IsDraftOf, IsReady, answered, after_of, carried, edits_made, edits_planned, reply_of, row_of};
 ghost use Rattle.auction_core.specs.Frames.{OnlyState};

@@ -1,3 +1,4 @@
+//! What a prepared command will do, with all the memory that it takes.
 ghost use Rattle.std.specs.Prelude.{◌≡◌};
 ghost use Rattle.std.specs.Option.{option_copied};
 

@@ -1,4 +1,4 @@
-// Single changes of the state. None takes memory.
+//! Single changes of the state. None takes memory.
 ghost use Rattle.std.proofs.Common.{get_or, set};
 ghost use Rattle.std.specs.Prelude.{◌≡◌, ◌-◌, length, ◌+◌, ◌<◌, ◌≤◌, ◌^◌, [], ◌∷◌, false, true, IsTrue, not};
 ghost use Rattle.auction_core.specs.Draft.{IsAt, can_change, changed_at, row_of, settled};

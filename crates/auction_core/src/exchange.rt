@@ -1,3 +1,4 @@
+//! The exchange of one thread as it runs: its table of campaigns and its book of sales.
 ghost use Rattle.std.specs.Prelude.{◌≡◌};
 ghost use Rattle.auction_core.specs.Core.{funds, listed};
 ghost use Rattle.plain_exchange.specs.State.{empty};

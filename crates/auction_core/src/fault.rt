@@ -1,3 +1,4 @@
+//! Why an effect was not carried out.
 ghost use Rattle.std.specs.Prelude.{◌≡◌};
 ghost use Rattle.auction_core.specs.declared.fault.ApplyFault.TheVariants.{Memory};
 

@@ -1,4 +1,4 @@
-// Whether effects of a journal fit the state.
+//! Whether effects of a journal fit the state.
 ghost use Rattle.std.specs.Prelude.{◌≡◌, ◌≤◌, ◌-◌, ◌^◌, ◌==◌, ◌&&◌, if◌then◌else◌, [], IfOk, IsTrue, OnOk, false, is_some, length, map, min, not};
 ghost use Rattle.std.specs.Option.{option_copied, option_map_or};
 ghost use Rattle.auction_core.specs.Applying.{User, items_cost, holding_for, with_sold};

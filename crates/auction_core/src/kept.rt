@@ -1,4 +1,4 @@
-// The state as the effects of a compacted journal.
+//! The state as the effects of a compacted journal.
 ghost use Rattle.std.specs.Prelude.{◌≡◌, ◌≤◌, ◌+◌, ◌<◌, ◌^◌, IfOk, Some, length, option_map, slice_get};
 ghost use Rattle.plain_exchange.specs.declared.changes.Change.TheVariants as change;
 ghost use Rattle.plain_exchange.specs.Effects.{kept_campaign, kept_effects, kept_sale};

@@ -1,4 +1,4 @@
-// What the exchange tells of its state, as it is or as it would be once held sales that are due have expired.
+//! What the exchange tells of its state, as it is or as it would be once held sales that are due have expired.
 ghost use Rattle.std.specs.Prelude.{◌≡◌, ◌-◌, ◌≤◌, Some, length, option_map};
 ghost use Rattle.budget_book.specs.declared.sales.SaleRow.{SaleRow};
 ghost use Rattle.budget_book.specs.Sales.{state_at};

@@ -1,3 +1,4 @@
+//! What comes of preparing a command: its reply, and what is to be done.
 ghost use Rattle.std.specs.Prelude.{◌≡◌, None};
 ghost use Rattle.auction_core.specs.declared.draft.Answer.TheVariants.{Told};
 ghost use Rattle.auction_core.specs.declared.draft.Plan.TheVariants.{Nothing};

@@ -1,4 +1,4 @@
-// Commands are prepared.
+//! Commands are prepared.
 ghost use Rattle.std.specs.Prelude.{◌≡◌, ◌≤◌, ℕ, IfOk, IsTrue, None, Option, Some, if◌then◌else◌, option_map};
 ghost use Rattle.std.specs.Option.{option_or};
 ghost use Rattle.auction_core.specs.Draft.{IsDraftOf, IsReady, found_of, is_simple, is_valid_command};

@@ -1,4 +1,4 @@
-// Auctions, prepared.
+//! Auctions, prepared.
 ghost use Rattle.std.specs.Prelude.{◌≡◌, ◌≤◌, ◌+◌, IfOk, IsTrue, OnOk, length, map, nat_lt};
 ghost use Rattle.auction_core.specs.Auctions.{award_outcome, selling};
 ghost use Rattle.auction_core.specs.Draft.{IsDraftOf, IsReady, found_for};

@@ -1,4 +1,4 @@
-// Commands on campaigns, prepared.
+//! Commands on campaigns, prepared.
 ghost use Rattle.std.specs.Prelude.{ℕ, IsTrue, is_some};
 ghost use Rattle.auction_core.specs.Outcomes.{IsOutcome, IsPossible};
 ghost use Rattle.plain_exchange.specs.State.{campaign_at, swept};

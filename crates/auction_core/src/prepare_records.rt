@@ -1,4 +1,4 @@
-// Commands that give a campaign its record, prepared.
+//! Commands that give a campaign its record, prepared.
 ghost use Rattle.std.specs.Prelude.{◌≡◌, ◌≤◌, ◌+◌, ◌^◌, ℕ, [], ◌∷◌, IfOk, IsTrue, None, OnOk, Some, is_some, option_map};
 ghost use Rattle.std.specs.Result.{result_err};
 ghost use Rattle.auction_core.specs.Frames.{OnlyRooms};

@@ -1,4 +1,4 @@
-// Commands on sales, prepared.
+//! Commands on sales, prepared.
 ghost use Rattle.std.specs.Prelude.{◌≡◌, ◌&&◌, ℕ, None, nat_le, if◌then◌else◌};
 ghost use Rattle.auction_core.specs.Outcomes.{IsOutcome, IsPossible};
 ghost use Rattle.plain_exchange.specs.declared.commands.Reply.TheVariants as reply;

@@ -1,4 +1,4 @@
-// Which campaigns an auction reaches, found without an index.
+//! Which campaigns an auction reaches, found without an index.
 ghost use Rattle.std.specs.Prelude.{◌≡◌, ◌++◌, ◌<◌, ◌≤◌, [], ◌∷◌, if◌then◌else◌, IfOk, OnOk, Some, length, map, slice_get};
 ghost use Rattle.auction_core.specs.Draft.{found_for};
 ghost use Rattle.auction_core.specs.Scan.{is_open_to, open_to};

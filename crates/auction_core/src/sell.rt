@@ -1,4 +1,4 @@
-// What an auction sells, prepared.
+//! What an auction sells, prepared.
 ghost use Rattle.std.specs.Prelude.{◌≡◌, ◌≤◌, ◌-◌, ◌++◌, [], IfOk, List, OnOk, Option, length, map, option_and_then, option_map, option_to_list, slice_get};
 ghost use Rattle.std.specs.Option.{option_copied};
 ghost use Rattle.auction_core.specs.Auctions.{holding_of, item_due};

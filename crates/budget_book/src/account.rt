@@ -1,3 +1,4 @@
+//! A campaign's account: its budget, what is spent, what is reserved, and the trees of its sales.
 ghost use Rattle.std.specs.Prelude.{◌≡◌, ◌+◌, ◌<◌, ◌≤◌, ◌^◌};
 ghost use Rattle.std.specs.Prelude.{if◌then◌else◌};
 ghost use Rattle.budget_book.specs.Accounts.{fresh, gone_more, settled, with_gone, with_sale};

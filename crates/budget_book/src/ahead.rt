@@ -1,5 +1,5 @@
-// What would expire by a moment. A look ahead goes down the heap of entries only where they are due, so it costs
-// what is due, however many are held.
+//! What would expire by a moment. A look ahead goes down the heap of entries only where they are due, so it costs
+//! what is due, however many are held.
 ghost use Rattle.std.specs.Prelude.{◌≡◌, ◌+◌, ◌<◌, ◌≤◌, ◌^◌, length, MatchOption, OnSome};
 ghost use Rattle.std.specs.BinaryHeap.{heap_items};
 ghost use Rattle.std.proofs.Common.{get_or};

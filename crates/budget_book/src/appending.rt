@@ -1,3 +1,4 @@
+//! A sale appended: the room of every list first, and then the row in each of them.
 ghost use Rattle.std.specs.Prelude.{◌≡◌, ℕ, List, ◌+◌, ◌-◌, ◌<◌, ◌≤◌, ◌∷◌, [], ◌++◌, length, min, OnOk, option_map};
 ghost use Rattle.std.specs.BinaryHeap.{heap_capacity, heap_items, heap_len};
 ghost use Rattle.std.proofs.Common.{get_or};

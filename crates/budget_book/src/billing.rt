@@ -1,4 +1,4 @@
-// Sales are billed, or lost.
+//! Sales are billed, or lost.
 ghost use Rattle.std.specs.Prelude.{◌≡◌, false, None, Option, ◌-◌, ◌<◌, ◌≤◌, length, OnOk, IfErr, Some};
 ghost use Rattle.std.proofs.Common.{get_or, set};
 ghost use Rattle.budget_book.specs.declared.sales.SaleRow.{SaleRow};

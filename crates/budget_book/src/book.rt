@@ -1,3 +1,4 @@
+//! Budgets and sales: the book, with the room that it keeps for what comes.
 ghost use Rattle.std.specs.Prelude.{◌≡◌, Option, ℕ, ◌+◌, ◌-◌, ◌<◌, ◌≤◌, [], length, map, take, drop, min, OnOk, option_map};
 ghost use Rattle.std.specs.List.{enumerate_from};
 ghost use Rattle.std.proofs.Common.{get_or};

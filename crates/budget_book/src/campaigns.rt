@@ -1,4 +1,4 @@
-// Campaigns and their budgets.
+//! Campaigns and their budgets.
 ghost use Rattle.std.specs.Prelude.{◌≡◌, ◌+◌, ◌-◌, ◌<◌, ◌≤◌, ◌^◌, [], ◌∷◌, ◌++◌, length, OnOk, OnErr, IfErr};
 ghost use Rattle.std.proofs.Common.{get_or, set};
 ghost use Rattle.budget_book.specs.declared.sales.Gone.{Gone};

@@ -1,3 +1,4 @@
+//! When held sales are due, the earliest first, and their expiry.
 ghost use Rattle.std.specs.Prelude.{◌≡◌, ℕ, ◌+◌, ◌-◌, ◌<◌, ◌≤◌, ◌∷◌, [], ◌++◌, All, List, length, MatchOption, IsPermutation};
 ghost use Rattle.std.specs.BinaryHeap.{IsHeap, heap_capacity, heap_items, heap_len};
 ghost use Rattle.budget_book.specs.declared.dues.Due.{Due};

@@ -1,4 +1,4 @@
-// The oldest sales are forgotten.
+//! The oldest sales are forgotten.
 ghost use Rattle.std.specs.Prelude.{◌≡◌, ℕ, ◌+◌, ◌≤◌, ◌<◌, ◌^◌, not, false, length, drop, take};
 ghost use Rattle.std.specs.List.{prefix_len};
 ghost use Rattle.std.proofs.Common.{get_or};

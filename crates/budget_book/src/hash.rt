@@ -1,5 +1,5 @@
-// Hashes of campaigns and users. They spread pairs over the trees; whoever picks users of one hash puts them
-// into one tree, where they are in order all the same.
+//! Hashes of campaigns and users. They spread pairs over the trees; whoever picks users of one hash puts them
+//! into one tree, where they are in order all the same.
 ghost use Rattle.std.specs.Prelude.{◌≡◌, ◌<◌, fold};
 ghost use Rattle.budget_book.specs.LastSales.{mixed, place_in, user_hash, with_byte, word_in};
 

@@ -1,3 +1,4 @@
+//! For each user the last sale to it, by the user's hash.
 ghost use Rattle.std.specs.Prelude.{◌≡◌, ◌≤◌, ◌<◌, [], length, map, if◌then◌else◌, OnOk, OnErr};
 ghost use Rattle.budget_book.specs.LastSales.{AreEmpty, Pair, is_pair, number_of};
 ghost use Rattle.budget_book.specs.Tree.{entries};

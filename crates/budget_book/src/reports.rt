@@ -1,4 +1,4 @@
-// What a book tells of its campaigns and sales.
+//! What a book tells of its campaigns and sales.
 ghost use Rattle.std.specs.Prelude.{◌≡◌, None, Option, ◌+◌, ◌-◌, ◌<◌, ◌≤◌, length, IfOk, Some, option_map};
 ghost use Rattle.std.proofs.Common.{get_or};
 ghost use Rattle.budget_book.specs.declared.sales.SaleRow.{SaleRow};

@@ -1,3 +1,4 @@
+//! A sale: its row, its states, and why one is not settled.
 ghost use Rattle.std.specs.Prelude.{◌≡◌, ◌≤◌, ◌^◌, IfOk, option_map};
 ghost use Rattle.budget_book.specs.Sales.{is_due, is_held, none_gone, sale_at, state_at};
 

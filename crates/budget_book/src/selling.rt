@@ -1,4 +1,4 @@
-// New sales.
+//! New sales.
 ghost use Rattle.std.specs.Prelude.{◌≡◌, ◌||◌, if◌then◌else◌, Option, ◌+◌, ◌-◌, ◌<◌, ◌≤◌, [], ◌∷◌, ◌++◌, length};
 ghost use Rattle.std.proofs.Common.{get_or};
 ghost use Rattle.budget_book.specs.declared.sales.SaleRow.{SaleRow};

@@ -1,3 +1,4 @@
+//! A held sale settled: its state, and its amount moved in the account.
 ghost use Rattle.std.specs.Prelude.{◌≡◌, ◌≢◌, false, ℕ, List, ◌+◌, ◌-◌, ◌<◌, ◌≤◌, ◌^◌, length, map};
 ghost use Rattle.std.proofs.Common.{get_or, set};
 ghost use Rattle.budget_book.specs.declared.sales.SaleRow.{SaleRow};

@@ -1,3 +1,4 @@
+//! A balanced tree of numbers by keys (Adelson-Velsky and Landis 1962), of nodes that were made before.
 ghost use Rattle.std.specs.Prelude.{◌≡◌, true, [], ◌∷◌};
 ghost use Rattle.std.specs.FinMap.Entries.{is_sorted, put};
 ghost use Rattle.budget_book.specs.Tree.{Key, entries, entries_at, key_cmp, key_in, number_at};

@@ -1,3 +1,4 @@
+//! The user of a sale, with all the memory that a sale to the user takes.
 ghost use Rattle.std.specs.Prelude.{◌≡◌, IfOk, [], ◌∷◌};
 ghost use Rattle.budget_book.specs.LastSales.{Pair, key_of, pair_hash};
 ghost use Rattle.budget_book.specs.Tree.{entries_at, key_in};

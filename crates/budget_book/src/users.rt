@@ -1,3 +1,4 @@
+//! How often a user was shown a campaign within so many seconds, from its last sale backwards.
 ghost use Rattle.std.specs.Prelude.{◌≡◌, ◌-◌, ◌<◌, ◌≤◌, ◌&&◌, ◌||◌, nat_lt, ◌+◌, ◌*◌, Option, length};
 ghost use Rattle.budget_book.specs.declared.sales.SaleRow.{SaleRow};
 ghost use Rattle.budget_book.specs.Sales.{expired, expired_at, is_billed, is_held, is_shown, is_to, shown_of};

@@ -1,3 +1,4 @@
+//! The laws of fields: where each ends, and that what was put is read again.
 ghost use Rattle.std.specs.Prelude.{◌≡◌, ℕ, ◌+◌, List, ◌++◌, length, Option, Some};
 ghost use Rattle.byte_fields.specs.Codes.{BeginsAt, IsCode, IsReadAt};
 ghost use Rattle.byte_fields.specs.Encodings.{FitsEight, FitsFour, IsByte, IsFlag, IsListOf, IsShort, byte_bytes, eight_bytes, flag_bytes, four_bytes, list_bytes, text_bytes};

@@ -1,3 +1,4 @@
+//! Lists of any item as fields: their length, and then each item.
 ghost use Rattle.std.specs.Prelude.{◌≡◌, ◌≤◌, ℕ, List, ◌++◌, length, None, Ok, All, IfOk, OnOk, OnErr};
 ghost use Rattle.std.specs.List.{flat_map};
 ghost use Rattle.byte_fields.specs.Codes.{IsCode, IsReadAt};

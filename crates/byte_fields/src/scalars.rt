@@ -1,3 +1,4 @@
+//! Bytes, flags and numbers as fields.
 ghost use Rattle.std.specs.Prelude.{◌≡◌, ◌++◌, OnOk, OnErr};
 ghost use Rattle.byte_fields.specs.Codes.{IsReadAt};
 ghost use Rattle.byte_fields.specs.Encodings.{FitsEight, FitsFour, IsByte, IsFlag, byte_bytes, eight_bytes, flag_bytes, four_bytes};

@@ -1,3 +1,4 @@
+//! Texts, and lists of texts, as fields.
 ghost use Rattle.std.specs.Prelude.{◌≡◌, ℕ, List, ◌++◌, None, Ok, option_map, IfOk, OnOk, OnErr};
 ghost use Rattle.byte_fields.specs.Codes.{IsReadAt};
 ghost use Rattle.byte_fields.specs.Encodings.{CountsMore, IsListOf, IsListWithin, IsShort, list_bytes, text_bytes};

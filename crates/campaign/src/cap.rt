@@ -1,3 +1,4 @@
+//! How often a campaign may be shown to one user, and within how many seconds.
 ghost use Rattle.std.specs.Prelude.{◌≡◌, ◌≤◌};
 ghost use Rattle.campaign.specs.Caps.{cap_of};
 

@@ -1,3 +1,4 @@
+//! The first fault of what an advertiser states, in the order of the parts.
 ghost use Rattle.std.specs.Prelude.{◌≡◌, ◌≤◌, ◌^◌, nat_le, length, All, FitsSigned, IfNone, not, pos, int_le};
 ghost use Rattle.std.specs.Option.{option_to_list};
 ghost use Rattle.std.specs.List.{flat_map, position, slice_get};

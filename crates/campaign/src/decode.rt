@@ -1,3 +1,4 @@
+//! Facts read from bytes.
 ghost use Rattle.std.specs.Prelude.{◌≡◌, ◌≤◌, List, length, All, IfOk};
 ghost use Rattle.std.specs.List.{flat_map};
 ghost use Rattle.byte_fields.specs.Codes.{BothValid, IsReadAt, both_bytes};

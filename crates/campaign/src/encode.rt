@@ -1,3 +1,4 @@
+//! Facts as bytes.
 ghost use Rattle.std.specs.Prelude.{◌≡◌, ◌++◌, ℕ, List, Option, OnOk, OnErr, Some};
 ghost use Rattle.byte_fields.specs.Encodings.{IsListOf, IsOptionOf, IsShort, list_bytes, option_bytes, text_bytes};
 ghost use Rattle.campaign.specs.Encoding.{facts_bytes, int_bytes, sides_bytes};

@@ -1,3 +1,4 @@
+//! What an advertiser states of a campaign, within the limits.
 ghost use Rattle.std.specs.Prelude.{◌≡◌, ◌%◌, ◌<◌, ◌≤◌};
 ghost use Rattle.std.specs.Option.{option_copied};
 ghost use Rattle.campaign.specs.Faults.{ok_unless, fact_faults};

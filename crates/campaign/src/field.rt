@@ -1,3 +1,4 @@
+//! The fields of a campaign's body.
 ghost use Rattle.std.specs.Prelude.{◌≡◌};
 ghost use Rattle.campaign.specs.Paths.{member_name};
 

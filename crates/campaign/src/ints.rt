@@ -1,3 +1,4 @@
+//! Numbers with a sign as fields of bytes.
 ghost use Rattle.std.specs.Prelude.{◌≡◌, ◌++◌, OnOk, OnErr};
 ghost use Rattle.byte_fields.specs.Codes.{IsReadAt};
 ghost use Rattle.campaign.specs.Encoding.{int_bytes};

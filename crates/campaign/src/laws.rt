@@ -1,3 +1,4 @@
+//! The laws of facts as bytes: where they end, and that what was encoded is read again.
 ghost use Rattle.std.specs.Prelude.{◌≡◌, ℕ, ◌+◌, List, ◌++◌, length, Option, Some};
 ghost use Rattle.byte_fields.specs.Codes.{IsCode, IsReadAt};
 ghost use Rattle.campaign.specs.declared.parts.FactParts.{FactParts};

@@ -1,3 +1,4 @@
+//! What an advertiser states, part by part and not yet checked, and why parts are no facts.
 ghost use Rattle.std.specs.Prelude.{◌≡◌};
 ghost use Rattle.campaign.specs.Kept.{size_of};
 

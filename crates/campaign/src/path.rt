@@ -1,3 +1,4 @@
+//! The path of a field of a campaign's body, as it is written in a refusal.
 ghost use Rattle.std.specs.Prelude.{◌≡◌, ◌++◌, ℕ, List, OnOk, OnErr, codes};
 ghost use Rattle.campaign.specs.Paths.{camp_path, member_name, predicate_path};
 ghost use Rattle.rtb_num.specs.Paths.{place};

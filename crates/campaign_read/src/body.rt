@@ -1,3 +1,4 @@
+//! A campaign read from its body, or the body's first fault.
 #![tactic(auto, using(json_fields::proofs::First::firsts), unfolding(crate::specs::Campaign::campaign_faults))]
 
 ghost use Rattle.std.specs.Prelude.{◌≡◌, ◌%◌, ◌++◌, map};

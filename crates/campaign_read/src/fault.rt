@@ -1,3 +1,4 @@
+//! Why a JSON text is no campaign.
 ghost use Rattle.campaign_read.specs.declared.fault.CampFault.TheVariants.{Memory};
 ghost use Rattle.std.specs.Prelude.{◌≡◌};
 

@@ -1,3 +1,4 @@
+//! The lists of a body: categories, attributes and deals.
 #![tactic(auto, using(json_fields::proofs::First::firsts_mapped), unfolding(crate::specs::Parts::list_faults, crate::specs::Parts::list_from))]
 
 ghost use Rattle.std.specs.Prelude.{◌≡◌};

@@ -1,3 +1,4 @@
+//! The fields of a body: texts, amounts, sides and flags.
 ghost use Rattle.std.specs.Prelude.{◌≡◌, ◌*◌, ◌++◌, List, false, None, option_map, IfOk};
 ghost use Rattle.exact_json.specs.Forms.{HasForms};
 ghost use Rattle.exact_json.specs.View.{tree_of};

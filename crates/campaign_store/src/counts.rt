@@ -1,3 +1,4 @@
+//! What the campaigns of a table count up to, and the limits that they keep together.
 ghost use Rattle.std.specs.Prelude.{◌≡◌};
 ghost use Rattle.campaign_store.specs.Counts.{AreOfOne, AreParts, AreWithin, counts_of, first_passed, minus, plus};
 

@@ -1,3 +1,5 @@
+//! The limits of a table, and that one would be passed.
+
 /// What an exchange holds no more of.
 #[derive(Clone, Copy)]
 pub enum Limit {

@@ -1,3 +1,4 @@
+//! A campaign of a table, and the live ones at one moment.
 use crate::record::SharedRecord;
 use rtb_num::List;
 

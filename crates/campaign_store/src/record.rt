@@ -1,3 +1,4 @@
+//! What an advertiser states and whom it wants to reach, and a record of it that is shared.
 ghost use Rattle.std.specs.Prelude.{◌≡◌, IfOk};
 ghost use Rattle.campaign_store.specs.Counts.{AreOfOne, counts_of};
 

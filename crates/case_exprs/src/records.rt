@@ -1,4 +1,4 @@
-// Records of campaigns of which cases say the expression alone.
+//! Records of campaigns of which cases say the expression alone.
 ghost use Rattle.std.specs.Prelude.{◌≡◌, ◌%◌, IfOk, IfSome};
 
 use crate::kept;

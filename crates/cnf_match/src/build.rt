@@ -1,3 +1,4 @@
+//! The index of expressions in conjunctive form, built.
 ghost use Rattle.std.specs.Prelude.{◌≡◌, ◌≤◌, ◌++◌, map, length, replicate, take, IfOk, IsTrue, OnOk};
 ghost use Rattle.std.specs.List.{list_all, list_any};
 ghost use Rattle.cnf_match.specs.Conjunctive.{are_kept_clauses, is_kept_clause};

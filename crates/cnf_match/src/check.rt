@@ -1,3 +1,4 @@
+//! The first fault of an expression in conjunctive form, in the order in which it is written.
 ghost use Rattle.std.specs.Prelude.{◌≡◌, ◌≤◌, ◌==◌, is_none, length, nat_lt};
 ghost use Rattle.std.specs.List.{list_any};
 ghost use Rattle.target_expr.specs.Attributes.{attr_named};

@@ -1,3 +1,4 @@
+//! A Boolean expression in conjunctive form.
 ghost use Rattle.std.specs.Prelude.{◌≡◌, IsTrue};
 ghost use Rattle.cnf_match.specs.Conjunctive.{are_kept_clauses, are_kept_weights};
 

@@ -1,3 +1,4 @@
+//! Why what is written is no expression in conjunctive form.
 ghost use Rattle.std.specs.Prelude.{◌≡◌};
 ghost use Rattle.cnf_match.specs.declared.fault.CnfFault.TheVariants.{Memory as memory};
 

@@ -1,3 +1,4 @@
+//! The true expressions of an assignment, by the lists of the index.
 ghost use Rattle.std.specs.Prelude.{◌≡◌, ◌≤◌, ◌+◌, [], ◌++◌, length, map, nat_lt, position, IfOk, OnOk};
 ghost use Rattle.std.specs.List.{cons_option, filter_map, flat_map, list_all, sum_by};
 ghost use Rattle.std.specs.Option.{option_copied};

@@ -1,3 +1,4 @@
+//! The lists of an index while it grows.
 ghost use Rattle.std.specs.Prelude.{◌≡◌, [], map, IfOk, OnOk};
 ghost use Rattle.std.specs.List.{IsDistinct, position_or_len};
 ghost use Rattle.cnf_match.specs.Growing.{with_item};

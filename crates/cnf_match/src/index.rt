@@ -1,3 +1,4 @@
+//! The index of expressions in conjunctive form: keys, entries and the zero list.
 use indexmap::IndexMap;
 use rtb_num::{List, Txt};
 use target_expr::Attr;

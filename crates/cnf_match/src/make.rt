@@ -1,3 +1,4 @@
+//! An expression in conjunctive form made of what is written, with everything in order and once.
 ghost use Rattle.std.specs.Prelude.{◌≡◌, [], ◌∷◌, ◌++◌, map, IfOk, IfErr, OnOk};
 ghost use Rattle.std.specs.List.{filter_map};
 ghost use Rattle.cnf_match.specs.Making.{IsFirstUnlessMemory, faults, keep, keep_clause, kept_pred, kept_weight};

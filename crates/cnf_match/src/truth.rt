@@ -1,3 +1,4 @@
+//! Whether an expression is true, what it scores, and its first false clause.
 ghost use Rattle.std.specs.Prelude.{◌≡◌, ◌≤◌, not, if◌then◌else◌, IsTrue};
 ghost use Rattle.std.specs.List.{list_all};
 ghost use Rattle.target_expr.specs.Kept.{is_kept_pred};

@@ -1,3 +1,4 @@
+//! What a value of an attribute weighs.
 use rtb_num::Txt;
 use target_expr::Attr;
 

@@ -1,3 +1,4 @@
+//! The commands that come in bodies: a bid request, and a campaign.
 ghost use Rattle.std.specs.Prelude.{◌≡◌};
 ghost use Rattle.command_read.specs.Commands.{IsOfBody, campaign_command, request_command};
 ghost use Rattle.command_read.specs.Memory.{UnlessMemory};

@@ -1,3 +1,4 @@
+//! Why a message is read as no command.
 ghost use Rattle.std.specs.Prelude.{◌≡◌};
 ghost use Rattle.command_read.specs.declared.fault.CommandFault.TheVariants.{Memory as memory};
 

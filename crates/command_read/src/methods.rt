@@ -1,3 +1,4 @@
+//! The methods that some path takes.
 ghost use Rattle.std.specs.Prelude.{◌≡◌};
 ghost use Rattle.command_read.specs.Methods.{method_of, takes};
 

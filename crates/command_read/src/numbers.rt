@@ -1,3 +1,4 @@
+//! The numbers in paths.
 ghost use Rattle.std.specs.Prelude.{◌≡◌, ◌-◌, ◌^◌, min};
 ghost use Rattle.std.specs.List.{list_all};
 ghost use Rattle.rtb_num.specs.Amounts.{is_digit, number_of};

@@ -1,3 +1,4 @@
+//! What a path stands for.
 ghost use Rattle.std.specs.Prelude.{◌≡◌};
 ghost use Rattle.std.specs.List.{prefix_len};
 ghost use Rattle.command_read.specs.Paths.{is_of_path, methods_of, number_behind, numbered_route, path_of, route_of};

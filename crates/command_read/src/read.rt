@@ -1,3 +1,4 @@
+//! A message read: its command, or the answer that refuses it.
 ghost use Rattle.command_read.specs.Commands.{IsCommandOf, IsOfPath, IsOfRoute};
 ghost use Rattle.command_read.specs.Memory.{IfRefused, UnlessMemory};
 ghost use Rattle.http_wire.specs.Answers.{IsWritable};

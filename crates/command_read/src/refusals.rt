@@ -1,3 +1,4 @@
+//! The answers that refuse a message, by status and body.
 ghost use Rattle.std.specs.Prelude.{◌≡◌, ◌≢◌, Err, IfOk, MatchResult, OnOk};
 ghost use Rattle.command_read.specs.Commands.{bad_body, not_allowed, not_found};
 ghost use Rattle.command_read.specs.declared.fault.CommandFault.TheVariants as fault;

@@ -1,4 +1,4 @@
-// The effects of an exchange, gathered into blocks.
+//! The effects of an exchange, gathered into blocks.
 ghost use Rattle.std.specs.Prelude.{◌≡◌, ◌++◌, ◌∷◌, [], Err, List, None, Ok, OnOk, Some, false, slice_get, true};
 ghost use Rattle.compaction.specs.Gathering.{Gathers, HaveUsers, Holds};
 ghost use Rattle.compaction.specs.declared.fault.WriteFault.TheVariants as write;

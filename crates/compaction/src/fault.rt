@@ -1,3 +1,4 @@
+//! Why a journal was not written anew.
 ghost use Rattle.std.specs.Prelude.{◌≡◌};
 ghost use Rattle.compaction.specs.declared.fault.WriteFault.TheVariants as write;
 

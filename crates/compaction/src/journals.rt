@@ -1,3 +1,4 @@
+//! A journal read whole, and written anew on another disk without its oldest sales.
 ghost use Rattle.std.specs.Prelude.{◌≡◌, ◌≢◌, ◌++◌, Err, IfOk, OnOk, true};
 ghost use Rattle.compaction.specs.Lines.{compact_line};
 ghost use Rattle.compaction.specs.Writing.{Compacts, Writes};

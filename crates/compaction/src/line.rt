@@ -1,3 +1,4 @@
+//! The line that tells what a compaction kept and forgot.
 ghost use Rattle.std.specs.Prelude.{◌≡◌, ◌++◌, OnOk};
 ghost use Rattle.compaction.specs.Lines.{compact_line, counts_line};
 

@@ -1,4 +1,4 @@
-// A file that an exchange is written to.
+//! A file that an exchange is written to.
 ghost use Rattle.std.specs.Prelude.{◌≡◌, ◌≢◌, ◌++◌, [], Err, OnOk, false, true};
 ghost use Rattle.compaction.specs.Gathering.{Fills, Holds, IsWritable, done_by};
 ghost use Rattle.compaction.specs.Lines.{compact_line};

@@ -1,3 +1,4 @@
+//! The index built: the campaigns' conjunctions by size, and under each pair its posting list.
 ghost use Rattle.std.specs.Prelude.{◌≡◌, ◌≤◌, ◌<◌, ◌+◌, ◌∷◌, [], ◌++◌, ◌^◌, ℕ, map, length, replicate, slice_get, Some, All, IfOk, OnOk};
 ghost use Rattle.postings.specs.Order.{IsRising};
 ghost use Rattle.target_expr.specs.Pairs.{pairs_of, sizes_of};

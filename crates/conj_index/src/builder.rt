@@ -1,3 +1,4 @@
+//! The campaigns that an index is to be built of.
 ghost use Rattle.std.specs.Prelude.{◌≡◌, ◌≤◌, ◌<◌, ◌+◌, [], ◌∷◌, ◌++◌, length, All, OnOk, OnErr};
 ghost use Rattle.conj_index.specs.Campaigns.{DoRise, conjunctions_in};
 

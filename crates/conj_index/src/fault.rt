@@ -1,3 +1,4 @@
+//! Why an index is not built.
 ghost use Rattle.std.specs.Prelude.{◌≡◌};
 ghost use Rattle.conj_index.specs.declared.fault.IndexFault.TheVariants.{Memory as memory};
 

@@ -1,3 +1,4 @@
+//! The campaigns that an assignment makes true, size by size.
 ghost use Rattle.std.specs.Prelude.{◌≡◌, ◌≤◌, ◌<◌, ◌+◌, ◌*◌, [], ◌++◌, ℕ, map, max, length, take, position, slice_get, IfOk, IsTrue, OnOk};
 ghost use Rattle.std.specs.List.{cons_option, enumerate_from, filter_map};
 ghost use Rattle.conj_match.specs.Bits.{AreSet};

@@ -1,3 +1,4 @@
+//! Posting lists while an index grows.
 ghost use Rattle.std.specs.Prelude.{◌≡◌, [], ℕ, map, All, IfOk, OnOk};
 ghost use Rattle.std.specs.List.{IsDistinct, position_or_len};
 ghost use Rattle.postings.specs.Order.{IsRising};

@@ -1,3 +1,4 @@
+//! An index of the conjunctions of campaigns' expressions (Whang et al., VLDB 2009).
 use crate::part::Part;
 use rtb_num::List;
 

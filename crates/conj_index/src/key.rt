@@ -1,3 +1,4 @@
+//! An attribute and a value that conjunctions name.
 use rtb_num::Txt;
 use target_expr::Attr;
 

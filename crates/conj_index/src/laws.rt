@@ -1,3 +1,4 @@
+//! The laws of the index: order, places, and what a find costs.
 ghost use Rattle.std.specs.Prelude.{ℕ, ◌≡◌, List};
 ghost use Rattle.postings.specs.Order.{IsRising};
 ghost use Rattle.conj_index.specs.declared.key.Key.{Key};

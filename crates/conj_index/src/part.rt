@@ -1,3 +1,4 @@
+//! The part of an index that has the conjunctions of one size.
 use crate::key::Key;
 use indexmap::IndexMap;
 use postings::Postings;

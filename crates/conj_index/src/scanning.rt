@@ -1,3 +1,4 @@
+//! The same answer by asking each campaign in turn.
 ghost use Rattle.std.specs.Prelude.{◌≡◌, ◌≤◌, ◌+◌, [], ◌∷◌, ◌++◌, if◌then◌else◌, IfOk, OnOk};
 ghost use Rattle.conj_index.specs.Campaigns.{conjunctions_in};
 ghost use Rattle.conj_index.specs.Find.{true_under};

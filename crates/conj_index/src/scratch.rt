@@ -1,3 +1,4 @@
+//! The room in which campaigns are found.
 use crate::key::Key;
 use conj_match::Tally;
 use std::alloc::Global;

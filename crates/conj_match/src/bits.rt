@@ -1,3 +1,4 @@
+//! Bits of numbers in words.
 ghost use Rattle.std.specs.Prelude.{◌≡◌, ◌≢◌, ◌≤◌, ◌<◌, ◌+◌, ◌*◌, ◌^◌, ◌==◌, ◌||◌, ℕ, true, List, length, OnOk};
 ghost use Rattle.std.specs.List.{list_any};
 ghost use Rattle.postings.specs.Packed.{is_marked};

@@ -1,3 +1,4 @@
+//! A place in a posting list, and how it moves on.
 ghost use Rattle.std.specs.Prelude.{◌≡◌, ◌≤◌, ◌<◌, ◌+◌, ◌-◌, ◌*◌, length, false, true, None, slice_get};
 ghost use Rattle.conj_match.specs.Place.{HasHead, IsFirstFrom, head_of, number_of, current};
 ghost use Rattle.conj_match.specs.Merge.{Passed, current_id, shows_negated, shows_plain};

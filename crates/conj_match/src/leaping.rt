@@ -1,3 +1,4 @@
+//! A skip in a posting list by leaps that double, and then by halves (Bentley and Yao 1976).
 ghost use Rattle.std.specs.Prelude.{◌≡◌, ◌≤◌, ◌<◌, ◌+◌, ◌-◌, ◌*◌, ◌^◌, ℕ, Some, length};
 ghost use Rattle.postings.specs.Order.{IsRising, entry_at};
 ghost use Rattle.conj_match.specs.Skip.{Reaches, is_short};

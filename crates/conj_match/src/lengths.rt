@@ -1,3 +1,4 @@
+//! How long the chosen lists are.
 ghost use Rattle.std.specs.Prelude.{◌≡◌, ◌≤◌, ◌<◌, ℕ, [], All, Contains, get_or, length, sum_by};
 ghost use Rattle.conj_match.specs.Matching.{digits, lists_at, longest, shortest};
 

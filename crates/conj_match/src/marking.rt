@@ -1,3 +1,4 @@
+//! The entries of lists marked by number, as a count of each.
 ghost use Rattle.std.specs.Prelude.{◌≡◌, ◌≤◌, ◌<◌, ◌+◌, ◌++◌, ◌∷◌, [], All, List, length, sum_by};
 ghost use Rattle.postings.specs.Order.{IsRising};
 ghost use Rattle.postings.specs.declared.entry.Entry.{Entry};

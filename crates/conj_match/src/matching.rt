@@ -1,3 +1,4 @@
+//! The conjunctions that the chosen lists match, by counting or by merging, as is cheaper.
 ghost use Rattle.std.specs.Prelude.{◌≡◌, ◌≤◌, ◌<◌, ◌+◌, ◌*◌, ◌^◌, ◌/◌, All, IfOk, length, max, nat_le, nat_lt, sum_by, ◌&&◌};
 ghost use Rattle.conj_match.specs.Matching.{IsAnswer, cost_of, lists_at, reading_cost};
 ghost use Rattle.conj_match.specs.Tally.{IsBelow};

@@ -1,3 +1,4 @@
+//! The conjunctions that match, by a cursor on each chosen list.
 ghost use Rattle.std.specs.Prelude.{◌≡◌, ◌≤◌, ◌<◌, ◌+◌, ◌-◌, ℕ, All, IfOk, if◌then◌else◌, count_by, length, map, min, sum_by, nat_le, not, true, ◌&&◌, ◌||◌};
 ghost use Rattle.std.specs.List.{list_any};
 ghost use Rattle.conj_match.specs.Matching.{IsAnswer, lists_at};

@@ -1,3 +1,4 @@
+//! Lists of which one is so short that the others are skipped through.
 ghost use Rattle.std.specs.Prelude.{◌≡◌, ◌≤◌, ◌<◌, ◌+◌, ◌*◌, ◌&&◌, All, IfOk, IfSome, None, length, not};
 ghost use Rattle.std.specs.List.{list_all};
 ghost use Rattle.conj_match.specs.Matching.{IsAnswer, cost_of, digits, lists_at, longest, reading_cost};

@@ -1,3 +1,4 @@
+//! The conjunctions whose marks reach the size, taken in rising order.
 ghost use Rattle.std.specs.Prelude.{◌≡◌, ◌≤◌, ◌<◌, ◌+◌, ◌*◌, ◌++◌, ◌∷◌, ◌==◌, ◌||◌, ◌&&◌, [], ℕ, All, List, if◌then◌else◌, length, slice_index, sum_by};
 ghost use Rattle.std.specs.Int.{bit_at};
 ghost use Rattle.postings.specs.declared.entry.Entry.{Entry};

@@ -1,3 +1,4 @@
+//! The conjunctions that a run of matches found, and the marks that count them.
 ghost use Rattle.std.specs.Prelude.{◌≡◌, ◌==◌, ◌≤◌, ◌<◌, ◌+◌, ◌*◌, [], ℕ, All, false, length, sum_by, OnOk};
 ghost use Rattle.postings.specs.Packed.{is_marked};
 ghost use Rattle.conj_match.specs.Bits.{AreSet, AreThose};

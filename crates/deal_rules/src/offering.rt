@@ -1,3 +1,4 @@
+//! The offers of a campaign for an impression, in the public pool and for deals, or why there is none.
 ghost use Rattle.std.specs.Prelude.{◌≡◌, ◌↔◌, ◌<◌, ◌++◌, ℕ, length, option_to_list, slice_get, IfOk, IsNone, IsTrue, OnOk, Some};
 ghost use Rattle.std.specs.List.{list_all, list_any};
 ghost use Rattle.clearing.specs.Clearing.{is_fit};

@@ -1,3 +1,4 @@
+//! The terms by which the pools of an impression sell.
 ghost use Rattle.std.specs.Prelude.{◌≡◌, ◌<◌, ◌++◌, length, map, option_and_then, slice_get, IfOk, OnOk, Some};
 ghost use Rattle.std.specs.Option.{option_copied};
 ghost use Rattle.deal_rules.specs.Terms.{deal_terms, kind_of, known_id, terms_at, terms_of, user_of};

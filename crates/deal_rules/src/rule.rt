@@ -1,3 +1,5 @@
+//! The rules that exclude a campaign, in the order in which they are asked.
+
 /// Why a campaign does not offer for an impression, in the order in which the rules are asked.
 ///
 /// Sections are of OpenRTB 2.5.

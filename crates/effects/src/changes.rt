@@ -1,3 +1,4 @@
+//! The bodies of effects read, tag by tag.
 ghost use Rattle.std.specs.Prelude.{◌≡◌, ◌≤◌, length, Some, IfOk};
 ghost use Rattle.byte_fields.specs.Codes.{IsReadAt};
 ghost use Rattle.campaign.specs.Kept.{with_cap};

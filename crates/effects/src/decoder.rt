@@ -1,3 +1,4 @@
+//! Effects read from bytes, one after another.
 ghost use Rattle.std.specs.Prelude.{◌≡◌, ◌≤◌, ◌==◌, ◌&&◌, not, length, All, IfOk, MatchResult};
 ghost use Rattle.std.specs.Option.{option_map};
 ghost use Rattle.byte_fields.specs.Codes.{IsReadAt};

@@ -1,3 +1,4 @@
+//! An effect as bytes.
 ghost use Rattle.std.specs.Prelude.{◌≡◌, ◌≤◌, ℕ, List, true, ◌++◌, OnOk, OnErr};
 ghost use Rattle.effects.specs.Bodies.{IsTagged};
 ghost use Rattle.byte_fields.specs.Encodings.{FitsFour, four_bytes, text_bytes};

@@ -1,3 +1,4 @@
+//! Why bytes are no effects.
 ghost use Rattle.std.specs.Prelude.{◌≡◌};
 ghost use Rattle.effects.specs.declared.fault.EffectFault.TheVariants.{Memory as memory};
 

@@ -1,3 +1,4 @@
+//! The fields of effects read: amounts, users, states and terms.
 ghost use Rattle.std.specs.Prelude.{◌≡◌, IfOk};
 ghost use Rattle.byte_fields.specs.Codes.{IsReadAt};
 ghost use Rattle.byte_fields.specs.Encodings.{FitsEight, FitsFour, IsOptionOf, eight_bytes, four_bytes, option_bytes, text_bytes};

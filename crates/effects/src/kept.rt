@@ -1,3 +1,4 @@
+//! The bodies of a compacted journal's effects read: campaigns and sales that were kept.
 ghost use Rattle.std.specs.Prelude.{◌≡◌, IfOk};
 ghost use Rattle.byte_fields.specs.Codes.{IsReadAt};
 ghost use Rattle.effects.specs.Bodies.{IsAimed, IsAimedGone, IsDated, IsLive, IsLiveCapped, IsStated, IsTagged, aimed_bytes, aimed_gone_bytes, dated_bytes, kept_from, live_bytes, live_capped_bytes, row_from, stated_bytes};

@@ -1,3 +1,4 @@
+//! The laws of effects as bytes: where each ends, and that what was encoded is read again.
 ghost use Rattle.std.specs.Prelude.{◌≡◌, All, List, MatchResult, Result};
 ghost use Rattle.byte_fields.specs.Codes.{IsCode};
 ghost use Rattle.effects.specs.Bytes.{IsDecoded, IsEncodable, effect_bytes, effects_bytes};

@@ -1,3 +1,4 @@
+//! The parts of effects written: records, caps, terms and rows.
 ghost use Rattle.std.specs.Prelude.{◌≡◌, ◌≤◌, ℕ, List, ◌++◌, OnOk, Some};
 ghost use Rattle.byte_fields.specs.Encodings.{IsOptionOf, option_bytes, text_bytes};
 ghost use Rattle.effects.specs.Bytes.{IsCap, IsGone, IsRecord, IsRow, IsUser, cap_bytes, gone_bytes, record_bytes, row_bytes, state_number, terms_bytes};

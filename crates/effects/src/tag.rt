@@ -1,3 +1,4 @@
+//! The tags that tell effects apart.
 ghost use Rattle.std.specs.Prelude.{◌≡◌, ◌++◌, OnOk, OnErr};
 ghost use Rattle.byte_fields.specs.Codes.{IsReadAt};
 ghost use Rattle.effects.specs.Bodies.{IsTag, tag_bytes};

@@ -1,3 +1,4 @@
+//! Characters of UTF-8 (RFC 3629), and runs of plain ones.
 ghost use Rattle.std.specs.Prelude.{◌≡◌, ◌<◌, ◌≤◌, ◌∷◌, false, ◌+◌, length, drop, option_map, IfOk};
 ghost use Rattle.exact_json.specs.Gives.{Leaves};
 ghost use Rattle.exact_json.specs.Reading.{before, char_at, one_at, ones_at, skip_plain, tails_of};

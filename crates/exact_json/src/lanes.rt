@@ -1,3 +1,4 @@
+//! How far a text is plain, 16 bytes at once.
 ghost use Rattle.std.specs.Prelude.{◌≡◌, ◌≤◌, ◌==◌, length, map, take, nat_lt, not, if◌then◌else◌};
 ghost use Rattle.std.specs.List.{prefix_len};
 ghost use Rattle.exact_json.specs.Strings.{is_plain};

@@ -1,3 +1,4 @@
+//! Values read: scalars, arrays and objects.
 ghost use Rattle.std.specs.Prelude.{◌≡◌, ◌≤◌, ◌++◌, ◌∷◌, length, map, take, drop, IfOk};
 ghost use Rattle.exact_json.specs.Gives.{Gives, Leaves, Reads};
 ghost use Rattle.exact_json.specs.Reading.{byte_then, end_of, entries_at, flat_at, is_space, mapped, member_at, more_at, quoted_at, skip, text_at, value_at, word_at, word_value_at};

@@ -1,3 +1,4 @@
+//! What a reading has found: the open arrays and objects on two stacks, the closed ones in the arena.
 ghost use Rattle.std.specs.Prelude.{◌≡◌, ◌≤◌, ◌+◌, ◌*◌, ◌++◌, ◌∷◌, [], length, take, drop, min, IfOk, OnOk};
 ghost use Rattle.exact_json.specs.Held.{held};
 

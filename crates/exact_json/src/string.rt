@@ -1,3 +1,4 @@
+//! Strings (RFC 8259, section 7), with their escapes.
 ghost use Rattle.std.specs.Prelude.{◌≡◌, ◌<◌, ◌≤◌, ◌+◌, ◌++◌, [], ◌∷◌, Some, List, ℕ, true, false, length, option_map, IfErr, IfOk, IfSome, OnOk};
 ghost use Rattle.exact_json.specs.Gives.{Fails, Gives, Leaves, Runs};
 ghost use Rattle.exact_json.specs.Escapes.{piece_view};

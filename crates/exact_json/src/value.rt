@@ -1,3 +1,4 @@
+//! A JSON value, and the last member of a name.
 ghost use Rattle.std.specs.Prelude.{◌≡◌, option_map, IfSome};
 ghost use Rattle.exact_json.specs.Forms.{HasForms};
 ghost use Rattle.exact_json.specs.Tree.{get as get_in, get_pair};

@@ -1,3 +1,4 @@
+//! A whole text read, or the place and the kind of its first fault; the laws of reading.
 ghost use Rattle.std.specs.Prelude.{◌≡◌, ◌≢◌, ◌<◌, ◌++◌, ◌∷◌, [], ℕ, List, length, Some, true, false, IfOk, IfErr, MatchResult};
 ghost use Rattle.exact_json.specs.Docs.{doc_tree};
 ghost use Rattle.exact_json.specs.Faults.{Explains};

@@ -1,4 +1,4 @@
-// What the exchange answers to a bid request.
+//! What the exchange answers to a bid request.
 ghost use Rattle.std.specs.Prelude.{◌≡◌, ◌≤◌, ◌<◌, ◌^◌, false, length, IfOk, IsSome, IsTrue};
 ghost use Rattle.auction_core.specs.Draft.{found_of, is_simple, is_valid_command};
 ghost use Rattle.exchange_run.specs.Exchange.{line_for, reply_at_opening, ttl};

@@ -1,3 +1,4 @@
+//! The one call that the program makes: the command that the words name, run to its end.
 ghost use Rattle.std.specs.Prelude.{◌≡◌, ◌⊎◌, ℕ, List, None, Some, true, false};
 ghost use Rattle.rtb_base.specs.Faults.{RisesOnlyWhere};
 ghost use Rattle.rtb_io.specs.Statuses.{code_of};

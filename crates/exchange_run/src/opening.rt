@@ -1,4 +1,4 @@
-// The exchange as it starts.
+//! The exchange as it starts.
 ghost use Rattle.std.specs.Prelude.{◌≡◌, ◌≤◌, ◌<◌, ◌+◌, ◌++◌, ◌^◌, ◌∷◌, [], codes, decimal, false, is_some, length, option_map, IfOk, IsSome, IsTrue, OnOk, Some};
 ghost use Rattle.plain_exchange.specs.Effects.{applied, edits_in};
 ghost use Rattle.plain_exchange.specs.State.{empty};

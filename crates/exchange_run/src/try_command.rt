@@ -1,3 +1,4 @@
+//! The command `try`: one bid request sold to the campaigns of the words.
 ghost use Rattle.std.specs.Prelude.{◌≡◌, ◌≢◌, ◌≤◌, ◌⊎◌, Err, None, length, IfErr, IfOk, IsSome, IsTrue, OnOk};
 ghost use Rattle.rtb_base.specs.Faults.{RisesOnlyWhere, Rose};
 ghost use Rattle.rtb_io.specs.Fronts.{TakesAtMost};

@@ -1,3 +1,4 @@
+//! The command `which`: the best expressions for an assignment.
 ghost use Rattle.std.specs.Prelude.{◌≡◌, ◌≢◌, IfErr, IfOk};
 ghost use Rattle.rtb_base.specs.Faults.{RisesOnlyWhere};
 ghost use Rattle.rtb_io.specs.Fronts.{TakesAtMost};

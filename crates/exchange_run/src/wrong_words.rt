@@ -1,3 +1,4 @@
+//! What is said of words that are of no command.
 ghost use Rattle.std.specs.Prelude.{◌≡◌, ◌<◌, ◌++◌, ℕ, List, None, Some, find, get_or, is_some, length, not, option_map, OnOk, OnErr, [], codes};
 ghost use Rattle.exchange_run.specs.Explain.{about_campaign, about_campaigns, about_options, about_word, all_examples, examples, explanation, further_example, further_wrong, what_is_wrong, wrong_campaign};
 ghost use Rattle.run_words.specs.CommandLines.{command_line};

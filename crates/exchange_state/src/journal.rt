@@ -1,4 +1,4 @@
-// The journal is taken out in one turn and put back in another.
+//! The journal is taken out in one turn and put back in another.
 ghost use Rattle.std.specs.Prelude.{◌≡◌, if◌then◌else◌};
 
 use crate::errand::{Errand, Taken};

@@ -1,4 +1,4 @@
-// Commands are carried out.
+//! Commands are carried out.
 ghost use Rattle.std.specs.Prelude.{◌≡◌, ◌≤◌, ◌<◌, ◌^◌, ℕ, false};
 ghost use Rattle.auction_core.specs.Draft.{IsDraftOf, IsReady};
 ghost use Rattle.effects.specs.Bytes.{is_kept};

@@ -1,4 +1,4 @@
-// A journal is opened.
+//! A journal is opened.
 ghost use Rattle.std.specs.Prelude.{◌≡◌, ◌≤◌, ◌+◌, IfErr, IfOk};
 ghost use Rattle.std.specs.Arc.{arc_value};
 ghost use Rattle.auction_core.specs.Core.{listed};

@@ -1,4 +1,4 @@
-// Versions of the index are made of snapshots and published.
+//! Versions of the index are made of snapshots and published.
 ghost use Rattle.std.specs.Prelude.{◌≡◌, ◌≤◌, IfOk};
 ghost use Rattle.std.specs.Arc.{arc_value};
 ghost use Rattle.campaign_store.specs.Table.{live_records};

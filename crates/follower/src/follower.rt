@@ -1,3 +1,4 @@
+//! The exchange that a journal gives, as far as it was read, and its reports.
 ghost use Rattle.std.specs.Prelude.{◌≡◌, Err};
 ghost use Rattle.std.specs.Option.{option_copied};
 

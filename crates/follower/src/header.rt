@@ -1,3 +1,4 @@
+//! The first bytes of a journal that another program writes.
 ghost use Rattle.std.specs.Prelude.{◌≡◌, List, ℕ, length, take, true, IfOk, OnErr};
 ghost use Rattle.follower.specs.Headers.{BeginsAs};
 ghost use Rattle.rtb_base.specs.Faults.{CountsErrors};

@@ -1,3 +1,4 @@
+//! The lock, its seats and its turns.
 ghost use Rattle.std.specs.Prelude.{◌≡◌, ◌+◌, ◌^◌, ◌<◌, true, false, [], ◌∷◌, ◌++◌, length, IfOk, IfErr};
 ghost use Rattle.hist_lock.specs.Views.{is_begun, first_seat, seat_with, Enters, SplitsOff, TakesIn, Complete};
 

@@ -1,3 +1,4 @@
+//! Messages of HTTP/1.1 read from the bytes of a link (RFC 9112).
 ghost use Rattle.std.specs.Prelude.{◌≡◌, ◌+◌, ◌<◌, ◌≤◌, ℕ, List, length, ◌++◌, slice_range, IfOk, Ok};
 ghost use Rattle.http_wire.specs.Wire.{Decides, IsLeast, Reads};
 ghost use Rattle.http_wire.specs.Words.{status_of, word_of};

@@ -1,3 +1,4 @@
+//! Why bytes are no message, and the answer to that.
 ghost use Rattle.std.specs.Prelude.{◌≡◌};
 ghost use Rattle.http_wire.specs.Words.{status_of, word_of};
 

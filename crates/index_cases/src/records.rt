@@ -1,4 +1,4 @@
-// Records of campaigns that cases name by their expression.
+//! Records of campaigns that cases name by their expression.
 use campaign_store::SharedRecord;
 use case_exprs::{least_record, make_expr};
 use std::alloc::{AllocError, Global};

@@ -1,3 +1,4 @@
+//! What an older version found, corrected by the edits since.
 ghost use Rattle.std.specs.Prelude.{◌≡◌, ◌<◌, ◌≤◌, ◌+◌, ◌∷◌, [], ◌++◌, ◌↔◌, ℕ, None, false, if◌then◌else◌, filter, length, nat_le, nat_lt, IfOk, IfSome, OnOk};
 ghost use Rattle.std.specs.List.{All};
 ghost use Rattle.std.specs.List.Sorted.{IsStrictlyIncreasing};

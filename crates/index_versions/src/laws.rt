@@ -1,3 +1,4 @@
+//! The laws of versions and of their correction.
 ghost use Rattle.std.specs.Prelude.{◌≡◌, ◌≤◌, ◌+◌, ◌∷◌, [], ◌++◌, ℕ, None, List, length};
 ghost use Rattle.campaign_store.specs.Limits.{passed_limit};
 ghost use Rattle.campaign_store.specs.Table.{entries_of, with_changed};

@@ -1,3 +1,4 @@
+//! The edits of late, each by the number of the campaign that it touched.
 ghost use Rattle.std.specs.Prelude.{◌≡◌, ◌<◌, ◌≤◌, ◌-◌, ◌∷◌, [], ◌++◌, ◌↔◌, None, IfSome, OnOk};
 ghost use Rattle.index_versions.specs.Recent.{newest, touched_after};
 

@@ -1,3 +1,4 @@
+//! The index of the campaigns that were live after so many edits.
 ghost use Rattle.std.specs.Prelude.{◌≡◌, ◌≤◌, ◌+◌, IfOk, length};
 ghost use Rattle.std.specs.Arc.{arc_value};
 ghost use Rattle.conj_index.specs.Campaigns.{DoRise, conjunctions_in};

@@ -1,3 +1,4 @@
+//! The block ahead of what was read, from a piece of the disk or past its end.
 ghost use Rattle.std.specs.Prelude.{◌≡◌, ◌+◌, ◌<◌, ◌^◌, ◌++◌, ℕ, List, length, drop, take, true, Err, IfOk, IfSome, MatchOption, OnErr};
 ghost use Rattle.rtb_base.specs.Faults.{RisesOnlyWhere};
 ghost use Rattle.journal_file.specs.Damage.{IsBlockAt};

@@ -1,3 +1,4 @@
+//! The block at one gate, read by itself.
 ghost use Rattle.std.specs.Prelude.{◌≡◌, ◌+◌, ◌<◌, ◌≤◌, ◌^◌, ◌++◌, ◌∷◌, ℕ, List, length, drop, true, false, None, Some, Ok, Err, IfOk, IfSome, MatchOption, OnErr};
 ghost use Rattle.rtb_base.specs.Faults.{CountsErrors, RisesOnlyWhere};
 ghost use Rattle.byte_fields.specs.Encodings.{eight_bytes};

@@ -1,3 +1,4 @@
+//! A block written, and its gate opened behind it.
 ghost use Rattle.std.specs.Prelude.{◌≡◌, [], ◌∷◌, ◌++◌, ◌+◌, ◌<◌, ◌≤◌, ◌^◌, List, ℕ, length, true, OnOk, OnErr};
 ghost use Rattle.rtb_base.specs.Faults.{CountsErrors};
 ghost use Rattle.rtb_disk.specs.Stores.{EachImage, Always};

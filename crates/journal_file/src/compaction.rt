@@ -1,3 +1,4 @@
+//! A journal file that is written whole, and is no journal until it is finished.
 ghost use Rattle.std.specs.Prelude.{◌≡◌, ◌⊎◌, ◌+◌, ◌<◌, ◌≤◌, ◌^◌, ◌∷◌, ◌++◌, [], ℕ, List, length, take, true, false, IfOk, MatchBool, MatchResult, OnErr, OnOk};
 ghost use Rattle.rtb_base.specs.Faults.{CountsErrors};
 ghost use Rattle.rtb_disk.specs.Stores.{Always, EachImage, Fails, changed, cut, settled};

@@ -1,3 +1,4 @@
+//! A journal created on an empty disk.
 ghost use Rattle.std.specs.Prelude.{◌≡◌, ◌<◌, ◌≤◌, [], ◌∷◌, length, true, OnOk};
 ghost use Rattle.rtb_base.specs.Faults.{CountsErrors};
 ghost use Rattle.rtb_disk.specs.Stores.{Always, EachImage};

@@ -1,3 +1,4 @@
+//! Why a journal was not read, written or created.
 ghost use Rattle.std.specs.Prelude.{◌≡◌};
 ghost use Rattle.journal_file.specs.declared.faults.JournalFault.TheVariants as fault;
 

@@ -1,3 +1,4 @@
+//! A torn creation finished.
 ghost use Rattle.std.specs.Prelude.{◌≡◌, [], ◌∷◌, length, true, false, IfOk, MatchResult};
 ghost use Rattle.rtb_base.specs.Faults.{Rose};
 ghost use Rattle.rtb_disk.specs.Stores.{Always, EachImage};

@@ -1,3 +1,4 @@
+//! A journal to which blocks are added, and its repair behind a write that failed.
 ghost use Rattle.std.specs.Prelude.{◌≡◌, ◌≤◌, ◌<◌, ◌^◌, length, true};
 
 use crate::blocks::{open_gate, write_block};

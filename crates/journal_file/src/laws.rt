@@ -1,3 +1,4 @@
+//! The law that an image of a journal stands for one list of blocks.
 ghost use Rattle.std.specs.Prelude.{◌≡◌, ◌<◌, ◌^◌, ℕ, List, length};
 ghost use Rattle.journal_file.specs.Blocks.{StandsFor};
 

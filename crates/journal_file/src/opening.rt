@@ -1,3 +1,4 @@
+//! What the first bytes of a disk say: no journal yet, a torn creation, a journal, or another file.
 ghost use Rattle.std.specs.Prelude.{◌≡◌, ◌⊎◌, ◌<◌, ◌^◌, List, ℕ, length, take, true, IfOk, OnOk, OnErr};
 ghost use Rattle.rtb_base.specs.Faults.{CountsErrors};
 ghost use Rattle.rtb_disk.specs.Stores.{settled};

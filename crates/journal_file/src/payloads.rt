@@ -1,3 +1,4 @@
+//! The payload of a block, read from the disk.
 ghost use Rattle.std.specs.Prelude.{◌≡◌, ◌≢◌, ◌+◌, ◌<◌, ◌≤◌, ◌^◌, ◌++◌, ℕ, List, length, drop, take, true, false, Ok, Err};
 ghost use Rattle.rtb_base.specs.Faults.{Rose};
 ghost use Rattle.journal_file.specs.declared.payloads.ReadFault.TheVariants.{Failed as failed, Memory as memory};

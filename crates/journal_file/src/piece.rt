@@ -1,3 +1,4 @@
+//! A piece of the disk, and the blocks in it.
 ghost use Rattle.std.specs.Prelude.{◌≡◌, ◌+◌, ◌<◌, ◌≤◌, ◌^◌, ◌++◌, ℕ, List, None, Ok, Some, IfOk, IfSome, OnErr, length, drop, take, true};
 ghost use Rattle.rtb_base.specs.Faults.{CountsErrors};
 ghost use Rattle.journal_file.specs.Damage.{HasBlock, IsBlockAt};

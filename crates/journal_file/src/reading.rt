@@ -1,3 +1,4 @@
+//! A journal read block by block, in pieces of the disk.
 ghost use Rattle.std.specs.Prelude.{◌≡◌, ◌<◌, ◌^◌, length, take, true};
 ghost use Rattle.journal_file.specs.Gates.{has_gate};
 ghost use Rattle.journal_file.specs.Pieces.{BeginsFrom};

@@ -1,3 +1,4 @@
+//! A write with the sync behind it.
 ghost use Rattle.std.specs.Prelude.{◌≡◌, ◌+◌, ◌<◌, ◌≤◌, ◌^◌, length, true, OnOk, OnErr};
 ghost use Rattle.rtb_base.specs.Faults.{CountsErrors};
 ghost use Rattle.rtb_disk.specs.Stores.{Fails, changed, overwritten, settled, write};

@@ -1,3 +1,4 @@
+//! Members of an object written, a call each.
 #![tactic(auto, using(crate::proofs::Objects::name_next))]
 
 ghost use Rattle.std.specs.Prelude.{◌≡◌, ◌∷◌, [], decimal, map, IsTrue, IfOk, OnOk};

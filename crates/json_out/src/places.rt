@@ -1,3 +1,4 @@
+//! Which arrays and objects are open, and what stands in each.
 ghost use Rattle.std.specs.Prelude.{◌≡◌, ◌∷◌, [], drop, IsTrue, OnOk, OnErr};
 ghost use Rattle.std.specs.List.{slice_get};
 ghost use Rattle.json_out.specs.Writer.{beginning, ending, fill as fill_in, is_open, name_in, separator, wants_name, wants_value};

@@ -1,3 +1,4 @@
+//! A JSON text that is being written.
 ghost use Rattle.std.specs.Prelude.{◌≡◌, ◌++◌, ◌∷◌, [], ℕ, List, length, take, decimal, false, IsTrue, IfOk, OnOk, OnErr};
 ghost use Rattle.std.specs.Fmt.{signed_decimal};
 ghost use Rattle.rtb_num.specs.Amounts.{micros_text, nanos_text};

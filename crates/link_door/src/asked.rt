@@ -1,3 +1,4 @@
+//! What a world was asked for.
 ghost use Rattle.std.specs.Prelude.{◌≡◌, ◌++◌, ◌∷◌, [], OnErr, OnOk};
 ghost use Rattle.link_door.specs.declared.asked.Asked.TheVariants as asked_for;
 

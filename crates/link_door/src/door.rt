@@ -1,3 +1,4 @@
+//! A door, through which links come, and which tells the time.
 ghost use Rattle.std.specs.Prelude.{◌≡◌, ℕ, Option, Some, IfSome, slice_get};
 ghost use Rattle.std.specs.Option.{option_map};
 ghost use Rattle.rtb_base.specs.Faults.{CountsErrors};

@@ -1,3 +1,4 @@
+//! A door in memory, whose calls fail as they are told to.
 ghost use Rattle.std.specs.Prelude.{◌≡◌, ◌≢◌, ◌+◌, Some, [], length, reverse, IfOk, slice_get};
 ghost use Rattle.std.specs.Option.{option_to_list};
 ghost use Rattle.std.specs.Result.{is_err};

@@ -1,3 +1,4 @@
+//! A link in memory, whose calls fail as they are told to.
 ghost use Rattle.std.specs.Prelude.{◌≡◌, ◌≤◌, ◌+◌, ◌<◌, length, take, drop, min, Some, [], IfOk, OnOk, false};
 ghost use Rattle.std.specs.Result.{is_err};
 ghost use Rattle.std.specs.Io.{ReadsAtMost, WritesAtMost};

@@ -1,3 +1,4 @@
+//! A world in memory, whose calls fail as they are told to.
 ghost use Rattle.std.specs.Prelude.{◌≡◌, true, false, ◌∷◌, [], Some, Err, length, take, drop, ◌<◌, ◌≤◌, IfErr, IfOk, OnOk, OnErr, MatchResult};
 ghost use Rattle.rtb_base.specs.Calls.{no_calls, one_call_later};
 ghost use Rattle.std.specs.Result.{is_err};

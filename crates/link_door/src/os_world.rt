@@ -1,3 +1,4 @@
+//! The network, the files and the clock of the system.
 ghost use Rattle.std.specs.Prelude.{◌≡◌, ◌≤◌, [], None, length, IfOk};
 ghost use Rattle.rtb_base.specs.Faults.{one_more};
 

@@ -1,3 +1,5 @@
+//! What is done between a find and the settling that follows it.
+
 /// What is done between a find and the settling that follows it. No contract sees an effect of it.
 pub trait Pause {
     /// The worker with this number has found, and is about to settle.

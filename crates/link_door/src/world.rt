@@ -1,3 +1,4 @@
+//! The outside of a program: where its doors and disks come from.
 ghost use Rattle.std.specs.Prelude.{◌≡◌, ℕ, ◌∷◌, [], Err, length, List, Option, IfOk, MatchResult};
 ghost use Rattle.rtb_base.specs.Faults.{CountsErrors, RisesOnlyWhere, RoseAtMost};
 ghost use Rattle.link_door.specs.Worlds.{Asks, HandsOut};

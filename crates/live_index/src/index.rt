@@ -1,4 +1,4 @@
-// The index of a table's live campaigns.
+//! The index of a table's live campaigns.
 ghost use Rattle.std.specs.Prelude.{◌≡◌, ◌≤◌, ◌<◌, ◌+◌, ◌++◌, [], ◌∷◌, All, IfOk, OnOk, Some, length};
 ghost use Rattle.campaign_store.specs.Table.{campaign_at};
 ghost use Rattle.campaign_store.specs.declared.listed.Listed.{Listed as AListed};

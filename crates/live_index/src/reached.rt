@@ -1,4 +1,4 @@
-// Which campaigns the impressions of an auction reach.
+//! Which campaigns the impressions of an auction reach.
 ghost use Rattle.std.specs.Prelude.{◌≡◌, ◌≤◌, ◌<◌, ◌+◌, IfOk, Some, length, map, slice_get, sum_by};
 ghost use Rattle.auction_core.specs.Core.{listed};
 ghost use Rattle.auction_core.specs.Draft.{found_for, found_of};

@@ -1,4 +1,4 @@
-// The body of a campaign.
+//! The body of a campaign.
 ghost use Rattle.std.specs.Prelude.{◌≡◌, ◌++◌, List, OnOk, IfOk, Option, ℕ};
 ghost use Rattle.loadgen.specs.Texts.{campaign_text, refusal_of, refused_system};
 

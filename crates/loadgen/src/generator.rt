@@ -1,4 +1,4 @@
-// The numbers that are drawn.
+//! The numbers that are drawn.
 ghost use Rattle.std.specs.Prelude.{◌≡◌, ◌<◌, ◌*◌, ◌/◌, ◌%◌, ◌^◌, OnOk, IfOk};
 ghost use Rattle.loadgen.specs.Draws.{behind_campaign, behind_request, campaign_draws, drawn, next, request_draws};
 ghost use Rattle.loadgen.specs.Texts.{campaign_text, request_text};

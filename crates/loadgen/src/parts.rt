@@ -1,4 +1,4 @@
-// What the bodies are made of: a number between two texts, and a price behind one.
+//! What the bodies are made of: a number between two texts, and a price behind one.
 ghost use Rattle.std.specs.Prelude.{◌≡◌, ◌++◌, List, OnOk};
 ghost use Rattle.loadgen.specs.Texts.{numbered, priced};
 

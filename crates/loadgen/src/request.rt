@@ -1,4 +1,4 @@
-// The body of a bid request.
+//! The body of a bid request.
 ghost use Rattle.std.specs.Prelude.{◌≡◌, ◌++◌, List, OnOk, IfOk, Option, ℕ};
 ghost use Rattle.loadgen.specs.Texts.{request_text, system_of, told_system};
 

@@ -1,3 +1,4 @@
+//! The run of a start, with its trace and its counts.
 ghost use Rattle.std.specs.Prelude.{◌≡◌, ◌++◌, IfOk, OnOk};
 ghost use Rattle.made_run.specs.Runs.{IsMade, counts_line, numbered, reserved_text};
 

@@ -1,13 +1,13 @@
-// What a book is asked.
-//
-// - `report CAMPAIGN`: `RESERVED SPENT HELD BILLED LOST EXPIRED`.
-// - `gone CAMPAIGN`: `SPENT BILLED LOST EXPIRED`.
-// - `free CAMPAIGN`, `free_at CAMPAIGN MOMENT`.
-// - `due MOMENT`: how many would expire.
-// - `state SALE MOMENT`: the state that it would have then, or `none`.
-// - `shown CAMPAIGN SECONDS MOMENT USER`.
-// - `sale SALE`: `CAMPAIGN PRICE MOMENT DUE STATE [USER]`, or `none`.
-// - `sales`, `forgotten`: how many there are in the list, and how many are no more.
+//! What a book is asked.
+//!
+//! - `report CAMPAIGN`: `RESERVED SPENT HELD BILLED LOST EXPIRED`.
+//! - `gone CAMPAIGN`: `SPENT BILLED LOST EXPIRED`.
+//! - `free CAMPAIGN`, `free_at CAMPAIGN MOMENT`.
+//! - `due MOMENT`: how many would expire.
+//! - `state SALE MOMENT`: the state that it would have then, or `none`.
+//! - `shown CAMPAIGN SECONDS MOMENT USER`.
+//! - `sale SALE`: `CAMPAIGN PRICE MOMENT DUE STATE [USER]`, or `none`.
+//! - `sales`, `forgotten`: how many there are in the list, and how many are no more.
 
 use crate::book::Shop;
 use crate::words::{campaign_at, number_at, put_numbers, word_at};

@@ -1,16 +1,16 @@
-// Commands of a book. Amounts are nano-dollars, moments milliseconds.
-//
-// - `add BUDGET`: a campaign; says its number.
-// - `keep BUDGET SPENT BILLED LOST EXPIRED`: a campaign of whose sales that much is gone.
-// - `sell CAMPAIGN PRICE MOMENT DUE [USER]`: says the sale's number, or `no` where the campaign is not there or
-//   cannot pay.
-// - `had CAMPAIGN PRICE MOMENT DUE STATE [USER]`: a sale in that state; says the same.
-// - `bill SALE`, `lose SALE`: says `ok`, or why not.
-// - `sweep MOMENT`: says how many expired.
-// - `forget KEEP`: says how many are forgotten in all.
-// - `set CAMPAIGN BUDGET`: says `ok`, or `below` and what is committed.
-//
-// `ask.rt` has the questions.
+//! Commands of a book. Amounts are nano-dollars, moments milliseconds.
+//!
+//! - `add BUDGET`: a campaign; says its number.
+//! - `keep BUDGET SPENT BILLED LOST EXPIRED`: a campaign of whose sales that much is gone.
+//! - `sell CAMPAIGN PRICE MOMENT DUE [USER]`: says the sale's number, or `no` where the campaign is not there or
+//!   cannot pay.
+//! - `had CAMPAIGN PRICE MOMENT DUE STATE [USER]`: a sale in that state; says the same.
+//! - `bill SALE`, `lose SALE`: says `ok`, or why not.
+//! - `sweep MOMENT`: says how many expired.
+//! - `forget KEEP`: says how many are forgotten in all.
+//! - `set CAMPAIGN BUDGET`: says `ok`, or `below` and what is committed.
+//!
+//! `ask.rt` has the questions.
 ghost use Rattle.std.specs.Prelude.{◌≡◌, ◌≤◌, ◌<◌, ◌+◌, ◌-◌, ◌^◌, IfOk, IfSome, IsTrue, get_or, length};
 ghost use Rattle.budget_book.specs.Book.{Funds, forgotten_of};
 ghost use Rattle.budget_book.specs.Sales.{committed_of, gone_count};

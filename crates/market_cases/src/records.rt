@@ -1,4 +1,4 @@
-// Records of campaigns that cases name by what they hold.
+//! Records of campaigns that cases name by what they hold.
 use campaign_store::SharedRecord;
 use case_exprs::least_record;
 use case_lines::kept;

@@ -1,14 +1,14 @@
-// Commands of a table. A record is written `CONJUNCTIONS VALUES BYTES`: so many conjunctions, each with so many
-// values of so many bytes; its facts have four bytes of text.
-//
-// - `add TIMES CONJUNCTIONS VALUES BYTES`: campaigns with one record; says how many were added, and then which
-//   limit stood in the way, if one did.
-// - `change CAMPAIGN CONJUNCTIONS VALUES BYTES`: says `ok`, or which limit stood in the way.
-// - `pause CAMPAIGN`, `resume CAMPAIGN`: says `ok`, or `no` where it is not live, or not paused.
-// - `live CAMPAIGN`: `live`, `paused` or `none`.
-// - `holds CAMPAIGN`: `CONJUNCTIONS VALUES` of its record, or `none`.
-// - `count`, `edits`.
-// - `snapshot`: the edit, and the numbers of the live campaigns.
+//! Commands of a table. A record is written `CONJUNCTIONS VALUES BYTES`: so many conjunctions, each with so many
+//! values of so many bytes; its facts have four bytes of text.
+//!
+//! - `add TIMES CONJUNCTIONS VALUES BYTES`: campaigns with one record; says how many were added, and then which
+//!   limit stood in the way, if one did.
+//! - `change CAMPAIGN CONJUNCTIONS VALUES BYTES`: says `ok`, or which limit stood in the way.
+//! - `pause CAMPAIGN`, `resume CAMPAIGN`: says `ok`, or `no` where it is not live, or not paused.
+//! - `live CAMPAIGN`: `live`, `paused` or `none`.
+//! - `holds CAMPAIGN`: `CONJUNCTIONS VALUES` of its record, or `none`.
+//! - `count`, `edits`.
+//! - `snapshot`: the edit, and the numbers of the live campaigns.
 ghost use Rattle.std.specs.Prelude.{◌≡◌, ◌≤◌, ◌<◌, ◌^◌, IsTrue, None, OnOk, Option, Some, length};
 ghost use Rattle.campaign_store.specs.Limits.{passed_limit};
 ghost use Rattle.campaign_store.specs.Table.{entries_with};

@@ -1,4 +1,4 @@
-// The words of a command, and what answers are made of.
+//! The words of a command, and what answers are made of.
 
 use case_lines::number_in;
 use rtb_num::{Txt, write_decimal};

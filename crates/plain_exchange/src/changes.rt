@@ -1,3 +1,4 @@
+//! What commands change: effects and their parts.
 ghost use Rattle.std.specs.Prelude.{◌≡◌, ◌≤◌};
 ghost use Rattle.plain_exchange.specs.Effects.{edits_in, edits_of_kept};
 

@@ -1,3 +1,4 @@
+//! What is asked of an exchange, and what it replies.
 use budget_book::Totals;
 use campaign::Facts;
 use campaign_store::{Limit, SharedRecord};

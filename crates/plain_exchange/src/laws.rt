@@ -1,3 +1,4 @@
+//! The laws of the exchange of one thread.
 ghost use Rattle.std.specs.Prelude.{◌≡◌, ◌↔◌, ℕ, ◌<◌, ◌≤◌, List, ◌++◌, Option, Some, None, is_none, is_some, slice_get, IsTrue};
 ghost use Rattle.budget_book.specs.declared.sales.SaleState.TheVariants.{Held};
 ghost use Rattle.budget_book.specs.Sales.{forgettable};

@@ -1,3 +1,5 @@
+//! An entry of a posting list.
+
 /// An entry of a posting list: a conjunction, and whether it excludes the value of the list.
 ///
 /// Entries stand by number, and of one number the negated one stands first.

@@ -1,3 +1,4 @@
+//! Why a list of entries is no posting list.
 ghost use Rattle.std.specs.Prelude.{◌≡◌};
 ghost use Rattle.postings.specs.declared.fault.BuildFault.TheVariants.{Memory as memory};
 

@@ -1,3 +1,4 @@
+//! The numbers and the marks of entries, packed.
 ghost use Rattle.std.specs.Prelude.{◌≡◌, ◌≢◌, ◌≤◌, ◌<◌, ◌*◌, ◌/◌, ℕ, false, map, length, IfOk};
 ghost use Rattle.postings.specs.Packed.{AreMarked, id_of, is_marked};
 

@@ -1,3 +1,4 @@
+//! A block of a journal carried out, effect by effect.
 ghost use Rattle.std.specs.Prelude.{◌≡◌, ◌≤◌, ◌+◌, ◌^◌, Err, IfOk, None, OnOk, Some};
 ghost use Rattle.plain_exchange.specs.Effects.{all_applied, applied, edits, edits_in};
 ghost use Rattle.recovery.specs.Openings.{IsLed};

@@ -1,3 +1,4 @@
+//! The counts that are told of an exchange.
 ghost use Rattle.std.specs.Prelude.{◌≡◌, ◌+◌, ◌++◌, ◌-◌, ◌<◌, ◌≤◌, ◌^◌, List, OnErr, OnOk, Some, decimal, if◌then◌else◌, length, min, slice_get, ℕ};
 ghost use Rattle.budget_book.specs.Sales.{totals_of};
 ghost use Rattle.plain_exchange.specs.Consistent.{IsConsistent};

@@ -1,3 +1,4 @@
+//! A journal opened to go on with.
 ghost use Rattle.std.specs.Prelude.{◌≡◌, ◌≢◌, ◌⊎◌, Err, IfErr, IfOk, List, MatchResult, false, true};
 ghost use Rattle.journal_file.specs.Readings.{HasNotFailed, faults_read, reads_of, store_read};
 ghost use Rattle.journal_file.specs.Standing.{faults_of, is_broken, store_of};

@@ -1,3 +1,4 @@
+//! The law that an image gives one state or is damaged at one place.
 ghost use Rattle.std.specs.Prelude.{◌≡◌, ◌<◌, ◌^◌, ℕ, List, length};
 ghost use Rattle.plain_exchange.specs.State.{State};
 ghost use Rattle.recovery.specs.Damage.{IsDamagedAt};

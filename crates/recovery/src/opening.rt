@@ -1,3 +1,4 @@
+//! The exchange that a journal gives, block by block.
 ghost use Rattle.std.specs.Prelude.{◌≡◌, Err, IfOk, MatchResult, Ok, OnOk, false, true};
 ghost use Rattle.journal_file.specs.Readings.{HasNotFailed, faults_read, has_ended, reads_of, store_read};
 ghost use Rattle.recovery.specs.Openings.{IsAtEnd, IsAtStart, IsLed, IsMadeBy, Opens};

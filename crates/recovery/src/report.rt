@@ -1,3 +1,4 @@
+//! What a journal says, told without a write.
 ghost use Rattle.std.specs.Prelude.{◌≡◌, Err, OnErr, true};
 ghost use Rattle.journal_file.specs.Readings.{HasNotFailed, disk_read, faults_read, reads_of, store_read};
 ghost use Rattle.recovery.specs.Openings.{IsAtStart, IsUnwritten, Recovers};

@@ -1,3 +1,4 @@
+//! The text of a refusal, from its word and its members.
 ghost use Rattle.std.specs.Prelude.{◌≡◌, ◌∷◌, [], codes, decimal, IsTrue, IfOk};
 ghost use Rattle.json_out.specs.Inside.{in_object};
 ghost use Rattle.json_out.specs.Strings.{string_text};

@@ -1,3 +1,4 @@
+//! The texts of the faults of bodies, with their places.
 ghost use Rattle.std.specs.Prelude.{◌≡◌, IfOk};
 ghost use Rattle.campaign.specs.Paths.{camp_path};
 ghost use Rattle.refusal_text.specs.Refusals.{campaign_fault_text, fact_fault_text, field_text, json_fault_text, price_text, price_word as word_of_price, request_fault_text, target_fault_text, target_text};

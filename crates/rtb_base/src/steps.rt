@@ -1,3 +1,4 @@
+//! The counter of steps that bounds on cost are stated with.
 ghost use Rattle.std.specs.Prelude.{◌≡◌, ◌+◌, ◌<◌};
 
 use std::marker::Model;

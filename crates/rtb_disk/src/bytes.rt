@@ -1,3 +1,4 @@
+//! The bytes of a disk in memory, written, cut and made again.
 ghost use Rattle.std.specs.Prelude.{◌≡◌, take, IfOk, OnOk, OnErr};
 ghost use Rattle.rtb_disk.specs.Record.{all_done, done, part, written};
 ghost use Rattle.rtb_disk.specs.Crashes.{by_bit, next_pick, with_picked};

@@ -1,3 +1,4 @@
+//! The calls that were made of a disk in memory.
 use rtb_num::Txt;
 
 /// A call of a disk.

@@ -1,3 +1,4 @@
+//! What keeps bytes through a crash.
 ghost use Rattle.std.specs.Prelude.{◌≡◌, ◌+◌, ◌<◌, ◌≤◌, ◌^◌, ℕ, length, drop, take, min, true, IfOk, OnOk, OnErr};
 ghost use Rattle.rtb_base.specs.Faults.{CountsErrors};
 ghost use Rattle.rtb_disk.specs.Stores.{Store, IsImage, write, cut, overwritten, changed, settled, Fails};

@@ -1,3 +1,4 @@
+//! A disk in a file of the system.
 ghost use Rattle.std.specs.Prelude.{◌≡◌, ◌≤◌, length, IfOk, IfSome};
 ghost use Rattle.rtb_base.specs.Faults.{CountsErrors, one_more};
 ghost use Rattle.rtb_disk.specs.Stores.{untold};

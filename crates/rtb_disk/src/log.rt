@@ -1,3 +1,4 @@
+//! The log of a disk in memory, and what a crash may leave of it.
 ghost use Rattle.std.specs.Prelude.{◌≡◌, ◌≤◌, ℕ, List, length, take, drop, OnOk, OnErr};
 ghost use Rattle.rtb_disk.specs.Stores.{fresh};
 ghost use Rattle.rtb_disk.specs.Record.{all_done, content_now, done, replay};

@@ -1,3 +1,4 @@
+//! A disk in memory, whose calls fail as they are told to, and which crashes.
 ghost use Rattle.std.specs.Prelude.{◌≡◌, ◌+◌, ◌<◌, ◌≤◌, ◌^◌, ◌⊎◌, [], length, drop, take, min, true, false, None, IfOk, OnOk, OnErr};
 ghost use Rattle.rtb_base.specs.Calls.{no_calls};
 ghost use Rattle.rtb_base.specs.Faults.{CountsErrors};

@@ -1,3 +1,4 @@
+//! How a program ended.
 ghost use Rattle.std.specs.Prelude.{◌≡◌};
 ghost use Rattle.rtb_io.specs.Statuses.{code_of};
 

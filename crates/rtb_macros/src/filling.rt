@@ -1,3 +1,4 @@
+//! Markup with the values of one sale in place of its macros.
 ghost use Rattle.std.specs.Prelude.{◌≡◌, ◌<◌, ◌≤◌, ◌++◌, length, take, drop, None, IfOk};
 ghost use Rattle.std.specs.List.{prefix_len};
 ghost use Rattle.rtb_macros.specs.Macros.{filled_in, is_plain, macro_at, value_of};

@@ -1,3 +1,4 @@
+//! The macros that the exchange fills in.
 ghost use Rattle.std.specs.Prelude.{◌≡◌, option_map, find};
 ghost use Rattle.rtb_macros.specs.Macros.{all_macros, begins_with, macro_at, name_of};
 

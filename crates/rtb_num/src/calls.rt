@@ -1,3 +1,4 @@
+//! The calls of an object in memory, counted, and which of them fail.
 ghost use Rattle.std.specs.Prelude.{◌≡◌, ◌≤◌, false};
 ghost use Rattle.rtb_base.specs.Calls.{next_fails, no_calls, one_call_later};
 ghost use Rattle.rtb_base.specs.Faults.{one_more};

@@ -1,3 +1,4 @@
+//! Numbers in four and in eight bytes.
 ghost use Rattle.std.specs.Prelude.{◌≡◌, ℕ, List, ◌<◌, ◌^◌, ◌++◌, length, Some, OnOk, OnErr};
 ghost use Rattle.std.specs.Int.{w32, w64, to_be_bytes};
 ghost use Rattle.rtb_num.specs.Fields.{u32_at, u64_at};

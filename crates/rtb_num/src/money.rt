@@ -1,3 +1,4 @@
+//! Prices in micro-dollars and amounts in nano-dollars.
 ghost use Rattle.std.specs.Prelude.{◌≡◌, ◌≤◌, ◌↔◌, ◌^◌, IsSome, IfSome};
 
 use std::marker::Model;

@@ -1,3 +1,4 @@
+//! The form of numbers in decimal text (RFC 8259, section 6).
 ghost use Rattle.std.specs.Prelude.{◌≡◌, ◌+◌, ◌==◌, ◌&&◌, not, length, position};
 ghost use Rattle.std.specs.List.{before_first, after_first, list_all};
 ghost use Rattle.rtb_num.specs.Amounts.{is_decimal as is_decimal_text, is_whole_part as is_whole_text, is_digit as is_digit_code, is_point};

@@ -1,3 +1,4 @@
+//! The parts of a number in decimal text, and its value at a scale.
 ghost use Rattle.std.specs.Prelude.{◌≡◌, ◌+◌, ◌-◌, ◌*◌, ◌/◌, ◌%◌, ◌^◌, ◌≤◌, ◌++◌, ◌==◌, ◌&&◌, ◌||◌, nat_lt, not, min, length, IsTrue};
 ghost use Rattle.std.specs.List.{list_all};
 ghost use Rattle.rtb_num.specs.Amounts.{is_digit as is_digit_code, number_of};

@@ -1,3 +1,4 @@
+//! What was made first, with what is made behind it.
 ghost use Rattle.std.specs.Prelude.{◌≡◌, Err, IfErr, IfOk};
 
 use std::alloc::AllocError;

@@ -1,3 +1,4 @@
+//! Names and places in lists, as paths are written.
 ghost use Rattle.std.specs.Prelude.{◌≡◌, ◌++◌, ◌∷◌, ℕ, List, OnOk};
 ghost use Rattle.rtb_num.specs.Paths.{place};
 

@@ -1,3 +1,4 @@
+//! Amounts of money read from decimal text.
 ghost use Rattle.std.specs.Prelude.{◌≡◌, ◌≢◌, ℕ, ℤ, pos, negsuc, ◌+◌, ◌-◌, ◌*◌, ◌^◌, ◌<◌, ◌≤◌, ◌≤ℤ◌, ◌↔◌, ◌⊎◌, IfOk, IfSome, IsErrOf, IsTrue, true, false, None};
 ghost use Rattle.std.specs.Int.{from_bool};
 ghost use Rattle.rtb_num.specs.Numbers.{is_number, number_in, is_below_zero, IsWithinMillionths, IsMillionths, IsWhole, IsInteger, with_sign};

@@ -1,3 +1,4 @@
+//! Sources and sinks of the system.
 ghost use Rattle.std.specs.Prelude.{◌≡◌, ◌≤◌, ◌==◌, ◌&&◌, ◌||◌, not, length, if◌then◌else◌, IfOk, Ok};
 ghost use Rattle.std.specs.Result.{is_err, result_unwrap_or};
 ghost use Rattle.rtb_base.specs.Faults.{one_more};

@@ -1,3 +1,4 @@
+//! Texts of up to 24 bytes, which take no memory of their own.
 ghost use Rattle.std.specs.Prelude.{◌≡◌, ◌≤◌, ◌+◌, ◌↔◌, [], ◌∷◌, ◌++◌, length, take, IsTrue, IfOk};
 
 use std::alloc::{AllocError, Global};

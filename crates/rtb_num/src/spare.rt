@@ -1,3 +1,4 @@
+//! Lists and texts that keep room for what is to come.
 ghost use Rattle.std.specs.Prelude.{◌≡◌, ◌+◌, ◌-◌, ◌<◌, ◌≤◌, [], ◌∷◌, ◌++◌, ◌^◌, length, take, IfOk, OnOk, IsOk, slice_get, vec_len, vec_capacity};
 ghost use Rattle.std.specs.Option.{option_copied, option_copied_mut};
 ghost use Rattle.std.specs.Borrow.{sem};

@@ -1,3 +1,4 @@
+//! A text of bytes.
 ghost use Rattle.rtb_num.specs.Bytes.{IsBytes};
 ghost use Rattle.std.specs.Prelude.{◌≡◌, ℕ, nat_eq, List, Some, [], ◌∷◌, ◌++◌, ◌↔◌, length, map, take, IsTrue, IfOk, OnOk, OnErr, slice_get};
 ghost use Rattle.std.specs.List.{concat};

@@ -1,3 +1,4 @@
+//! Amounts of money written in decimal.
 ghost use Rattle.std.specs.Prelude.{◌≡◌, ℕ, List, ◌^◌, ◌<◌, ◌≤◌, ◌++◌, ◌*◌, IsTrue, OnOk, OnErr};
 ghost use Rattle.rtb_num.specs.Amounts.{micros_text, nanos_text, amount_text, fraction_digits, is_decimal, number_of, digits_of, places_of};
 

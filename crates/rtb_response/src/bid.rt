@@ -1,3 +1,4 @@
+//! The bid object of a sale (OpenRTB 2.5, section 4.2.3).
 ghost use Rattle.std.specs.Prelude.{◌≡◌, ◌∷◌, [], ◌++◌, codes, decimal, map, slice_get, IsTrue, IfOk, OnOk};
 ghost use Rattle.std.specs.Fmt.{signed_decimal};
 ghost use Rattle.std.specs.Option.{option_copied, option_map_or};

@@ -1,3 +1,4 @@
+//! The answer to a reply: its status and its body.
 ghost use Rattle.std.specs.Prelude.{◌≡◌, ◌∷◌, [], codes, IsTrue, IfOk, OnOk};
 ghost use Rattle.std.specs.Option.{option_copied, option_map_or};
 ghost use Rattle.http_wire.specs.Answers.{IsWritable};

@@ -1,3 +1,4 @@
+//! The bid response to a request (OpenRTB 2.5, section 4.2.1).
 ghost use Rattle.std.specs.Prelude.{◌≡◌, cond, map, IsTrue, IfOk, OnOk};
 ghost use Rattle.std.specs.List.{list_any};
 ghost use Rattle.std.specs.Option.{option_copied};

@@ -1,3 +1,4 @@
+//! The fields of a bid request that are read.
 ghost use Rattle.std.specs.Prelude.{◌≡◌};
 ghost use Rattle.rtb_types.specs.Paths.{app_member, app_name, banner_name, deal_name, device_name, geo_name, imp_name, member_name, pmp_name, request_name, site_member, site_name, size_name, user_name};
 

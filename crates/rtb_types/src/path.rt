@@ -1,3 +1,4 @@
+//! The path of a field of a bid request, as it is written in a refusal.
 ghost use Rattle.std.specs.Prelude.{◌≡◌, ◌++◌, ◌∷◌, ℕ, List, OnOk, OnErr, codes};
 ghost use Rattle.rtb_num.specs.Paths.{place as place_text};
 ghost use Rattle.rtb_types.specs.Paths.{banner_path, deal_path, imp_path, path, pmp_path};

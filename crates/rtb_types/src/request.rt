@@ -1,3 +1,4 @@
+//! The records of a bid request (OpenRTB 2.5, section 3.2).
 ghost use Rattle.std.specs.Prelude.{◌≡◌};
 ghost use Rattle.std.specs.List.{list_all};
 ghost use Rattle.rtb_types.specs.Valid.{has_valid_deals, is_from as is_within, is_valid as is_valid_request, is_valid_deal};

@@ -1,3 +1,4 @@
+//! The command `audit`: whether a trace accounts for itself from a journal on.
 ghost use Rattle.std.specs.Prelude.{◌≡◌, ◌≢◌, [], Err, IfOk, List, None, Ok, ℕ};
 ghost use Rattle.rtb_base.specs.Faults.{RisesOnlyWhere};
 ghost use Rattle.rtb_io.specs.Statuses.{code_of};

@@ -1,3 +1,4 @@
+//! The command `compact`: a journal written anew without its oldest sales.
 ghost use Rattle.std.specs.Prelude.{◌≡◌, [], ◌∷◌, ◌++◌, Option, List};
 ghost use Rattle.link_door.specs.Worlds.{HandsOut};
 ghost use Rattle.link_door.specs.declared.asked.Asked.{Asked};

@@ -1,3 +1,4 @@
+//! The command `follow`: reports from a journal that another program writes.
 ghost use Rattle.std.specs.Prelude.{◌≡◌, [], ◌∷◌, Option, List, ℕ, MatchResult, None, Some};
 ghost use Rattle.rtb_base.specs.Faults.{RisesOnlyWhere};
 ghost use Rattle.rtb_io.specs.Statuses.{code_of};

@@ -1,4 +1,4 @@
-// How a run ends where its journal was not opened or read.
+//! How a run ends where its journal was not opened or read.
 ghost use Rattle.std.specs.Prelude.{◌≡◌, IfOk};
 ghost use Rattle.rtb_base.specs.Faults.{RisesOnlyWhere};
 ghost use Rattle.rtb_io.specs.Statuses.{code_of};

@@ -1,3 +1,4 @@
+//! The command `make`: a run that anybody can repeat, or its trace.
 ghost use Rattle.std.specs.Prelude.{◌≡◌, IfOk};
 ghost use Rattle.rtb_base.specs.Faults.{RisesOnlyWhere};
 ghost use Rattle.rtb_io.specs.Statuses.{code_of};

@@ -1,3 +1,4 @@
+//! How a run ended, and all that the world handed out to it.
 ghost use Rattle.std.specs.Prelude.{◌≡◌, [], None, Some};
 ghost use Rattle.rtb_io.specs.Statuses.{code_of};
 

@@ -1,3 +1,4 @@
+//! The command `recover`: the counts of the exchange that a journal gives.
 ghost use Rattle.std.specs.Prelude.{◌≡◌, [], MatchResult, None};
 ghost use Rattle.recovery.specs.Openings.{IsUnwritten};
 ghost use Rattle.rtb_base.specs.Faults.{RisesOnlyWhere};

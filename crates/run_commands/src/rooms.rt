@@ -1,4 +1,4 @@
-// The one door that serves, out of the list in which the world gave it and back into it.
+//! The one door that serves, out of the list in which the world gave it and back into it.
 ghost use Rattle.std.specs.Prelude.{◌≡◌, ◌<◌, [], ◌∷◌, length};
 
 use rtb_num::{List, SpareList};

@@ -1,3 +1,4 @@
+//! The command `serve`: the journal opened, a door for each worker, and the links of all doors served.
 ghost use Rattle.std.specs.Prelude.{◌≡◌, ◌<◌, ◌^◌, ℕ, [], List, Option, None, IfErr, IfOk, length, true};
 ghost use Rattle.std.specs.Io.KnownBytes.{Appends};
 ghost use Rattle.exchange_shared.specs.Opening.{IsOriginOver};

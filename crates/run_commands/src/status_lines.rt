@@ -1,3 +1,4 @@
+//! The lines of statuses that come with no reply.
 ghost use Rattle.std.specs.Prelude.{◌≡◌, ◌≢◌};
 ghost use Rattle.std.specs.Io.KnownBytes.{Appends};
 ghost use Rattle.rtb_base.specs.Faults.{RisesOnlyWhere};

@@ -1,3 +1,4 @@
+//! Addresses that name port 0.
 ghost use Rattle.std.specs.Prelude.{◌≡◌};
 ghost use Rattle.std.specs.List.{list_all};
 ghost use Rattle.run_words.specs.Addresses.{are_zeros, has_port_0, is_zero};

@@ -1,3 +1,4 @@
+//! The words of `audit`.
 ghost use Rattle.std.specs.Prelude.{◌≡◌, ◌≢◌, IfOk, MatchResult, None, Some, map, option_map};
 ghost use Rattle.clap.specs.Words.{app_of, found_of, rows_of};
 ghost use Rattle.run_words.specs.Audit.{audit_app, audit_of, audit_options};

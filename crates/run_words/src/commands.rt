@@ -1,3 +1,4 @@
+//! What the words ask for, where they are of no command that is read by hand.
 ghost use Rattle.std.specs.Prelude.{◌≡◌, ◌||◌, MatchResult, None, Some, codes};
 ghost use Rattle.std.specs.Str.{bytes_eq};
 ghost use Rattle.run_words.specs.CommandLines.{about, asked, audit_line, command_line, compact_line, follow_line, further_line, is_question, last_line, make_line, recover_line, serve_line, which_line};

@@ -1,3 +1,4 @@
+//! Why words are of no command.
 use std::alloc::AllocError;
 use thiserror::Error;
 

@@ -1,3 +1,4 @@
+//! The words of `make`.
 ghost use Rattle.std.specs.Prelude.{◌≡◌, ◌-◌, ◌^◌, IfOk, MatchResult, None, Some, codes, false, map, option_and_then};
 ghost use Rattle.clap.specs.Words.{app_of, first_of, found_of, rows_of, rule_of};
 ghost use Rattle.run_words.specs.Commands.{given_by};

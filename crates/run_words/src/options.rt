@@ -1,3 +1,4 @@
+//! Options as `clap` takes them: texts and numbers.
 ghost use Rattle.std.specs.Prelude.{◌≡◌, false};
 ghost use Rattle.clap.specs.Words.{rule_of};
 ghost use Rattle.run_words.specs.Commands.{number_between, required};

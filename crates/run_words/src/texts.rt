@@ -1,3 +1,4 @@
+//! The words as texts, where each is one.
 ghost use Rattle.std.specs.Prelude.{◌≡◌, false, map, MatchResult, true};
 ghost use Rattle.std.specs.List.{list_all};
 ghost use Rattle.std.specs.Str.{is_utf8};

@@ -1,3 +1,4 @@
+//! The words of `which`.
 ghost use Rattle.std.specs.Prelude.{◌≡◌, IfOk, MatchResult, None, Some, map};
 ghost use Rattle.clap.specs.Words.{app_of};
 ghost use Rattle.run_words.specs.Which.{which_app, which_given, which_of};

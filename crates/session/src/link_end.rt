@@ -1,3 +1,4 @@
+//! Why a link ended, and the law that a stream has one end.
 ghost use Rattle.std.specs.Prelude.{◌≡◌, ℕ, List};
 ghost use Rattle.http_wire.specs.declared.message.Message.{Message as MessageValue};
 ghost use Rattle.session.specs.Streams.{HasMessages};

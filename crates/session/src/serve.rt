@@ -1,3 +1,4 @@
+//! One link served to its end.
 ghost use Rattle.std.specs.Prelude.{◌≡◌, ◌-◌, ◌≤◌, []};
 ghost use Rattle.rtb_base.specs.Faults.{RisesOnlyWhere, RoseAtMost};
 ghost use Rattle.session.specs.Receives.{IsEnd};

@@ -1,3 +1,4 @@
+//! What answers messages, and what it gives for one.
 ghost use Rattle.http_wire.specs.declared.message.Message.{Message as MessageValue};
 ghost use Rattle.session.specs.declared.service.Given.{Given as GivenValue};
 ghost use Rattle.session.specs.Talk.{IsGivable};

@@ -1,4 +1,4 @@
-// Words of commands, and how answers are shown.
+//! Words of commands, and how answers are shown.
 use case_lines::number_in;
 use plain_exchange::{Reply, Sold};
 use rtb_num::{List, Txt, write_decimal};

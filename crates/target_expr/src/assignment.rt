@@ -1,3 +1,4 @@
+//! The values that an impression gives to attributes.
 ghost use Rattle.std.specs.Prelude.{◌≡◌, [], ◌↔◌, IsTrue, length};
 ghost use Rattle.std.specs.Option.{option_copied};
 ghost use Rattle.target_expr.specs.Truth.{are_single, same_attr, value_at};

@@ -1,3 +1,4 @@
+//! The attributes of an impression that expressions may speak of.
 ghost use Rattle.std.specs.Prelude.{◌≡◌, ◌≤◌, codes};
 ghost use Rattle.target_expr.specs.Attributes.{attributes, name_of, attr_named, number_of, attr_numbered};
 

@@ -1,3 +1,4 @@
+//! An expression copied, with all its texts.
 ghost use Rattle.std.specs.Prelude.{◌≡◌, IfOk};
 
 use crate::expr::Expr;

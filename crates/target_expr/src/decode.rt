@@ -1,3 +1,4 @@
+//! An expression read from bytes.
 ghost use Rattle.std.specs.Prelude.{◌≡◌, None, Ok, Err, IfOk};
 ghost use Rattle.byte_fields.specs.Codes.{IsReadAt};
 ghost use Rattle.byte_fields.specs.Encodings.{CountsMore};

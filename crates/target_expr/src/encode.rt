@@ -1,3 +1,4 @@
+//! An expression as bytes.
 ghost use Rattle.std.specs.Prelude.{◌≡◌, ◌++◌, ℕ, List, OnOk, OnErr};
 ghost use Rattle.target_expr.specs.Bytes.{IsEncodable, expr_bytes, pred_bytes};
 ghost use Rattle.target_expr.specs.Loose.{IsLoosePred};

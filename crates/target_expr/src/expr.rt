@@ -1,3 +1,4 @@
+//! A Boolean expression: a disjunction of conjunctions of predicates.
 ghost use Rattle.std.specs.Prelude.{◌≡◌, IsTrue, length};
 ghost use Rattle.target_expr.specs.Kept.{is_kept};
 

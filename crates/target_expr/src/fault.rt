@@ -1,3 +1,4 @@
+//! Why what is written is no expression.
 ghost use Rattle.std.specs.Prelude.{◌≡◌};
 ghost use Rattle.target_expr.specs.declared.fault.ExprFault.TheVariants.{Memory as memory};
 

@@ -1,3 +1,4 @@
+//! The laws of expressions as bytes and as they are kept.
 ghost use Rattle.std.specs.Prelude.{◌≡◌, [], ℕ, ◌+◌, List, ◌++◌, length, Option, Some};
 ghost use Rattle.byte_fields.specs.Codes.{IsCode, IsReadAt};
 ghost use Rattle.target_expr.specs.declared.attr.Attr.{Attr};

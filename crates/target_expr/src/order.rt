@@ -1,3 +1,4 @@
+//! Whether an expression is in order, as it is kept.
 ghost use Rattle.std.specs.Prelude.{◌≡◌, length, nat_le};
 ghost use Rattle.std.specs.List.{list_all};
 ghost use Rattle.target_expr.specs.Kept.{attr_below, is_kept, is_kept_conjunction, is_kept_pred, rise, text_below};

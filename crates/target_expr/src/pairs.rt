@@ -1,3 +1,4 @@
+//! The sizes of an expression's conjunctions, and the pairs that they name.
 ghost use Rattle.std.specs.Prelude.{◌≡◌, ◌+◌, ◌≤◌, ◌++◌, length, IfOk, OnOk};
 ghost use Rattle.target_expr.specs.Pairs.{conjunction_pairs, pairs_of, pred_pairs, size_of, sizes_of};
 

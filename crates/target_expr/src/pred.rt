@@ -1,3 +1,4 @@
+//! Predicates, as they are stated and as they are kept.
 use crate::attr::Attr;
 use rtb_num::{List, Txt};
 

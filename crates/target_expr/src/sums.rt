@@ -1,3 +1,4 @@
+//! How many values an expression has, and how many bytes of text.
 ghost use Rattle.std.specs.Prelude.{◌≡◌, ◌≤◌, ◌*◌, IsTrue, length, sum_by};
 ghost use Rattle.target_expr.specs.Kept.{is_kept_conjunction, is_kept_pred};
 ghost use Rattle.target_expr.specs.Pairs.{bytes_in, text_bytes_of, values_in, values_of};

@@ -1,3 +1,4 @@
+//! The mark of each expression, which tells why it is chosen or is not.
 ghost use Rattle.std.specs.Prelude.{◌≡◌, map, IfOk};
 ghost use Rattle.std.specs.List.{fold};
 ghost use Rattle.top_match.specs.Certificate.{marks_of, reason};

@@ -1,3 +1,4 @@
+//! A true expression with its score, as ranks are compared.
 use std::cmp::Reverse;
 
 // An expression that is true. The least of two comes first: the one of the greater score, or else of the smaller

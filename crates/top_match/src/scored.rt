@@ -1,3 +1,5 @@
+//! A true expression with its score, and the marks of a certificate.
+
 /// An expression that is true.
 #[derive(Clone, Copy, Drop)]
 pub struct Scored {

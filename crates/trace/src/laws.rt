@@ -1,4 +1,4 @@
-// Laws of what is written, with nothing to run.
+//! Laws of what is written, with nothing to run.
 ghost use Rattle.std.specs.Prelude.{◌≡◌, ◌+◌, ◌++◌, length, List, Option, Some, ℕ};
 ghost use Rattle.byte_fields.specs.Codes.{IsCode, IsReadAt};
 ghost use Rattle.trace.specs.Traces.{IsEntry, IsHeader, entry_bytes, header_bytes};

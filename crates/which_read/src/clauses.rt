@@ -1,3 +1,4 @@
+//! The clauses of an expression: predicates of attributes and values.
 ghost use Rattle.std.specs.Prelude.{◌≡◌, ◌&&◌, ◌++◌, [], if◌then◌else◌, map, not};
 ghost use Rattle.exact_json.specs.View.{tree_of};
 ghost use Rattle.json_fields.specs.Answers.{Answers, map_ok};

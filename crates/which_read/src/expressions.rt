@@ -1,3 +1,4 @@
+//! The expressions of a request, each made or refused.
 ghost use Rattle.std.specs.Prelude.{◌≡◌, ◌+◌, ℕ, [], map};
 ghost use Rattle.std.specs.List.{All};
 ghost use Rattle.exact_json.specs.Forms.{HasForms};

@@ -1,3 +1,4 @@
+//! Why a JSON text is no request for the best expressions.
 ghost use Rattle.std.specs.Prelude.{◌≡◌};
 ghost use Rattle.which_read.specs.declared.fault.WhichFault.TheVariants.{Memory as memory};
 

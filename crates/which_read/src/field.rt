@@ -1,3 +1,4 @@
+//! The fields of a request for the best expressions.
 ghost use Rattle.std.specs.Prelude.{◌≡◌};
 ghost use Rattle.which_read.specs.Paths.{item_of, member_name};
 

@@ -1,3 +1,4 @@
+//! The path of a field, as it is written in a refusal.
 ghost use Rattle.std.specs.Prelude.{◌≡◌, ◌++◌, ℕ, List, OnOk, OnErr};
 ghost use Rattle.rtb_num.specs.Paths.{place};
 ghost use Rattle.which_read.specs.Paths.{entry_path, in_predicate, in_weight, inside, predicate_path, which_path};

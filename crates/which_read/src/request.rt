@@ -1,3 +1,4 @@
+//! A request for the best expressions, or its first fault.
 #![tactic(auto, using(json_fields::proofs::First::firsts), unfolding(crate::specs::Request::which_faults))]
 
 ghost use Rattle.std.specs.Prelude.{◌≡◌, ◌≤◌, length, map, IfOk};

@@ -1,3 +1,4 @@
+//! The weights of an expression.
 ghost use Rattle.std.specs.Prelude.{◌≡◌, [], map};
 ghost use Rattle.std.specs.List.{All};
 ghost use Rattle.exact_json.specs.Forms.{HasForms};

@@ -1,3 +1,4 @@
+//! The answer: the best expressions, and the marks of all.
 ghost use Rattle.std.specs.Prelude.{◌≡◌, ◌≤◌, length, map, IfOk, IsTrue, OnOk};
 ghost use Rattle.json_out.specs.Texts.{array_text};
 ghost use Rattle.json_out.specs.Writer.{blank, is_whole, put_value, takes_value};

@@ -1,3 +1,4 @@
+//! The bodies of refusals.
 ghost use Rattle.std.specs.Prelude.{◌≡◌, ◌∷◌, [], codes, decimal, IsTrue, IfOk};
 ghost use Rattle.json_out.specs.Inside.{in_object};
 ghost use Rattle.json_out.specs.Strings.{string_text};

@@ -1,3 +1,4 @@
+//! The answer to the bytes of a request.
 ghost use Rattle.std.specs.Prelude.{◌≡◌, ◌≢◌, ◌≤◌, length, IfOk, OnOk};
 ghost use Rattle.exact_json.specs.Docs.{doc_tree};
 ghost use Rattle.exact_json.specs.declared.fault.JsonFault.TheVariants.{Memory as json_memory};

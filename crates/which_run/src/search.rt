@@ -1,3 +1,4 @@
+//! The numbers of the true expressions, by their index.
 ghost use Rattle.std.specs.Prelude.{◌≡◌, ◌<◌, ◌≤◌, length, IfOk};
 ghost use Rattle.cnf_match.specs.Find.{true_under};
 

@@ -1,4 +1,4 @@
-// The exchange with its campaigns.
+//! The exchange with its campaigns.
 ghost use Rattle.std.specs.Prelude.{◌≡◌, ◌<◌, ◌^◌, IsTrue};
 ghost use Rattle.auction_core.specs.Draft.{is_simple};
 

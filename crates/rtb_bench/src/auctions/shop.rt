@@ -1,4 +1,4 @@
-// An exchange and the index of its campaigns.
+//! An exchange and the index of its campaigns.
 ghost use Rattle.std.specs.Prelude.{◌≡◌, ◌<◌, IfOk, IsTrue};
 ghost use Rattle.auction_core.specs.Core.{listed};
 ghost use Rattle.auction_core.specs.Draft.{found_of, is_valid_command};

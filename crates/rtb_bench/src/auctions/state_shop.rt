@@ -1,4 +1,4 @@
-// The same exchange as the state that workers share, by one worker.
+//! The same exchange as the state that workers share, by one worker.
 ghost use Rattle.std.specs.Prelude.{◌≡◌, ◌<◌, ◌+◌, ℕ, IfOk, IsTrue};
 ghost use Rattle.auction_core.specs.Draft.{is_simple, is_valid_command};
 ghost use Rattle.exchange_state.specs.Settling.{IsStanding};

@@ -1,3 +1,4 @@
+//! The program's one call: the work that the words name, and the line of its answer.
 ghost use Rattle.std.specs.Prelude.{◌≡◌, ◌≢◌, ◌⊎◌, ℕ, pos, ◌<◌, ◌≤◌, ◌≤ℤ◌, None, Some, IfSome, List, length};
 ghost use Rattle.std.specs.Io.KnownBytes.{Appends, Consumes};
 ghost use Rattle.rtb_base.specs.Faults.{RisesOnlyWhere};

@@ -1,3 +1,4 @@
+//! What a JSON text holds, counted.
 ghost use Rattle.std.specs.Prelude.{◌≡◌, ◌+◌, ◌%◌, ◌^◌, length};
 ghost use Rattle.exact_json.specs.View.{pair_of, pairs_of, tree_of, trees_of};
 ghost use Rattle.rtb_bench.specs.Counts.{bytes_in, pairs_bytes, pairs_values, trees_bytes, trees_values, values_in};

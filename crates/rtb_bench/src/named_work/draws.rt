@@ -1,3 +1,4 @@
+//! Numbers of a generator, that a run can be repeated by.
 ghost use Rattle.std.specs.Prelude.{◌<◌};
 
 /// Numbers by a linear congruential generator: x becomes x * 6364136223846793005 + 1442695040888963407

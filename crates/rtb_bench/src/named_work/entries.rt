@@ -1,3 +1,4 @@
+//! How many entries an index of expressions would read.
 ghost use Rattle.std.specs.Prelude.{◌≡◌, ◌++◌, IfOk, codes, decimal};
 
 use conj_index::{Index, Key, Part};

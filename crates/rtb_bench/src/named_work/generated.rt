@@ -1,3 +1,4 @@
+//! Campaigns and impressions, drawn.
 ghost use Rattle.std.specs.Prelude.{◌≡◌, ◌≤◌, ◌<◌, ◌*◌, IfOk, IsTrue, length};
 ghost use Rattle.std.specs.List.{list_any};
 ghost use Rattle.target_expr.specs.Truth.{are_single, same_attr};

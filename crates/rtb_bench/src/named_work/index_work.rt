@@ -1,3 +1,4 @@
+//! Work on an index: campaigns found for impressions, in three ways.
 ghost use Rattle.std.specs.Prelude.{◌≡◌, ◌≤◌, ◌<◌, ◌+◌, ◌*◌, ◌%◌, ◌^◌, [], ◌∷◌, ◌++◌, ℕ, List, All, IfOk, OnOk, length};
 ghost use Rattle.target_expr.specs.declared.attr.Attr.{Attr};
 ghost use Rattle.conj_index.specs.Campaigns.{Campaigns, DoRise, conjunctions_in};

@@ -1,3 +1,4 @@
+//! Work on JSON: a text read so many times, and what it holds.
 ghost use Rattle.std.specs.Prelude.{◌≡◌, ◌≢◌, ◌≤◌, ◌<◌, ◌*◌, ◌+◌, ◌%◌, ◌^◌, ◌++◌, IfOk, IfErr, OnOk, codes, decimal, [], ◌∷◌};
 ghost use Rattle.std.specs.List.{concat};
 ghost use Rattle.exact_json.specs.Tree.{Tree};

@@ -1,3 +1,4 @@
+//! How attributes and their values are drawn: selective or broad.
 use target_expr::Attr;
 
 /// What the generated campaigns ask for, and what the impressions have.

@@ -1,3 +1,4 @@
+//! Which work on an index is named.
 ghost use Rattle.std.specs.Prelude.{◌≡◌};
 
 use super::profile::Profile;

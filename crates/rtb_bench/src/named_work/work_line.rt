@@ -1,3 +1,4 @@
+//! The line of the answer of work on an index.
 ghost use Rattle.std.specs.Prelude.{◌≡◌, ◌≤◌, ◌<◌, IfOk};
 ghost use Rattle.rtb_bench.specs.Work.{IsEntriesLine, IsFoundFor, IsWorkLine};
 

@@ -1,3 +1,4 @@
+//! A counter under the lock, as an exchange without its rules.
 ghost use Rattle.std.specs.Prelude.{◌≡◌, ◌+◌, ◌++◌, ◌∷◌, [], true, false, ℕ, List, IfSome};
 ghost use Rattle.hist_lock.specs.Entries.{entries_of};
 ghost use Rattle.hist_lock.specs.Views.{seat_with, IsSameSeat};

@@ -1,3 +1,4 @@
+//! Workers that add to a counter in turns, and what that comes to.
 ghost use Rattle.std.specs.Prelude.{◌≡◌, ◌+◌, ◌^◌, ◌<◌, ℕ, length, IfSome, IfOk, All, sum, slice_index_or};
 ghost use Rattle.rtb_bench.specs.Turns.{IsHired, IsDone, AreHired, AreDone, AllAdded, IsFirst, HasGathered};
 
