@@ -10,7 +10,7 @@
 //! returns.
 #![tactic(auto)]
 
-mod calls;
+mod latch;
 mod lock;
 mod plays;
 mod steps;

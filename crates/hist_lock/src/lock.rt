@@ -2,7 +2,7 @@
 ghost use Rattle.std.specs.Prelude.{◌≡◌, ◌+◌, ◌^◌, ◌<◌, true, false, [], ◌∷◌, ◌++◌, length, IfOk, IfErr};
 ghost use Rattle.hist_lock.specs.Views.{is_begun, first_seat, seat_with, Enters, SplitsOff, TakesIn, Complete};
 
-use crate::calls::Calls;
+use crate::latch::Latch;
 use crate::plays::{Begin, Compare, Count, Fill, KeepPast, SplitOff, TakeIn};
 use crate::view::{Names, Stands, Starts, View};
 use atomic_table::{Seat as Place, Table, TableRule};
@@ -27,7 +27,7 @@ impl<S: Stands> TableRule<Option<S>, View<S::Origin, S::Entry>, ()> for Turns {
 #[derive(Drop)]
 pub struct HistLock<S: Stands> {
     pub(crate) table: Table<Option<S>, View<S::Origin, S::Entry>, (), Turns, Global>,
-    pub(crate) calls: Calls,
+    pub(crate) latch: Latch,
 }
 
 impl<S: Stands> Model for HistLock<S> {
@@ -111,8 +111,8 @@ impl<S: Stands> HistLock<S> {
             Some(_) => unreachable!(),
         }
         table.shared.load::<Begin<O>>(&mut place, 2);
-        let calls = Calls::new();
-        Ok((HistLock { table, calls }, Seat { place }))
+        let latch = Latch::new();
+        Ok((HistLock { table, latch }, Seat { place }))
     }
 
     /// Waits for the seat's turn, and takes the value out.
@@ -126,6 +126,7 @@ impl<S: Stands> HistLock<S> {
         ensures room { length result.0.seen < 2 ^ 62 }
     {
         let Seat { mut place } = seat;
+        self.latch.take(rt);
         let ticket = self.draw(rt, &mut place);
         let value = self.take_out(rt, &mut place, ticket);
         (Seat { place }, Turn { value })
@@ -197,8 +198,8 @@ impl<S: Stands> HistLock<S> {
         ensures past { (result.1.origin ≡ seat.origin) × (result.1.seen ≡ seat.seen) }
         ensures complete { Complete S.worker seat result.1.seen }
     {
-        let HistLock { table, calls } = self;
-        drop(calls);
+        let HistLock { table, latch } = self;
+        drop(latch);
         let Seat { mut place } = seat;
         let past = table.shared.split_seat::<KeepPast>(&mut place);
         let mut closed = table.close_with(place);

@@ -10,6 +10,7 @@ use crate::lock::HistLock;
 use crate::plays::{Commit, Draw, Look, PassOn};
 use crate::view::{Names, Stands, View};
 use atomic_table::Seat as Place;
+use std::hint::spin_loop;
 use std::sync::Wait;
 
 // No ticket is drawn from here on, so that no word can wrap.
@@ -39,8 +40,8 @@ impl<S: Stands> HistLock<S> {
         unreachable!()
     }
 
-    // Look until the ticket is served, and take the value out. That look itself takes the slot. Between
-    // two looks the seat watches for its call, and it parks where no ticket was served meanwhile.
+    // Look until the ticket is served, and take the value out. That look itself takes the slot. A seat
+    // that drew its ticket with the latch finds it served at once.
     pub(crate) fn take_out<R: Wait>(
         &self,
         rt: &R,
@@ -56,17 +57,12 @@ impl<S: Stands> HistLock<S> {
         ensures room { length (seen place.new) < 2 ^ 62 }
     {
         let words = &self.table.shared;
-        let mut before = u64::MAX;
         for _ in rt.forever() {
             let served = words.load::<Look>(place, 2);
             if served == ticket {
                 return words.exchange(place, 0, None).unwrap();
             }
-            if served == before {
-                self.calls.park(rt, ticket);
-            }
-            before = served;
-            self.calls.watch(ticket);
+            spin_loop();
         }
         unreachable!()
     }
@@ -85,7 +81,7 @@ impl<S: Stands> HistLock<S> {
         self.table.shared.fetch_add::<Commit<E>>(place, 0, 1);
     }
 
-    // Put back: the value is in its slot. Pass on: the next ticket is served.
+    // Put back: the value is in its slot. Pass on: the next ticket is served, and the latch is free.
     pub(crate) fn put_back(&self, place: &mut Place<Option<S>, View<S::Origin, S::Entry>>, value: S)
         requires lock { lock_of place.old ≡ self.now }
         requires turn { (place.old.me.1 ≡ (0, None) ∷ []) × (turn_weight place.old.me.0.stage ≡ 1) }
@@ -98,14 +94,7 @@ impl<S: Stands> HistLock<S> {
             None => {}
             Some(_) => unreachable!(),
         }
-        let next = words.fetch_add::<PassOn>(place, 2, 1).wrapping_add(1);
-        self.call(next);
-    }
-
-    // Calls the ticket, where a seat has drawn it. A seat that draws it later finds it served.
-    fn call(&self, ticket: u64) {
-        if self.table.shared.peek(1) > ticket {
-            self.calls.call(ticket);
-        }
+        words.fetch_add::<PassOn>(place, 2, 1);
+        self.latch.free();
     }
 }
