@@ -102,22 +102,22 @@ pub edits_since : (s t : Seat) → Waits s t → edits_after s.origin (calls s.s
 edits_since s t w = subst (λ (y : Seat). edits_after s.origin (calls s.seen) ≤ edits_after y.origin (calls y.seen)) (sym w.same) (edits_stay s.origin s.seen w.more)
 
 -- the version that the seat had seen is no newer than the one that was present as a version was due
-since_seen : (s t : Seat) (n : ℕ) → Waits s t → IsRising t.origin t.seen → published t.origin t.seen + 2048 ≤ n → published s.origin s.seen + 2048 ≤ n
-since_seen s t n w rising due =
+since_seen : (after : ℕ) (s t : Seat) (n : ℕ) → Waits s t → IsRising t.origin t.seen → published t.origin t.seen + after ≤ n → published s.origin s.seen + after ≤ n
+since_seen after s t n w rising due =
     let before : IsRising s.origin (s.seen ++ w.more) = subst (λ (y : Seat). IsRising y.origin y.seen) w.same rising in
     let le = published_later s.origin s.seen w.more before in
-    let at : published s.origin (s.seen ++ w.more) + 2048 ≤ n = subst (λ (y : Seat). published y.origin y.seen + 2048 ≤ n) w.same due in
+    let at : published s.origin (s.seen ++ w.more) + after ≤ n = subst (λ (y : Seat). published y.origin y.seen + after ≤ n) w.same due in
     omega (arith, le, at)
 
-pub republished : (s t u : Seat) (edit : ℕ) (r : Published) → Waits s t → IsOrdered t.origin t.seen → edit ≡ edits_after t.origin (calls t.seen) → published t.origin t.seen + 2048 ≤ edit → HasPublished edit t u r → Publishes s u r
+pub republished : (after : ℕ) (s t u : Seat) (edit : ℕ) (r : Published) → 1 ≤ after → Waits s t → IsOrdered t.origin t.seen → edit ≡ edits_after t.origin (calls t.seen) → published t.origin t.seen + after ≤ edit → HasPublished edit t u r → Publishes after s u r
 unfolding gain_on
-republished s t u edit (answer.New e) a o is due (same, b, above) = (
+republished after s t u edit (answer.New e) one a o is due (same, b, above) = (
   gain_on 0 e s t u a b,
   (let le = edits_since s t a in omega (arith, le, is, same)),
   subst (λ l. published s.origin l < e) (append_assoc s.seen a.more b.more) (subst (λ (y : Seat). published y.origin (y.seen ++ b.more) < e) a.same above),
-  subst (λ n. published s.origin s.seen + 2048 ≤ n) (sym same) (since_seen s t edit a o.rising due),
+  subst (λ n. published s.origin s.seen + after ≤ n) (sym same) (since_seen after s t edit a o.rising due),
 )
-republished s t u edit (answer.Kept e) a o is due (b, at, le) = (wait_on s t u a b, at, (let before = edits_since s t a in omega (arith, before, is, le)))
+republished after s t u edit (answer.Kept e) one a o is due (b, at, le) = (wait_on s t u a b, at, (let before = edits_since s t a in omega (arith, one, before, is, le)))
 
 -- ---- the version of a snapshot
 
@@ -129,8 +129,8 @@ version_made o h s v i same ix = record {
 }
 
 -- one is due, where a snapshot was given
-pub due_where_given : (p e : ℕ) (r : Option Snapshot) (s : Snapshot) → r ≡ Some s → (r ≡ None) ↔ (e < p + 2048) → p + 2048 ≤ e
-due_where_given p e r s is none = dite (dec_lt e (p + 2048)) (λ lt. let nothing : r ≡ None = none.1 lt in absurd (cc (is, nothing))) (λ ge. omega (arith, ge))
+pub due_where_given : (after p e : ℕ) (r : Option Snapshot) (s : Snapshot) → r ≡ Some s → (r ≡ None) ↔ (e < p + after) → p + after ≤ e
+due_where_given after p e r s is none = dite (dec_lt e (p + after)) (λ lt. let nothing : r ≡ None = none.1 lt in absurd (cc (is, nothing))) (λ ge. omega (arith, ge))
 
-pub not_due : (s t : Seat) (edit : ℕ) → Waits s t → edits_after t.origin (calls t.seen) < edit + 2048 → edits_after s.origin (calls s.seen) < edit + 2048
-not_due s t edit w lt = let le = edits_since s t w in omega (arith, le, lt)
+pub not_due : (after : ℕ) (s t : Seat) (edit : ℕ) → Waits s t → edits_after t.origin (calls t.seen) < edit + after → edits_after s.origin (calls s.seen) < edit + after
+not_due after s t edit w lt = let le = edits_since s t w in omega (arith, le, lt)

@@ -84,12 +84,12 @@ pub record MayBeSettled (s : Seat) (v : Version) (found : List (List ℕ)) (comm
 -- ---- versions
 
 -- A version was published of all edits that the seat had seen. It is newer than the one that was present until then, and
--- 2,048 edits or more stand since the one that the seat had seen. Or the present version lacks fewer than 2,048 of the
+-- so many edits or more stand since the one that the seat had seen. Or the present version lacks fewer than so many of the
 -- edits that the seat had seen.
-abbrev pub Publishes : Seat → Seat → Published → Type 0
-Publishes s t (answer.New edit) = (gained : Gains (published_at s.worker edit) s t) × (edits_after s.origin (calls s.seen) ≤ edit)
-    × (published s.origin (s.seen ++ gained.more) < edit) × (published s.origin s.seen + 2048 ≤ edit)
-Publishes s t (answer.Kept edit) = Waits s t × (edit ≡ published t.origin t.seen) × (edits_after s.origin (calls s.seen) < edit + 2048)
+abbrev pub Publishes : ℕ → Seat → Seat → Published → Type 0
+Publishes after s t (answer.New edit) = (gained : Gains (published_at s.worker edit) s t) × (edits_after s.origin (calls s.seen) ≤ edit)
+    × (published s.origin (s.seen ++ gained.more) < edit) × (published s.origin s.seen + after ≤ edit)
+Publishes after s t (answer.Kept edit) = Waits s t × (edit ≡ published t.origin t.seen) × (edits_after s.origin (calls s.seen) < edit + after)
 
 -- ---- the journal
 

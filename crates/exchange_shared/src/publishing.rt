@@ -26,8 +26,8 @@ impl<D: Disk> Exchange<D> {
     ghost use Rattle.exchange_state.specs.Tickets.{IsVersionOf, edits_after};
     ghost use Rattle.exchange_state.specs.Views.{calls};
 
-    /// Publishes a version of the campaigns, where 2,048 edits stand since the present one. The version is built
-    /// without the turn.
+    /// Publishes a version of the campaigns, where so many edits stand since the present one, at least one. The version
+    /// is built without the turn.
     ///
     /// One step is one campaign, or one pair of attribute and value in an expression.
     pub fn republish<R: Wait, L: Ledger>(
@@ -35,20 +35,23 @@ impl<D: Disk> Exchange<D> {
         rt: &R,
         alloc: Global,
         seat: Seat<D>,
+        after: u64,
         steps: &mut Steps<L>,
     ) -> (Seat<D>, Result<Published, AllocError>)
         requires seat { MayCall (lock_of self.now) seat }
+        requires some { 1 ≤ after }
         ensures seat { MayCall (lock_of self.now) result.0 }
         ensures order { IsOrdered result.0.origin result.0.seen }
-        ensures published { IfOk result.1 (Publishes seat result.0) }
+        ensures published { IfOk result.1 (Publishes after seat result.0) }
         ensures none { OnErr result.1 (Waits seat result.0) }
         ensures cost { steps.new ≤ steps.old + most_version_cost }
     {
-        let (seat, due) = self.due(rt, seat);
+        let (seat, due) = self.due(rt, seat, after);
         match due {
             Err(AllocError) => (seat, Err(AllocError)),
             Ok(Due::Kept(edit)) => (seat, Ok(Published::Kept { edit })),
             Ok(Due::Version(snapshot)) => {
+                self.worn.renew(snapshot.live.len());
                 let version = build_next(alloc, &snapshot, steps);
                 drop(snapshot);
                 match version {
@@ -63,15 +66,15 @@ impl<D: Disk> Exchange<D> {
     }
 
     // Whether a version is due.
-    fn due<R: Wait>(&self, rt: &R, seat: Seat<D>) -> (Seat<D>, Result<Due, AllocError>)
+    fn due<R: Wait>(&self, rt: &R, seat: Seat<D>, after: u64) -> (Seat<D>, Result<Due, AllocError>)
         requires seat { MayCall (lock_of self.now) seat }
         ensures seat { MayCall (lock_of self.now) result.0 × Waits seat result.0 }
         ensures order { IsOrdered result.0.origin result.0.seen }
-        ensures due { IfOk result.1 (Dues result.0) }
+        ensures due { IfOk result.1 (Dues after result.0) }
     {
         let (seat, turn) = self.lock.enter(rt, seat);
         let edit = turn.value.edition();
-        let snapshot = turn.value.snapshot();
+        let snapshot = turn.value.snapshot(after);
         let seat = self.lock.leave(seat, turn);
         match snapshot {
             Ok(Some(snapshot)) => (seat, Ok(Due::Version(snapshot))),

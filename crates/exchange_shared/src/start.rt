@@ -14,6 +14,7 @@ ghost use Rattle.rtb_base.specs.Faults.{Rose};
 
 use crate::exchange::{Exchange, Seat};
 use crate::landing::Landings;
+use crate::worn::Worn;
 use exchange_state::ExchangeState;
 use hist_lock::{HistLock, Starts};
 use journal_file::{JournalFault, Reading};
@@ -125,8 +126,12 @@ fn put_under_lock<D: Disk, N: Opens>(
 {
     match HistLock::make::<Opened<N>>(alloc, state) {
         Ok((lock, seat)) => {
-            let landings = Landings::new();
-            Ok((Exchange { lock, landings }, seat))
+            let exchange = Exchange {
+                lock,
+                landings: Landings::new(),
+                worn: Worn::new(),
+            };
+            Ok((exchange, seat))
         }
         Err((state, AllocError)) => Err((state.into_disk(), JournalFault::Memory)),
     }

@@ -7,6 +7,7 @@ ghost use Rattle.exchange_state.specs.Costs.{most_version_cost};
 ghost use Rattle.index_versions.specs.Versions.{campaigns_of, version_cost};
 
 use crate::state::{ExchangeState, Published};
+use crate::ticket::Ticket;
 use campaign_store::{Snapshot, Table};
 use conj_index::Index;
 use index_versions::Version;
@@ -14,25 +15,22 @@ use rtb_disk::Disk;
 use std::alloc::AllocError;
 use std::sync::Arc;
 
-// Edits before a publication is due.
-const EDITS_DUE: u64 = 2048;
-
 impl<D: Disk> ExchangeState<D> {
-    ghost use Rattle.std.specs.Prelude.{◌≡◌, ◌<◌, ◌≤◌, ◌+◌, ◌++◌, ◌↔◌, ℕ, List as AList, None, IfOk, IfSome};
+    ghost use Rattle.std.specs.Prelude.{◌≡◌, ◌<◌, ◌≤◌, ◌+◌, ◌-◌, ◌++◌, ◌↔◌, ℕ, List as AList, None, IfOk, IfSome};
     ghost use Rattle.std.specs.Arc.{arc_value};
     ghost use Rattle.conj_index.specs.Campaigns.{DoRise, conjunctions_in};
     ghost use Rattle.exchange_state.specs.Costs.{most_version_cost};
     ghost use Rattle.exchange_state.specs.Settling.{IsSnapshotOf, MayPublish, published_as, publishing_marks};
     ghost use Rattle.exchange_state.specs.Standing.{StandsFor};
-    ghost use Rattle.exchange_state.specs.Tickets.{IsVersionOf, edits_after};
+    ghost use Rattle.exchange_state.specs.Tickets.{IsVersionOf, edits_after, version_in};
     ghost use Rattle.exchange_state.specs.Views.{calls, published};
     ghost use Rattle.exchange_state.specs.declared.entries.Entry.{Entry as AnEntry};
     ghost use Rattle.exchange_state.specs.declared.entries.Origin.{Origin as AnOrigin};
     ghost use Rattle.index_versions.specs.Versions.{campaigns_of, version_cost};
 
-    /// The live campaigns, of which a version is due: none where fewer than 2,048 edits stand since the present one.
-    pub fn snapshot(&self) -> Result<Option<Snapshot>, AllocError>
-        ensures none { (o : AnOrigin) (l : AList AnEntry) → StandsFor o self.now l → IfOk result (λ r. (r ≡ None) ↔ (edits_after o (calls l) < published o l + 2048)) }
+    /// The live campaigns, of which a version is due: none where fewer than so many edits stand since the present one.
+    pub fn snapshot(&self, after: u64) -> Result<Option<Snapshot>, AllocError>
+        ensures none { (o : AnOrigin) (l : AList AnEntry) → StandsFor o self.now l → IfOk result (λ r. (r ≡ None) ↔ (edits_after o (calls l) < published o l + after)) }
         ensures some { (o : AnOrigin) (l : AList AnEntry) → StandsFor o self.now l → IfOk result (λ r. IfSome r (IsSnapshotOf o (calls l))) }
         ensures rising { IfOk result (λ r. IfSome r (λ s. DoRise (campaigns_of s.live))) }
         ensures few { IfOk result (λ r. IfSome r (λ s. conjunctions_in (campaigns_of s.live) ≤ 1000000)) }
@@ -40,11 +38,19 @@ impl<D: Disk> ExchangeState<D> {
     {
         let table = self.core.table();
         let since = table.edits().saturating_sub(edit_of(&self.version));
-        if since < EDITS_DUE {
+        if since < after {
             return Ok(None);
         }
         let snapshot = snapshot_of(table)?;
         Ok(Some(snapshot))
+    }
+
+    /// How many edits came behind the ticket's version.
+    pub fn behind(&self, ticket: &Ticket) -> u64
+        ensures { (o : AnOrigin) (l : AList AnEntry) → StandsFor o self.now l → result ≡ edits_after o (calls l) - (version_in ticket.now).edit }
+    {
+        let edits = self.core.table().edits();
+        edits.saturating_sub(edit_of(&ticket.version))
     }
 
     /// Makes the version the present one, where its edit number is above that of the present one. The edits since the

@@ -28,6 +28,9 @@ returns-in-Ok-clause-cost g c r l is at =
     (subst (λ (o : Origin). c.settle-settled.new.steps ≤ c.args.steps.now + settled_cost o c.enter-seat.result.0.seen (version_in c.args.ticket).edit r) org
     (c.settle-settled.ensures.cost _ _ r c.enter-seat.ensures.value is))
 
+pub leave-requires-clause-value : goal.leave-requires-clause-value
+leave-requires-clause-value g c = c.in-Err.ensures.unsettled c.enter-seat.result.0.origin c.enter-seat.result.0.seen c.enter-seat.ensures.value
+
 pub returns-in-Err-clause-seat : goal.returns-in-Err-clause-seat
 returns-in-Err-clause-seat g c = still _ _ _ c.requires.seat (waits _ _ _ c.enter-seat.ensures.seat c.leave.ensures)
 
