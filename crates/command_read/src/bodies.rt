@@ -7,6 +7,7 @@ ghost use Rattle.exact_json.specs.Docs.{doc_tree};
 
 use crate::fault::CommandFault;
 use crate::refusals::{campaign_refusal, json_refusal, refuse, request_refusal};
+use crate::rooms::Rooms;
 use bumpalo::Bump;
 use campaign::Facts;
 use campaign_read::read_campaign;
@@ -17,7 +18,23 @@ use std::alloc::Global;
 use target_expr::Expr;
 
 /// The auction that the body asks for, or the first fault of the body.
-pub(crate) fn request_command(alloc: Global, body: &[u8]) -> Result<Command, CommandFault>
+pub(crate) fn request_command(
+    alloc: Global,
+    rooms: &mut Rooms,
+    body: &[u8],
+) -> Result<Command, CommandFault>
+    ensures { UnlessMemory (IsOfBody request_command body.now) result }
+{
+    if !rooms.serves(body) {
+        return lone_request(alloc, body);
+    }
+    let command = request_text(alloc, rooms.arena(), body);
+    rooms.clear(alloc);
+    command
+}
+
+// The same in a room of its own.
+fn lone_request(alloc: Global, body: &[u8]) -> Result<Command, CommandFault>
     ensures { UnlessMemory (IsOfBody request_command body.now) result }
 {
     let arena = Bump::try_with_capacity(alloc, room_for(body.len()))?;
@@ -48,9 +65,22 @@ fn request_in(alloc: Global, doc: &Doc<'_>) -> Result<Command, CommandFault>
 /// the body.
 pub(crate) fn campaign_command(
     alloc: Global,
+    rooms: &mut Rooms,
     changed: Option<u64>,
     body: &[u8],
 ) -> Result<Command, CommandFault>
+    ensures { UnlessMemory (IsOfBody (campaign_command (add_or_change changed)) body.now) result }
+{
+    if !rooms.serves(body) {
+        return lone_campaign(alloc, changed, body);
+    }
+    let command = campaign_text(alloc, rooms.arena(), changed, body);
+    rooms.clear(alloc);
+    command
+}
+
+// The same in a room of its own.
+fn lone_campaign(alloc: Global, changed: Option<u64>, body: &[u8]) -> Result<Command, CommandFault>
     ensures { UnlessMemory (IsOfBody (campaign_command (add_or_change changed)) body.now) result }
 {
     let arena = Bump::try_with_capacity(alloc, room_for(body.len()))?;

@@ -10,6 +10,8 @@ mod numbers;
 mod paths;
 mod read;
 mod refusals;
+mod rooms;
 
 pub use fault::CommandFault;
-pub use read::{message_has_one_reading, read_command};
+pub use read::{message_has_one_reading, read_command, read_command_in};
+pub use rooms::Rooms;

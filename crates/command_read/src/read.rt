@@ -14,6 +14,7 @@ use crate::fault::CommandFault;
 use crate::methods::{Method, method_of, takes};
 use crate::paths::{Route, path_of, route_of};
 use crate::refusals::{not_allowed, not_found, refuse};
+use crate::rooms::Rooms;
 use exact_json::{bytes_have_one_fault, text_has_one_tree};
 use http_wire::{Allow, Message};
 use plain_exchange::Command;
@@ -25,22 +26,41 @@ use std::alloc::Global;
 ///
 /// A number in a path is from 1 to 2^64 - 1 and has no zero in front. What stands behind the first `?` plays no
 /// part, and neither does the body of a message whose command has none.
-#[tactic(auto, using(crate::proofs::Refused::refusals_are_writable, crate::proofs::Valid::requests_are_valid))]
+///
+/// `read_command_in` is for who reads one message after the other.
 pub fn read_command(alloc: Global, message: &Message) -> Result<Command, CommandFault>
     ensures read { UnlessMemory (IsCommandOf message.now) result }
     ensures valid { (request : BidRequest) → result ≡ Ok (command.Auction request) → IsTrue (is_valid request) }
     ensures writable { IfErr result (IfRefused IsWritable) }
 {
-    command_in(alloc, message)
+    let mut rooms = Rooms::of_none(alloc);
+    let command = read_command_in(alloc, &mut rooms, message);
+    drop(rooms);
+    command
 }
 
-fn command_in(alloc: Global, message: &Message) -> Result<Command, CommandFault>
+/// The same, where the body is read in a room that is kept from message to message.
+#[tactic(auto, using(crate::proofs::Refused::refusals_are_writable, crate::proofs::Valid::requests_are_valid))]
+pub fn read_command_in(
+    alloc: Global,
+    rooms: &mut Rooms,
+    message: &Message,
+) -> Result<Command, CommandFault>
+    ensures read { UnlessMemory (IsCommandOf message.now) result }
+    ensures valid { (request : BidRequest) → result ≡ Ok (command.Auction request) → IsTrue (is_valid request) }
+    ensures writable { IfErr result (IfRefused IsWritable) }
+{
+    command_in(alloc, rooms, message)
+}
+
+fn command_in(alloc: Global, rooms: &mut Rooms, message: &Message) -> Result<Command, CommandFault>
     ensures { UnlessMemory (IsCommandOf message.now) result }
 {
     match method_of(message.method.as_bytes()) {
         None => refuse(Ok(not_allowed(alloc, Allow::GetPost))),
         Some(method) => path_command(
             alloc,
+            rooms,
             route_of(path_of(message.target.as_bytes())),
             method,
             message.body.as_bytes(),
@@ -51,6 +71,7 @@ fn command_in(alloc: Global, message: &Message) -> Result<Command, CommandFault>
 // What is asked for at a path, where it is listed.
 fn path_command(
     alloc: Global,
+    rooms: &mut Rooms,
     route: Option<Route>,
     method: Method,
     body: &[u8],
@@ -63,11 +84,12 @@ fn path_command(
     if !takes(route.methods(), method) {
         return refuse(Ok(not_allowed(alloc, route.methods())));
     }
-    route_command(alloc, route, method, body)
+    route_command(alloc, rooms, route, method, body)
 }
 
 fn route_command(
     alloc: Global,
+    rooms: &mut Rooms,
     route: Route,
     method: Method,
     body: &[u8],
@@ -75,11 +97,11 @@ fn route_command(
     ensures { UnlessMemory (IsOfRoute route method body.now) result }
 {
     match route {
-        Route::Auction => request_command(alloc, body),
-        Route::Campaigns => campaign_command(alloc, None, body),
+        Route::Auction => request_command(alloc, rooms, body),
+        Route::Campaigns => campaign_command(alloc, rooms, None, body),
         Route::Campaign(n) => match method {
             Method::Get => Ok(Command::Report(n)),
-            Method::Post => campaign_command(alloc, Some(n), body),
+            Method::Post => campaign_command(alloc, rooms, Some(n), body),
         },
         Route::Pause(n) => Ok(Command::Pause(n)),
         Route::Resume(n) => Ok(Command::Resume(n)),

@@ -63,13 +63,19 @@ entered_at c moment s m t x g e = record {
   upto = e.upto;
 }
 
+pub entered_behind : {E : Type 0} (c : Command) (moment : ℕ) (s m t : Seat) (r : Result Settled E) → Goes [] 0 s m → IfOk r (Entered c moment m t) → IfOk r (Entered c moment s t)
+entered_behind c moment s m t (Ok x) g e = entered_at c moment s m t x g e
+entered_behind c moment s m t (Err f) g e = tt
+
+pub not_entered_behind : {T E : Type 0} (s m t : Seat) (r : Result T E) → Goes [] 0 s m → OnErr r (Goes [] 0 m t) → OnErr r (Goes [] 0 s t)
+not_entered_behind s m t (Ok x) f g = tt
+not_entered_behind s m t (Err e) f g = goes_on [] [] 0 0 s m t f g
+
 pub entered_later : {E : Type 0} (c : Command) (moment : ℕ) (s m t : Seat) (r : Result Settled E) → Waits s m → IfOk r (Entered c moment m t) → IfOk r (Entered c moment s t)
-entered_later c moment s m t (Ok x) w e = entered_at c moment s m t x (goes_waits s m w) e
-entered_later c moment s m t (Err f) w e = tt
+entered_later c moment s m t r w e = entered_behind c moment s m t r (goes_waits s m w) e
 
 pub not_entered_later : {T E : Type 0} (s m t : Seat) (r : Result T E) → Waits s m → OnErr r (Goes [] 0 m t) → OnErr r (Goes [] 0 s t)
-not_entered_later s m t (Ok x) w g = tt
-not_entered_later s m t (Err e) w g = goes_on [] [] 0 0 s m t (goes_waits s m w) g
+not_entered_later s m t r w g = not_entered_behind s m t r (goes_waits s m w) g
 
 -- ---- one message
 

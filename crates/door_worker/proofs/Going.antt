@@ -69,9 +69,9 @@ goes_gains e came s t by call failure g =
 pub goes_called : (s t : Seat) (command : Command) (moment : ℕ) (reply : Reply) → Gains (called s.worker command moment reply) s t → Goes (call_at s.worker command moment reply ∷ []) 0 s t
 goes_called s t command moment reply g = goes_gains (called s.worker command moment reply) (call_at s.worker command moment reply ∷ []) s t refl refl refl g
 
-pub goes_publishes : (s t : Seat) (p : Published) → Publishes s t p → Goes [] 0 s t
-goes_publishes s t (answer.New edit) p = goes_gains (published_at s.worker edit) [] s t refl refl refl p.0
-goes_publishes s t (answer.Kept edit) p = goes_waits s t p.0
+pub goes_publishes : (after : ℕ) (s t : Seat) (p : Published) → Publishes after s t p → Goes [] 0 s t
+goes_publishes after s t (answer.New edit) p = goes_gains (published_at s.worker edit) [] s t refl refl refl p.0
+goes_publishes after s t (answer.Kept edit) p = goes_waits s t p.0
 
 one_call : (v : ℕ) (x : Event) → IsWriting x → calls (record { worker = v; event = x } ∷ []) ≡ []
 one_call v (event.Called command moment reply) w = absurd w
@@ -185,16 +185,16 @@ published_with s t g lt = subst (λ (u : Seat). IsPublished 0 u.worker u.origin 
 })
 
 -- the worker has published, or no version was due
-pub published_now : (s t : Seat) (p : Published) → Publishes s t p → IsPublished 0 t.worker t.origin t.seen
+pub published_now : (s t : Seat) (p : Published) → Publishes 2048 s t p → IsPublished 0 t.worker t.origin t.seen
 published_now s t (answer.New edit) p =
     let g = p.0 in
     let last : published t.origin t.seen ≡ edit = ap (λ (l : List Entry). published t.origin l) (ap (λ (u : Seat). u.seen) g.same) ∙ published_last t.origin (s.seen ++ g.more) s.worker edit in
     let above : edits_after s.origin (calls s.seen) ≤ edit = p.1 in
-    published_with s t (goes_publishes s t (answer.New edit) p) (omega (arith, last, above))
+    published_with s t (goes_publishes 2048 s t (answer.New edit) p) (omega (arith, last, above))
 published_now s t (answer.Kept edit) p =
     let last : edit ≡ published t.origin t.seen = p.1 in
     let above : edits_after s.origin (calls s.seen) < edit + 2048 = p.2 in
-    published_with s t (goes_publishes s t (answer.Kept edit) p) (omega (arith, last, above))
+    published_with s t (goes_publishes 2048 s t (answer.Kept edit) p) (omega (arith, last, above))
 
 pub published_more : (n w : ℕ) (o : Origin) (c : List Call) (l more : List Entry) → mine w (calls more) ≡ c → IsPublished n w o l → IsPublished (n + length c) w o (l ++ more)
 published_more n w o c l more calls_are p = record {
@@ -211,9 +211,9 @@ pub published_on : (n : ℕ) (c : List Call) (i : ℕ) (s t : Seat) → Goes c i
 published_on n c i s t g p = subst (λ (u : Seat). IsPublished (n + length c) u.worker u.origin u.seen) (sym g.same) (published_more n s.worker s.origin c s.seen g.more g.calls_are p)
 
 -- what `republish` answers
-pub goes_republished : {E : Type 0} (s t : Seat) (r : Result Published E) → IfOk r (Publishes s t) → OnErr r (Waits s t) → Goes [] 0 s t
-goes_republished s t (Ok p) is w = goes_publishes s t p is
-goes_republished s t (Err e) is w = goes_waits s t w
+pub goes_republished : {E : Type 0} (after : ℕ) (s t : Seat) (r : Result Published E) → IfOk r (Publishes after s t) → OnErr r (Waits s t) → Goes [] 0 s t
+goes_republished after s t (Ok p) is w = goes_publishes after s t p is
+goes_republished after s t (Err e) is w = goes_waits s t w
 
-pub published_ok : {E : Type 0} (s t : Seat) (r : Result Published E) (p : Published) → r ≡ Ok p → IfOk r (Publishes s t) → IsPublished 0 t.worker t.origin t.seen
-published_ok {E} s t r p is ok = published_now s t p (subst (λ (x : Result Published E). IfOk x (Publishes s t)) is ok)
+pub published_ok : {E : Type 0} (s t : Seat) (r : Result Published E) (p : Published) → r ≡ Ok p → IfOk r (Publishes 2048 s t) → IsPublished 0 t.worker t.origin t.seen
+published_ok {E} s t r p is ok = published_now s t p (subst (λ (x : Result Published E). IfOk x (Publishes 2048 s t)) is ok)

@@ -7,6 +7,7 @@ ghost use Rattle.rtb_base.specs.Faults.{RisesOnlyWhere};
 
 use crate::desk::{Desk, converse};
 use crate::worker::{Tools, Worker};
+use command_read::Rooms;
 use conj_index::Scratch;
 use exchange_shared::{Exchange, Seat};
 use link_door::{Door, Pause};
@@ -60,14 +61,17 @@ pub fn serve_door<D: Disk, R: Wait, G: Door, P: Pause>(
         exchange,
         seat: Some(seat),
         scratch: Scratch::new(alloc),
+        rooms: Rooms::new(alloc),
     };
     let end = serve_links(&tools, &mut worker, door);
     let Worker {
         exchange: _,
         seat,
         scratch,
+        rooms,
     } = worker;
     drop(scratch);
+    drop(rooms);
     match seat {
         Some(seat) => (seat, end),
         None => unreachable!(),

@@ -15,7 +15,7 @@ ghost use Rattle.session.specs.Talk.{IsGivable};
 use crate::commands::{given_for, given_unread, is_edit, request_in};
 use crate::worker::Tools;
 use auction_core::{Command, Reply};
-use command_read::read_command;
+use command_read::{Rooms, read_command_in};
 use conj_index::Scratch;
 use exchange_shared::{Exchange, Found, Seat, Settled, StoreFailed, Ticket};
 use http_wire::Message;
@@ -29,12 +29,17 @@ use std::marker::Brand;
 use std::sync::Wait;
 use std::sync::ledger::{Blank, Ledger};
 
-/// Answers the message, which is taken up at the moment. Campaigns are found in the room.
+// How many edits may stand behind the present version when an edit is answered.
+const EDITS_DUE: u64 = 2048;
+
+/// Answers the message, which is taken up at the moment. Campaigns are found in the one room, and a body is read in
+/// the other.
 #[tactic(auto, using(crate::proofs::Answering::valid_as_read))]
 pub(crate) fn answer<'e, D: Disk, R: Wait, P: Pause>(
     exchange: &Exchange<D>,
     tools: &Tools<'e, R, P>,
     scratch: &mut Scratch,
+    rooms: &mut Rooms,
     seat: Seat<D>,
     message: &Message,
     moment: u64,
@@ -44,7 +49,7 @@ pub(crate) fn answer<'e, D: Disk, R: Wait, P: Pause>(
     ensures answers { AnswersOne tools.now.public.now moment seat message.now result.1 result.0 }
     ensures writable { IsGivable result.1 }
 {
-    match read_command(tools.alloc, message) {
+    match read_command_in(tools.alloc, rooms, message) {
         Ok(command) => {
             let answered = answer_command(exchange, tools, scratch, seat, &command, moment);
             drop(command);
@@ -97,8 +102,52 @@ fn enter<'e, D: Disk, R: Wait, P: Pause>(
     }
 }
 
-// Sells over the campaigns that are found in the present version.
+// Sells over the campaigns that are found in the present version, which is a new one where that pays.
 fn sell<'e, D: Disk, R: Wait, P: Pause>(
+    exchange: &Exchange<D>,
+    tools: &Tools<'e, R, P>,
+    scratch: &mut Scratch,
+    seat: Seat<D>,
+    command: &Command,
+    request: &BidRequest,
+    moment: u64,
+) -> (Seat<D>, Result<Settled, AllocError>)
+    requires seat { MayCall (lock_of exchange.now) seat }
+    requires valid { IsTrue (is_valid_command command.now) }
+    requires auction { command.now ≡ AnAuction request.now }
+    ensures seat { MayCall (lock_of exchange.now) result.0 }
+    ensures entered { IfOk result.1 (Entered command.now moment seat result.0) }
+    ensures none { OnErr result.1 (Goes [] 0 seat result.0) }
+    ensures order { IsOrdered result.0.origin result.0.seen }
+{
+    let seat = renew::<D, R, P, Brand>(exchange, tools, seat, Blank::new(1));
+    sell_found(exchange, tools, scratch, seat, command, request, moment)
+}
+
+// Publishes a version where the present one is worn. Where memory is short, the present one serves on.
+fn renew<'e, D: Disk, R: Wait, P: Pause, L: Ledger>(
+    exchange: &Exchange<D>,
+    tools: &Tools<'e, R, P>,
+    seat: Seat<D>,
+    blank: Blank,
+) -> Seat<D>
+    requires name { blank.name ≡ L.name }
+    requires parts { blank.parts ≡ L.parts }
+    requires some { 0 < blank.parts }
+    requires seat { MayCall (lock_of exchange.now) seat }
+    ensures seat { MayCall (lock_of exchange.now) result }
+    ensures goes { Goes [] 0 seat result }
+{
+    if !exchange.is_worn() {
+        return seat;
+    }
+    let mut steps = Steps::<L>::new(blank);
+    let (seat, _) = exchange.republish(tools.rt, tools.alloc, seat, 1, &mut steps);
+    seat
+}
+
+// Sells over the campaigns that are found in the present version.
+fn sell_found<'e, D: Disk, R: Wait, P: Pause>(
     exchange: &Exchange<D>,
     tools: &Tools<'e, R, P>,
     scratch: &mut Scratch,
@@ -295,7 +344,7 @@ fn publish_edit<'e, D: Disk, R: Wait, P: Pause, L: Ledger>(
         return (seat, Ok(()));
     }
     let mut steps = Steps::<L>::new(blank);
-    let (seat, published) = exchange.republish(tools.rt, tools.alloc, seat, &mut steps);
+    let (seat, published) = exchange.republish(tools.rt, tools.alloc, seat, EDITS_DUE, &mut steps);
     match published {
         Ok(_) => (seat, Ok(())),
         Err(AllocError) => (seat, Err(AllocError)),

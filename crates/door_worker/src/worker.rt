@@ -4,6 +4,7 @@ ghost use Rattle.door_worker.specs.Working.{AnswersBy};
 ghost use Rattle.session.specs.Talk.{IsGivable};
 
 use crate::messages::answer;
+use command_read::Rooms;
 use conj_index::Scratch;
 use exchange_shared::{Exchange, Seat};
 use http_wire::Message;
@@ -26,12 +27,13 @@ pub(crate) struct Tools<'e, R: Wait, P: Pause> {
     pub number: u32,
 }
 
-// An exchange, the worker's seat at it, and the room in which it finds.
+// An exchange, the worker's seat at it, the room in which it finds, and that in which it reads bodies.
 pub(crate) struct Worker<'e, D: Disk> {
     pub exchange: &'e Exchange<D>,
     // None while a call has it.
     pub seat: Option<Seat<D>>,
     pub scratch: Scratch,
+    pub rooms: Rooms,
 }
 
 impl<'e, D: Disk> Model for Worker<'e, D> {
@@ -65,6 +67,7 @@ impl<'e, D: Disk> Worker<'e, D> {
             self.exchange,
             tools,
             &mut self.scratch,
+            &mut self.rooms,
             seat,
             message,
             moment,
