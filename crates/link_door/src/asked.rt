@@ -12,8 +12,8 @@ pub enum Asked {
     Disk { path: Txt },
     /// The same, to be read alone.
     DiskToRead { path: Txt },
-    /// So many doors at this address.
-    Doors { address: Txt, n: u32 },
+    /// So many doors at this address, whose links wait for their peers so many milliseconds.
+    Doors { address: Txt, n: u32, patience: u64 },
 }
 
 /// Notes that a disk is asked for. Where memory is refused the list is as it was.
@@ -35,10 +35,19 @@ pub(crate) fn note_disk_to_read(asked: &mut List<Asked>, path: &Txt) -> Result<(
 }
 
 /// Notes that doors are asked for. Where memory is refused the list is as it was.
-pub(crate) fn note_doors(asked: &mut List<Asked>, address: &Txt, n: u32) -> Result<(), AllocError>
-    ensures ok { OnOk result (asked.new ≡ asked.old ++ asked_for.Doors address.now n ∷ []) }
+pub(crate) fn note_doors(
+    asked: &mut List<Asked>,
+    address: &Txt,
+    n: u32,
+    patience: u64,
+) -> Result<(), AllocError>
+    ensures ok { OnOk result (asked.new ≡ asked.old ++ asked_for.Doors address.now n patience ∷ []) }
     ensures err { OnErr result (asked.new ≡ asked.old) }
 {
     let address = address.copy()?;
-    asked.push(Asked::Doors { address, n })
+    asked.push(Asked::Doors {
+        address,
+        n,
+        patience,
+    })
 }

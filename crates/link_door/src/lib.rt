@@ -7,6 +7,7 @@
 
 mod asked;
 mod door;
+mod entrance;
 mod link;
 mod memory_door;
 mod memory_link;

@@ -17,8 +17,9 @@ pub trait Link {
     ghost faults: { Self → ℕ };
 
     /// Moves bytes that are left to the front of `out`, and tells how many: none only at the end,
-    /// or where `out` is empty. A read that fails takes nothing.
-    fn read(&mut self, out: &mut [u8]) -> Result<usize, Failed>
+    /// or where `out` is empty. A read that fails takes nothing. `inside` tells that a message has begun
+    /// that is not whole: a link whose reads wait for a peer need not wait where none has.
+    fn read(&mut self, out: &mut [u8], inside: bool) -> Result<usize, Failed>
         ensures bound { ReadsAtMost result out.new }
         ensures bytes { ReadConsumes (left self.old) (left self.new) result out.new }
         ensures sent { sent self.new ≡ sent self.old }

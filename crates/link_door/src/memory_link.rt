@@ -69,7 +69,7 @@ impl Link for MemLink {
 
     ghost faults = { λ l. l.calls.faults };
 
-    fn read(&mut self, out: &mut [u8]) -> Result<usize, Failed>
+    fn read(&mut self, out: &mut [u8], _: bool) -> Result<usize, Failed>
         ensures bound { ReadsAtMost result out.new }
         ensures bytes { ReadConsumes (Some self.old.left) (Some self.new.left) result out.new }
         ensures sent { self.new.sent ≡ self.old.sent }

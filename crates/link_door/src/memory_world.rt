@@ -84,12 +84,18 @@ impl World for MemWorld {
 
     ghost faults = { λ w. w.calls.faults };
 
-    fn doors(&mut self, _: Global, address: &Txt, n: u32) -> Result<List<MemDoor>, WorldFault> {
+    fn doors(
+        &mut self,
+        _: Global,
+        address: &Txt,
+        n: u32,
+        patience: u64,
+    ) -> Result<List<MemDoor>, WorldFault> {
         if self.calls.begin() || self.doors.len() < n as usize {
             self.calls.count_fault();
             return Err(WorldFault::Failed);
         }
-        note_doors(&mut self.asked, address, n)?;
+        note_doors(&mut self.asked, address, n, patience)?;
         take_front(&mut self.doors, n as usize)
     }
 

@@ -10,11 +10,8 @@ use rtb_num::{Failed, List, Txt};
 use std::alloc::{AllocError, Global};
 use std::fs::{self, File, OpenOptions, TryLockError};
 use std::io::Write;
-use std::net::TcpListener;
+use std::net::{TcpListener, ToSocketAddrs};
 use std::time::Duration;
-
-// How many milliseconds a peer may take for a message, and to take a byte of an answer.
-const PATIENCE: u64 = 60_000;
 
 /// The network, the files and the clock of the system.
 ///
@@ -71,13 +68,14 @@ impl<'r> World for OsWorld<'r> {
         alloc: Global,
         address: &Txt,
         n: u32,
+        patience: u64,
     ) -> Result<List<TcpDoor<&'r HostRuntime>>, WorldFault> {
-        note_doors(&mut self.asked, address, n)?;
+        note_doors(&mut self.asked, address, n, patience)?;
         let Some(listener) = listen(self.rt, address) else {
             self.count_fault();
             return Err(WorldFault::Failed);
         };
-        match doors_over(alloc, self.rt, &listener, n) {
+        match doors_over(alloc, self.rt, listener, n, patience) {
             Err(WorldFault::Failed) => {
                 self.count_fault();
                 Err(WorldFault::Failed)
@@ -107,27 +105,42 @@ impl<'r> World for OsWorld<'r> {
     }
 }
 
+// The first address of the name that can be listened at. As many links wait with the system as it allows.
 fn listen(rt: &HostRuntime, address: &Txt) -> Option<TcpListener> {
     let address = str::from_utf8(address.as_bytes()).ok()?;
-    TcpListener::bind(rt, address).ok()
+    for found in address.to_socket_addrs(rt).ok()? {
+        if let Ok(listener) = mio::net::TcpListener::bind(rt, found) {
+            return Some(TcpListener::from(listener));
+        }
+    }
+    None
 }
 
-// So many doors over clones of the listener.
+// So many doors over the listener.
 fn doors_over<'r>(
     alloc: Global,
     rt: &'r HostRuntime,
-    listener: &TcpListener,
+    listener: TcpListener,
     n: u32,
+    patience: u64,
 ) -> Result<List<TcpDoor<&'r HostRuntime>>, WorldFault>
     ensures { IfOk result (λ doors. length doors ≡ n) }
 {
     let mut doors = List::new(alloc);
-    for _ in 0..n {
-        let Ok(clone) = listener.try_clone() else {
+    if n == 0 {
+        return Ok(doors);
+    }
+    let patience = Duration::from_millis(patience.max(1));
+    let Ok(first) = TcpDoor::new(alloc, rt, listener, rt, patience) else {
+        return Err(WorldFault::Failed);
+    };
+    for _ in 1..n {
+        let Ok(door) = first.beside(alloc, rt) else {
             return Err(WorldFault::Failed);
         };
-        doors.push(TcpDoor::new(clone, rt, Duration::from_millis(PATIENCE)))?;
+        doors.push(door)?;
     }
+    doors.push(first)?;
     Ok(doors)
 }
 

@@ -49,17 +49,18 @@ pub trait World {
     ghost faults: { Self → ℕ };
 
     /// So many doors, which share an address. `address` is a name or a number of a host and a port, as
-    /// `127.0.0.1:8080`.
+    /// `127.0.0.1:8080`. Their links fail where a peer takes longer than `patience`, in milliseconds, 1 at least.
     fn doors(
         &mut self,
         alloc: Global,
         address: &Txt,
         n: u32,
+        patience: u64,
     ) -> Result<List<Self::Door>, WorldFault>
         ensures count { IfOk result (λ doors. length doors ≡ n) }
         ensures doors { MatchResult result (HandsOut (doors_left self.old) (doors_left self.new)) (λ _. doors_left self.new ≡ doors_left self.old) }
         ensures disks { disks_left self.new ≡ disks_left self.old }
-        ensures asks { Asks (asked self.old) (asked self.new) (asked_for.Doors address.now n) result }
+        ensures asks { Asks (asked self.old) (asked self.new) (asked_for.Doors address.now n patience) result }
         ensures cause { RisesOnlyWhere (result ≡ Err WorldFault.Failed) (faults self.old) (faults self.new) }
         ensures once { RoseAtMost 1 (faults self.old) (faults self.new) };
 

@@ -24,6 +24,10 @@ use Rattle.run_words.specs.declared.follow.FollowOptions.{FollowOptions}
 abbrev pub follow_line : List ℕ
 follow_line = codes "following\n"
 
+-- how many milliseconds a link waits for its peer
+abbrev pub follow_patience : ℕ
+follow_patience = 60000
+
 -- how a run ends behind the serving of the door
 abbrev pub EndsFollowed : Result Unit Failed → Option (List ℕ) → Option (List ℕ) → ℕ → Type 0
 EndsFollowed (Ok _) written written' code = (code ≡ code_of status.Done) × (written' ≡ written)
@@ -65,9 +69,9 @@ pub data Follows {World Disk Door Link : Type 0} (W : WorldGhosts World Door Dis
     (w w' : World) (written written' : Option (List ℕ)) (code : ℕ) (doors' : List Door) (back : Option Disk) : Type 0 where
   no_disk : GivesNoDiskToRead W options.journal w w' → doors' ≡ [] → back ≡ None → EndsBy status.NoDisk written written' code
       → Follows W G H K options w w' written written' code doors' back
-  no_door : (disk : Disk) (between : World) → GivesDiskToRead W options.journal w between disk → (fault : WorldFault) → GivesNoDoors W options.listen 1 between w' fault
+  no_door : (disk : Disk) (between : World) → GivesDiskToRead W options.journal w between disk → (fault : WorldFault) → GivesNoDoors W options.listen 1 follow_patience between w' fault
       → doors' ≡ [] → back ≡ Some disk → EndsWithoutDoors fault written written' code
       → Follows W G H K options w w' written written' code doors' back
-  followed : (disk disk' : Disk) (between : World) (door door' : Door) → GivesDiskToRead W options.journal w between disk → GivesDoors W options.listen 1 between w' (door ∷ [])
+  followed : (disk disk' : Disk) (between : World) (door door' : Door) → GivesDiskToRead W options.journal w between disk → GivesDoors W options.listen 1 follow_patience between w' (door ∷ [])
       → Reports G H K disk disk' door door' written written' code → doors' ≡ door' ∷ [] → back ≡ Some disk'
       → Follows W G H K options w w' written written' code doors' back

@@ -42,17 +42,17 @@ module _ {World Door Disk Link : Type 0} (W : Ghosts World Door Disk Link) where
   abbrev pub GivesNoDiskToRead : List ℕ → World → World → Type 0
   GivesNoDiskToRead path = GivesNone (asked_for.DiskToRead path)
 
-  -- it was asked for so many doors at the address, and gave these
-  pub record GivesDoors (address : List ℕ) (n : ℕ) (w w' : World) (doors : List Door) : Type 0 where
+  -- it was asked for so many doors at the address, whose links wait so long for their peers, and gave these
+  pub record GivesDoors (address : List ℕ) (n patience : ℕ) (w w' : World) (doors : List Door) : Type 0 where
     pub count : length doors ≡ n
-    pub asked : W.asked w' ≡ W.asked w ++ asked_for.Doors address n ∷ []
+    pub asked : W.asked w' ≡ W.asked w ++ asked_for.Doors address n patience ∷ []
     pub doors_are : HandsOut (W.doors_left w) (W.doors_left w') doors
     pub disks : W.disks_left w' ≡ W.disks_left w
     pub faults : W.faults w' ≡ W.faults w
 
   -- it was asked for them, or for nothing, and gave none
-  pub record GivesNoDoors (address : List ℕ) (n : ℕ) (w w' : World) (fault : WorldFault) : Type 0 where
-    pub asked : AsksAtMost (W.asked w) (W.asked w') (asked_for.Doors address n)
+  pub record GivesNoDoors (address : List ℕ) (n patience : ℕ) (w w' : World) (fault : WorldFault) : Type 0 where
+    pub asked : AsksAtMost (W.asked w) (W.asked w') (asked_for.Doors address n patience)
     pub doors : W.doors_left w' ≡ W.doors_left w
     pub disks : W.disks_left w' ≡ W.disks_left w
     pub faults : HasFailed fault (W.faults w) (W.faults w')

@@ -19,6 +19,9 @@ use run_words::FollowOptions;
 use std::alloc::Global;
 use std::sync::Wait;
 
+// How many milliseconds a link waits for its peer.
+const PATIENCE: u64 = 60_000;
+
 /// Runs the command `follow`: opens a door, says that it follows, and answers the links that come through it, one after
 /// the other, with reports of what the journal says by then, until no more will come. It writes no byte to the journal.
 ///
@@ -61,7 +64,7 @@ fn follow_disk<W: World, K: Sink, R: Wait>(
     ensures past { result.past ≡ None }
     ensures cause { RisesOnlyWhere (result.status ≡ code_of NotWritten) (K.faults sink.old) (K.faults sink.new) }
 {
-    match world.doors(alloc, &options.listen, 1) {
+    match world.doors(alloc, &options.listen, 1, PATIENCE) {
         Ok(doors) => {
             let (door, room) = only_item(doors);
             let ended = announce(alloc, sink, rt, disk, door);

@@ -182,7 +182,12 @@ fn serve_exchange<'a, W: World, P: Pause + Sync, K: Sink, R: Threads + Wait + Sy
     ensures cause { RisesOnlyWhere (result.status ≡ code_of NotWritten) (K.faults sink.old) (K.faults sink.new) }
 {
     let workers = workers_of(tools.options);
-    match world.doors(tools.alloc, &tools.options.listen, workers) {
+    match world.doors(
+        tools.alloc,
+        &tools.options.listen,
+        workers,
+        tools.options.patience,
+    ) {
         Ok(doors) => {
             let ended = announce(tools, sink, exchange, seat, doors);
             let Ended {

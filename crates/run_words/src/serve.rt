@@ -26,6 +26,8 @@ pub struct ServeOptions {
     pub workers: u64,
     /// How many milliseconds a sale is held: 1 to 31,536,000,000, a year.
     pub ttl: u64,
+    /// How many milliseconds a link waits for its peer: 1 to 3,600,000, an hour.
+    pub patience: u64,
 }
 
 /// The options that the words give, of which the first is the command's name.
@@ -60,24 +62,26 @@ fn options(alloc: Global, matches: &ArgMatches<'_>) -> Result<ServeOptions, Word
     let journal = option_text(alloc, matches, "journal")?;
     let public = option_text(alloc, matches, "public")?;
     match numbers(matches) {
-        Some((workers, ttl)) => Ok(ServeOptions {
+        Some((workers, ttl, patience)) => Ok(ServeOptions {
             listen,
             journal,
             public,
             workers,
             ttl,
+            patience,
         }),
         None => Err(WordsFault::Usage),
     }
 }
 
-// How many workers, and for how many milliseconds a sale is held.
-fn numbers(matches: &ArgMatches<'_>) -> Option<(u64, u64)>
+// How many workers, for how many milliseconds a sale is held, and for how many a link waits for its peer.
+fn numbers(matches: &ArgMatches<'_>) -> Option<(u64, u64, u64)>
     ensures { result ≡ serve_numbers (rows_of (found_of matches.now)) }
 {
     let workers = number(matches, "workers")?;
     let ttl = number(matches, "ttl")?;
-    Some((workers, ttl))
+    let patience = number(matches, "patience")?;
+    Some((workers, ttl, patience))
 }
 
 const LISTEN_HELP: &str = "The host and the port to listen at, from 1 to 65535, as 127.0.0.1:8080";
@@ -99,6 +103,12 @@ const MAX_TTL: u64 = 31_536_000_000;
 const TTL_HELP: &str =
     "For how many milliseconds a sale waits for its notice, as 300000, up to a year";
 
+/// An hour, in milliseconds.
+const MAX_PATIENCE: u64 = 3_600_000;
+
+const PATIENCE_HELP: &str =
+    "For how many milliseconds a link waits for its peer, as 60000, up to an hour";
+
 /// The command, as `clap` reads it.
 pub(crate) fn serve_command<'a>(alloc: Global) -> Result<Command<'a>, AllocError>
     ensures { IfOk result (λ c. app_of c ≡ serve_app) }
@@ -108,7 +118,8 @@ pub(crate) fn serve_command<'a>(alloc: Global) -> Result<Command<'a>, AllocError
     let public = text_option(alloc, "public", PUBLIC_HELP);
     let workers = workers_option(alloc);
     let ttl = ttl_option(alloc);
-    let options = vec![in alloc; listen, journal, public, workers, ttl]?;
+    let patience = patience_option(alloc);
+    let options = vec![in alloc; listen, journal, public, workers, ttl, patience]?;
     Command::new(alloc, "serve").args(options)
 }
 
@@ -126,4 +137,12 @@ fn ttl_option<'a>(alloc: Global) -> Arg<'a>
     ensures local { result.global ≡ false }
 {
     number_option(alloc, "ttl", 1, MAX_TTL, "300000", TTL_HELP)
+}
+
+// How long a link waits for its peer: a minute, where it is not given.
+fn patience_option<'a>(alloc: Global) -> Arg<'a>
+    ensures rule { rule_of result ≡ number_between 1 3600000 (codes "60000") (codes "patience") }
+    ensures local { result.global ≡ false }
+{
+    number_option(alloc, "patience", 1, MAX_PATIENCE, "60000", PATIENCE_HELP)
 }

@@ -81,7 +81,8 @@ impl Input {
             self.end -= self.start;
             self.start = 0;
         }
-        let n = read_behind(link, self.room.as_mut_slice(), self.end)?;
+        let inside = self.start < self.end;
+        let n = read_behind(link, self.room.as_mut_slice(), self.end, inside)?;
         self.end += n;
         Ok(n)
     }
@@ -98,8 +99,13 @@ fn is_far(start: usize, least: usize) -> bool
     start > 0 && (room < least || room < NEAR)
 }
 
-// Reads behind the first bytes.
-fn read_behind<L: Link>(link: &mut L, room: &mut [u8], end: usize) -> Result<usize, Failed>
+// Reads behind the first bytes, some of which may be of a message.
+fn read_behind<L: Link>(
+    link: &mut L,
+    room: &mut [u8],
+    end: usize,
+    inside: bool,
+) -> Result<usize, Failed>
     requires { end < length room.old }
     ensures ok { IfOk result (λ n. (more : List ℕ) × (length more ≡ n) × (end + n ≤ length room.new) × (take (end + n) room.new ≡ take end room.old ++ more)
         × Consumes (L.left link.old) (L.left link.new) more × (n ≡ 0 → IsAtEnd (L.left link.new))) }
@@ -107,7 +113,7 @@ fn read_behind<L: Link>(link: &mut L, room: &mut [u8], end: usize) -> Result<usi
     ensures sent { L.sent link.new ≡ L.sent link.old }
     ensures cause { CountsErrors (L.faults link.old) (L.faults link.new) result }
 {
-    link.read(&mut room[end..])
+    link.read(&mut room[end..], inside)
 }
 
 // Moves the bytes to the front.

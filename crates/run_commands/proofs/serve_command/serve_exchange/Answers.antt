@@ -18,7 +18,7 @@ returns-in-Ok-clause-serves g c = λ before disk gives begins.
     opened disk ended.disk ended.past c.args.world.now c.in-Ok.doors gives
     (record {
       count = h.count ∙ n;
-      asked = subst (λ (k : ℕ). w.asked c.doors.new.self ≡ w.asked c.args.world.now ++ asked_for.Doors o.listen k ∷ []) n h.asks;
+      asked = subst (λ (k : ℕ). w.asked c.doors.new.self ≡ w.asked c.args.world.now ++ asked_for.Doors o.listen k o.patience ∷ []) n h.asks;
       doors_are = h.doors;
       disks = c.doors.ensures.disks;
       faults = h.cause.2 (λ e. cc);
@@ -40,7 +40,7 @@ returns-in-Err-clause-serves g c = λ before disk gives begins.
     let out = c.with_past-in-Err.ensures in
     no_doors disk back past c.args.world.now gives c.in-Err.fault
     (record {
-      asked = subst (λ (k : ℕ). AsksAtMost (w.asked c.args.world.now) (w.asked c.doors.new.self) (asked_for.Doors o.listen k)) n h.asks;
+      asked = subst (λ (k : ℕ). AsksAtMost (w.asked c.args.world.now) (w.asked c.doors.new.self) (asked_for.Doors o.listen k o.patience)) n h.asks;
       doors = h.doors;
       disks = c.doors.ensures.disks;
       faults = has_failed c.in-Err.fault _ _ h.cause;
