@@ -12,3 +12,4 @@ pub mod Hits
 pub mod Left
 pub mod Answered
 pub mod Turns
+pub mod Naming

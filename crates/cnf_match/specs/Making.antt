@@ -1,5 +1,5 @@
 -- Expressions in conjunctive form as they are written, their faults, and how they are kept.
-use Rattle.std.specs.Prelude.{ℕ, ◌≡◌, ◌==◌, ◌&&◌, ◌||◌, nat_lt, true, List, [], ◌∷◌, ◌++◌, length, take, map, Bool, if◌then◌else◌, Option, Some, is_none, option_map, find}
+use Rattle.std.specs.Prelude.{ℕ, ◌≡◌, ◌==◌, ◌&&◌, ◌||◌, nat_lt, true, List, [], ◌∷◌, ◌++◌, ◌-◌, length, take, map, get_or, Bool, if◌then◌else◌, Option, Some, is_none, option_map, find}
 use Rattle.std.specs.List.{list_any, flat_map, filter_map, enumerate_from}
 use Rattle.std.specs.Str.{bytes_eq}
 use Rattle.target_expr.specs.declared.pred.Pred.{Pred}
@@ -60,6 +60,10 @@ first_of fs = find (λ _. true) fs
 abbrev pub IsFirstUnlessMemory : List CnfFault → CnfFault → Type 0
 IsFirstUnlessMemory fs fault.Memory = Unit {0}
 IsFirstUnlessMemory fs f = first_of fs ≡ Some f
+
+-- the last byte, which private clauses cite
+abbrev pub end_of : List ℕ → ℕ
+end_of text = get_or text (length text - 1) 0
 
 -- ---- what is kept
 

@@ -3,13 +3,14 @@ ghost use Rattle.std.specs.Prelude.{◌≡◌, ◌≤◌, ◌==◌, is_none, len
 ghost use Rattle.std.specs.List.{list_any};
 ghost use Rattle.target_expr.specs.Attributes.{attr_named};
 ghost use Rattle.target_expr.specs.Kept.{is_too_much};
-ghost use Rattle.cnf_match.specs.Making.{clause_faults, clauses_faults, faults, first_of, is_refused, is_wrong, pred_faults, same_pair, weight_faults};
+ghost use Rattle.cnf_match.specs.Making.{clause_faults, clauses_faults, end_of, faults, first_of, is_refused, is_wrong, pred_faults, same_pair, weight_faults};
 
 use crate::fault::CnfFault;
+use crate::names::attr_of;
 use crate::weight::RawWeight;
 use crate::{GREATEST_WEIGHT, MOST_CLAUSES, MOST_WEIGHTS};
 use rtb_num::{List, Txt};
-use target_expr::{LONGEST_VALUE, MOST_PREDICATES, MOST_VALUES, RawPred, attr_named};
+use target_expr::{LONGEST_VALUE, MOST_PREDICATES, MOST_VALUES, RawPred};
 
 // The first fault, in the order of reading.
 pub(crate) fn first_fault(raw: &[List<RawPred>], weights: &[RawWeight]) -> Option<CnfFault>
@@ -122,17 +123,32 @@ fn stands_in(earlier: &[RawWeight], weight: &RawWeight) -> bool
     earlier.iter().any(|other| is_of_pair(other, weight))
 }
 
+// The ends of the values are looked at first: mostly they tell.
+#[tactic(auto, using(crate::proofs::Naming::ends_first))]
 fn is_of_pair(other: &RawWeight, weight: &RawWeight) -> bool
     ensures { result ≡ same_pair other.now weight.now }
 {
-    other.attr == weight.attr && other.value == weight.value
+    end_of(other.value.as_bytes()) == end_of(weight.value.as_bytes())
+        && other.attr == weight.attr
+        && other.value == weight.value
+}
+
+// The last byte, or 0 where there is none.
+fn end_of(text: &[u8]) -> u8
+    ensures { result ≡ end_of text.now }
+{
+    if text.is_empty() {
+        0
+    } else {
+        text[text.len() - 1]
+    }
 }
 
 // Whether no attribute has the name.
 fn is_unknown(name: &Txt) -> bool
     ensures { result ≡ is_none (attr_named name.now) }
 {
-    attr_named(name.as_bytes()).is_none()
+    attr_of(name.as_bytes()).is_none()
 }
 
 // Whether it lists no value.

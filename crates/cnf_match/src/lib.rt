@@ -14,6 +14,7 @@ mod find;
 mod growing;
 mod index;
 mod make;
+mod names;
 mod truth;
 mod weight;
 

@@ -6,10 +6,11 @@ ghost use Rattle.cnf_match.specs.Making.{IsFirstUnlessMemory, faults, keep, keep
 use crate::check::first_fault;
 use crate::expr::CnfExpr;
 use crate::fault::CnfFault;
+use crate::names::attr_of;
 use crate::weight::{RawWeight, Weight};
 use rtb_num::{List, pair_with};
 use std::alloc::{AllocError, Global};
-use target_expr::{Attr, Pred, RawPred, attr_named, keep_pred};
+use target_expr::{Attr, Pred, RawPred, keep_pred};
 
 impl CnfExpr {
     /// The expression of these clauses and weights, in their order. The values of a predicate are kept in byte order,
@@ -67,7 +68,7 @@ fn keep_clause(alloc: Global, clause: &[RawPred]) -> Result<List<Pred>, AllocErr
 fn push_kept(alloc: Global, pred: &RawPred, preds: &mut List<Pred>) -> Result<(), AllocError>
     ensures { OnOk result (preds.new ≡ preds.old ++ filter_map kept_pred (pred.now ∷ [])) }
 {
-    if let Some(attr) = attr_named(pred.attr.as_bytes()) {
+    if let Some(attr) = attr_of(pred.attr.as_bytes()) {
         preds.push(keep_pred(alloc, attr, pred)?)?;
     }
     Ok(())
@@ -88,7 +89,7 @@ fn keep_weights(alloc: Global, weights: &[RawWeight]) -> Result<List<Weight>, Al
 fn push_weight(weight: &RawWeight, kept: &mut List<Weight>) -> Result<(), AllocError>
     ensures { OnOk result (kept.new ≡ kept.old ++ filter_map kept_weight (weight.now ∷ [])) }
 {
-    if let Some(attr) = attr_named(weight.attr.as_bytes()) {
+    if let Some(attr) = attr_of(weight.attr.as_bytes()) {
         kept.push(keep_weight(attr, weight)?)?;
     }
     Ok(())

@@ -1,4 +1,5 @@
 pub mod Few
+pub mod Made
 pub mod Making
 pub mod Required
 pub mod Singles

@@ -1,13 +1,10 @@
 -- The faults of the expressions that are made.
-use Rattle.std.proofs.Common.{◌≡◌, ℕ, ◌<◌, List, [], ◌∷◌, map, take, length, get_or, Some, inl, inr, refl, ap, subst}
-use Rattle.std.proofs.lemmas.List.{map-id}
+use Rattle.std.proofs.Common.{◌≡◌, ℕ, List, [], ◌∷◌, map, Some, inl, inr, refl, ap}
 use Rattle.json_fields.specs.Answers.{IsFirst}
-use Rattle.json_fields.specs.Items.{each_at}
-use Rattle.json_fields.proofs.Each.{loop_first}
 use Rattle.cnf_match.specs.declared.fault.CnfFault.{CnfFault}
 use Rattle.cnf_match.specs.Making.{IsFirstUnlessMemory, first_of}
 use Rattle.which_read.specs.declared.fault.WhichFault.{WhichFault}
-use Rattle.which_read.specs.Request.{Written, fault_of_making, making_faults}
+use Rattle.which_read.specs.Request.{fault_of_making}
 
 first_there : (fs : List CnfFault) (f : CnfFault) → first_of fs ≡ Some f → (rest : List CnfFault) × (fs ≡ f ∷ rest)
 first_there [] f e = cc
@@ -23,9 +20,3 @@ making_first i fs (CnfFault.EmptyClause j) h = first_at i fs (CnfFault.EmptyClau
 making_first i fs (CnfFault.UnknownAttr j k) h = first_at i fs (CnfFault.UnknownAttr j k) h
 making_first i fs (CnfFault.EmptyList j k) h = first_at i fs (CnfFault.EmptyList j k) h
 making_first i fs (CnfFault.Weight at) h = first_at i fs (CnfFault.Weight at) h
-
--- the first of all, behind those that have none
-pub all_first : (ws : List Written) (k : ℕ) (w : Written) (e : WhichFault) → k < length ws → w ≡ get_or ws k w → each_at making_faults (map (λ (v : Written). v) (take k ws)) ≡ []
-    → IsFirst WhichFault.Memory (making_faults k w) e → IsFirst WhichFault.Memory (each_at making_faults ws) e
-all_first ws k w e h is none first =
-    subst (λ (vs : List Written). IsFirst WhichFault.Memory (each_at making_faults vs) e) (map-id ws) (loop_first WhichFault.Memory making_faults (λ (v : Written). v) ws k w e h is none first)

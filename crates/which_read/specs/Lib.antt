@@ -1,6 +1,7 @@
 pub mod Assigned
 pub mod Chosen
 pub mod Clauses
+pub mod Made
 pub mod Numbered
 pub mod Parts
 pub mod Paths

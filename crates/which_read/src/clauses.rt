@@ -132,25 +132,27 @@ fn pred_in(
 ) -> Result<RawPred, WhichFault>
     ensures { Answers WhichFault.Memory (pred_faults i j k (tree_of pred.now)) (pred_from (tree_of pred.now)) result }
 {
+    let admits = has_in(pred);
+    let excludes = has_not(pred);
     let read = text_field(alloc, pred, WhichField::PredicateAttr(i, j, k));
-    let read = unless_faulty(read, some_list(i, j, k, pred));
+    let read = unless_faulty(read, some_list(i, j, k, admits, excludes));
     let read = both(read, texts_field(alloc, pred, WhichField::In(i, j, k)));
-    let read = unless_faulty(read, one_list(i, j, k, pred));
+    let read = unless_faulty(read, one_list(i, j, k, admits, excludes));
     let read = both(read, texts_field(alloc, pred, WhichField::Not(i, j, k)));
     match read {
-        Ok(read) => Ok(chosen(read, pred)),
+        Ok(read) => Ok(chosen(read, excludes)),
         Err(fault) => Err(fault),
     }
 }
 
 // A predicate lists what it admits or what it excludes.
-fn some_list(i: usize, j: usize, k: usize, pred: &Value<'_>) -> Result<(), WhichFault>
-    ensures { Answers WhichFault.Memory (fault_where (not (has_in (tree_of pred.now)) && not (has_not (tree_of pred.now))) (WhichFault.Missing (WhichField.In i j k))) tt result }
+fn some_list(i: usize, j: usize, k: usize, admits: bool, excludes: bool) -> Result<(), WhichFault>
+    ensures { Answers WhichFault.Memory (fault_where (not admits && not excludes) (WhichFault.Missing (WhichField.In i j k))) tt result }
 {
-    if has_in(pred) {
+    if admits {
         return Ok(());
     }
-    if has_not(pred) {
+    if excludes {
         return Ok(());
     }
     Err(WhichFault::Missing {
@@ -159,13 +161,13 @@ fn some_list(i: usize, j: usize, k: usize, pred: &Value<'_>) -> Result<(), Which
 }
 
 // It does not list both.
-fn one_list(i: usize, j: usize, k: usize, pred: &Value<'_>) -> Result<(), WhichFault>
-    ensures { Answers WhichFault.Memory (fault_where (has_in (tree_of pred.now) && has_not (tree_of pred.now)) (WhichFault.WrongType (WhichField.Not i j k))) tt result }
+fn one_list(i: usize, j: usize, k: usize, admits: bool, excludes: bool) -> Result<(), WhichFault>
+    ensures { Answers WhichFault.Memory (fault_where (admits && excludes) (WhichFault.WrongType (WhichField.Not i j k))) tt result }
 {
-    if !has_in(pred) {
+    if !admits {
         return Ok(());
     }
-    if !has_not(pred) {
+    if !excludes {
         return Ok(());
     }
     Err(WhichFault::WrongType {
@@ -186,11 +188,10 @@ fn has_not(pred: &Value<'_>) -> bool
 }
 
 // The predicate of an attribute and two lists.
-fn chosen(read: ((Txt, List<Txt>), List<Txt>), pred: &Value<'_>) -> RawPred
-    ensures { result ≡ chosen read (has_not (tree_of pred.now)) }
+fn chosen(read: ((Txt, List<Txt>), List<Txt>), negated: bool) -> RawPred
+    ensures { result ≡ chosen read negated }
 {
     let ((attr, admitted), excluded) = read;
-    let negated = has_not(pred);
     RawPred {
         attr,
         negated,

@@ -1,17 +1,19 @@
 //! The expressions of a request, each made or refused.
-ghost use Rattle.std.specs.Prelude.{◌≡◌, ◌+◌, ℕ, [], map};
+ghost use Rattle.std.specs.Prelude.{◌≡◌, ◌≢◌, ◌+◌, ◌<◌, ◌≤◌, ◌++◌, ◌∷◌, ℕ, List, [], None, Err, length, map, IfErr, OnOk};
 ghost use Rattle.std.specs.List.{All};
 ghost use Rattle.exact_json.specs.Forms.{HasForms};
 ghost use Rattle.exact_json.specs.View.{tree_of};
 ghost use Rattle.json_fields.specs.Answers.{Answers, map_ok};
 ghost use Rattle.json_fields.specs.Items.{each_at};
+ghost use Rattle.cnf_match.specs.Conjunctive.{Cnf};
+ghost use Rattle.which_read.specs.Made.{made_from, made_in, unless_first, with_next};
 ghost use Rattle.which_read.specs.Request.{expression_at, expression_faults, expression_from, expressions_faults, expressions_from, fault_of_making, made_of, making_faults, written_faults};
 ghost use Rattle.which_read.specs.declared.fault.WhichFault.{WhichFault};
 
 use crate::clauses::clauses_field;
 use crate::fault::WhichFault;
 use crate::field::WhichField;
-use crate::parts::{both, fault, filled, push};
+use crate::parts::{both, fault, push};
 use crate::weighed::weights_field;
 use cnf_match::{CnfExpr, CnfFault, MOST_EXPRESSIONS, RawWeight};
 use exact_json::Value;
@@ -21,16 +23,25 @@ use std::alloc::Global;
 use target_expr::RawPred;
 
 // An expression as it is written: its clauses and its weights.
-pub(crate) type Written = (List<List<RawPred>>, List<RawWeight>);
+type Written = (List<List<RawPred>>, List<RawWeight>);
 
-// The expressions.
+// The expressions that are made, or why the first that cannot be made is none.
+pub(crate) type Made = Result<List<CnfExpr>, WhichFault>;
+
+// Expressions while they are read and made.
+#[derive(Drop)]
+pub(crate) struct Making {
+    pub(crate) made: Vec<CnfExpr>,
+    // Why the first that could not be made is none. Those behind it are read and not made.
+    pub(crate) fault: Option<WhichFault>,
+}
+
+// The expressions. Each is made as soon as it is read, and a fault of making one is kept until all are read, since a
+// fault of a later one's fields comes before it.
 #[tactic(auto, unfolding(crate::specs::Request::expressions_faults, crate::specs::Request::expressions_from, crate::specs::Parts::faults_inside, crate::specs::Parts::array_in))]
-pub(crate) fn expressions_field(
-    alloc: Global,
-    body: &Value<'_>,
-) -> Result<List<Written>, WhichFault>
+pub(crate) fn expressions_field(alloc: Global, body: &Value<'_>) -> Result<Made, WhichFault>
     requires forms { HasForms (tree_of body.now) }
-    ensures { Answers WhichFault.Memory (expressions_faults (tree_of body.now)) (expressions_from (tree_of body.now)) result }
+    ensures { Answers WhichFault.Memory (expressions_faults (tree_of body.now)) (made_from (expressions_from (tree_of body.now))) result }
 {
     match fields::required_array(body, WhichField::Expressions.member()) {
         Ok(values) => some_expressions(alloc, values),
@@ -40,9 +51,9 @@ pub(crate) fn expressions_field(
 
 // At most 4,096 of them.
 #[tactic(auto, using(json_fields::proofs::First::firsts))]
-fn some_expressions(alloc: Global, values: &[Value<'_>]) -> Result<List<Written>, WhichFault>
+fn some_expressions(alloc: Global, values: &[Value<'_>]) -> Result<Made, WhichFault>
     requires forms { All (λ v. HasForms (tree_of v)) values.now }
-    ensures { Answers WhichFault.Memory (written_faults (map tree_of values.now)) (map expression_from (map tree_of values.now)) result }
+    ensures { Answers WhichFault.Memory (written_faults (map tree_of values.now)) (made_from (map expression_from (map tree_of values.now))) result }
 {
     if values.len() > MOST_EXPRESSIONS {
         return Err(WhichFault::Range {
@@ -52,29 +63,63 @@ fn some_expressions(alloc: Global, values: &[Value<'_>]) -> Result<List<Written>
     all_expressions(alloc, values)
 }
 
-fn all_expressions(alloc: Global, values: &[Value<'_>]) -> Result<List<Written>, WhichFault>
+fn all_expressions(alloc: Global, values: &[Value<'_>]) -> Result<Made, WhichFault>
+    requires few { length values.now ≤ 4096 }
     requires forms { All (λ v. HasForms (tree_of v)) values.now }
-    ensures { Answers WhichFault.Memory (each_at expression_at (map tree_of values.now)) (map expression_from (map tree_of values.now)) result }
+    ensures { Answers WhichFault.Memory (each_at expression_at (map tree_of values.now)) (made_from (map expression_from (map tree_of values.now))) result }
 {
-    let mut written = Vec::with_capacity(alloc, values.len())?;
-    let read = push_expressions(alloc, values, &mut written);
-    filled(written, read)
+    let mut making = Making {
+        made: Vec::with_capacity(alloc, values.len())?,
+        fault: None,
+    };
+    let read = enter_all(alloc, values, &mut making);
+    when_read(making, read)
 }
 
-// Appends them, where none was there.
-fn push_expressions(
-    alloc: Global,
-    values: &[Value<'_>],
-    written: &mut Vec<Written>,
-) -> Result<(), WhichFault>
-    requires none { written.old.items ≡ [] }
+// The expressions that are made, unless one could not be read.
+fn when_read(making: Making, read: Result<(), WhichFault>) -> Result<Made, WhichFault>
+    ensures { result ≡ map_ok (λ _. made_in making) read }
+{
+    match read {
+        Ok(()) => Ok(made_in(making)),
+        Err(fault) => Err(fault),
+    }
+}
+
+fn made_in(making: Making) -> Made
+    ensures { result ≡ made_in making }
+{
+    let Making { made, fault } = making;
+    match fault {
+        Some(fault) => Err(fault),
+        None => Ok(List::from_vec(made)),
+    }
+}
+
+// Reads and makes them, where none was.
+fn enter_all(alloc: Global, values: &[Value<'_>], making: &mut Making) -> Result<(), WhichFault>
+    requires none { making.old.made.items ≡ [] }
+    requires right { making.old.fault ≡ None }
+    requires few { length values.now ≤ 4096 }
     requires forms { All (λ v. HasForms (tree_of v)) values.now }
-    ensures { Answers WhichFault.Memory (each_at expression_at (map tree_of values.now)) (map expression_from (map tree_of values.now)) (map_ok (λ _. written.new.items) result) }
+    ensures { Answers WhichFault.Memory (each_at expression_at (map tree_of values.now)) (made_from (map expression_from (map tree_of values.now))) (map_ok (λ _. made_in making.new) result) }
 {
     for (i, value) in values.iter().enumerate() {
-        push(written, expression_entry(alloc, i, value)?)?;
+        enter(alloc, i, value, making)?;
     }
     Ok(())
+}
+
+// Reads the expression at place `i`, and makes it where all before it could be made.
+fn enter(alloc: Global, i: usize, value: &Value<'_>, making: &mut Making) -> Result<(), WhichFault>
+    requires forms { HasForms (tree_of value.now) }
+    requires place { i < 4096 }
+    ensures { Answers WhichFault.Memory (expression_at i (tree_of value.now)) (with_next i (expression_from (tree_of value.now)) (made_in making.old)) (map_ok (λ _. made_in making.new) result) }
+{
+    let written = expression_entry(alloc, i, value)?;
+    let done = add(alloc, i, &written, making);
+    drop(written);
+    done
 }
 
 #[tactic(auto, unfolding(crate::specs::Parts::faults_inside))]
@@ -99,23 +144,37 @@ fn expression_in(alloc: Global, i: usize, expression: &Value<'_>) -> Result<Writ
     )
 }
 
-// The expressions that are written so.
-pub(crate) fn make_all(alloc: Global, written: &[Written]) -> Result<List<CnfExpr>, WhichFault>
-    ensures { Answers WhichFault.Memory (each_at making_faults written.now) (map made_of written.now) result }
+// Makes the expression that is written so at place `i`, where all before it could be made.
+fn add(alloc: Global, i: usize, written: &Written, making: &mut Making) -> Result<(), WhichFault>
+    requires place { i < 4096 }
+    ensures { Answers WhichFault.Memory [] (with_next i written.now (made_in making.old)) (map_ok (λ _. made_in making.new) result) }
 {
-    let mut made = Vec::with_capacity(alloc, written.len())?;
-    let all = push_made(alloc, written, &mut made);
-    filled(made, all)
+    if making.fault.is_some() {
+        return Ok(());
+    }
+    keep(making, make(alloc, i + 1, written))
 }
 
-// Appends them, where none was there.
-fn push_made(alloc: Global, written: &[Written], made: &mut Vec<CnfExpr>) -> Result<(), WhichFault>
-    requires none { made.old.items ≡ [] }
-    ensures { Answers WhichFault.Memory (each_at making_faults written.now) (map made_of written.now) (map_ok (λ _. made.new.items) result) }
+// Keeps the expression, or why it is none. Want of memory alone is answered.
+fn keep(making: &mut Making, made: Result<CnfExpr, WhichFault>) -> Result<(), WhichFault>
+    requires right { making.old.fault ≡ None }
+    ensures { (faults : List WhichFault) (e : Cnf) → Answers WhichFault.Memory faults e made → Answers WhichFault.Memory [] (unless_first faults (making.old.made.items ++ e ∷ [])) (map_ok (λ _. made_in making.new) result) }
 {
-    for (place, expression) in written.iter().enumerate() {
-        push(made, make(alloc, place + 1, expression)?)?;
+    match made {
+        Ok(expression) => Ok(push(&mut making.made, expression)?),
+        Err(fault) => keep_fault(making, fault),
     }
+}
+
+fn keep_fault(making: &mut Making, fault: WhichFault) -> Result<(), WhichFault>
+    ensures ok { OnOk result (made_in making.new ≡ Err fault) }
+    ensures other { OnOk result (fault ≢ WhichFault.Memory) }
+    ensures memory { IfErr result (λ f. f ≡ WhichFault.Memory) }
+{
+    if matches!(fault, WhichFault::Memory) {
+        return Err(WhichFault::Memory);
+    }
+    making.fault = Some(fault);
     Ok(())
 }
 

@@ -1,17 +1,16 @@
 //! A request for the best expressions, or its first fault.
 #![tactic(auto, using(json_fields::proofs::First::firsts), unfolding(crate::specs::Request::which_faults))]
 
-ghost use Rattle.std.specs.Prelude.{◌≡◌, ◌≤◌, length, map, IfOk};
+ghost use Rattle.std.specs.Prelude.{◌≡◌, ◌≤◌, length, IfOk};
 ghost use Rattle.exact_json.specs.Docs.{doc_tree};
 ghost use Rattle.exact_json.specs.Forms.{HasForms};
 ghost use Rattle.exact_json.specs.View.{tree_of};
-ghost use Rattle.json_fields.specs.Answers.{Answers};
-ghost use Rattle.json_fields.specs.Items.{each_at};
-ghost use Rattle.which_read.specs.Request.{made_of, making_faults, request_faults, which_faults, which_from};
+ghost use Rattle.json_fields.specs.Answers.{Answers, map_ok};
+ghost use Rattle.which_read.specs.Request.{request_faults, which_faults, which_from};
 ghost use Rattle.which_read.specs.declared.fault.WhichFault.{WhichFault};
 
 use crate::assigned::assignment_field;
-use crate::expressions::{Written, expressions_field, make_all};
+use crate::expressions::{Made, expressions_field};
 use crate::fault::WhichFault;
 use crate::field::WhichField;
 use crate::parts::{both, number_field};
@@ -62,22 +61,15 @@ fn request_in(alloc: Global, body: &Value<'_>) -> Result<Request, WhichFault>
         expressions_field(alloc, body),
     );
     match read {
-        Ok((assignment, written)) => made_of(alloc, n, assignment, written),
+        Ok((assignment, made)) => request_of(n, assignment, made),
         Err(fault) => Err(fault),
     }
 }
 
-// The request of these parts, once the expressions are made.
-fn made_of(
-    alloc: Global,
-    n: u32,
-    assignment: Assignment,
-    written: List<Written>,
-) -> Result<Request, WhichFault>
-    ensures { Answers WhichFault.Memory (each_at making_faults written) (record { n = n; assignment = assignment; expressions = map made_of written }) result }
+// The request of these parts, where the expressions could be made.
+fn request_of(n: u32, assignment: Assignment, made: Made) -> Result<Request, WhichFault>
+    ensures { result ≡ map_ok (λ es. record { n = n; assignment = assignment; expressions = es }) made }
 {
-    let made = make_all(alloc, written.as_slice());
-    drop(written);
     match made {
         Ok(expressions) => Ok(Request {
             n,
