@@ -53,7 +53,6 @@ pub fn passes(entry: &Entry) -> bool
     tells_memory(entry) || tells_failure(entry)
 }
 
-#[tactic(auto, using(crate::proofs::Leading::accounts_so))]
 fn account_command(
     alloc: Global,
     core: &mut Core,
@@ -66,20 +65,45 @@ fn account_command(
     ensures leads { IfOk result (λ accounts. accounted header.now core.old.state entry.now (Ok command.now) ≡ (if accounts then Some core.new.state else None)) }
     ensures ttl { core.new.ttl ≡ core.old.ttl }
 {
-    let reply = carry_out(alloc, core, command, entry.moment)?;
+    let found = find_for(alloc, core, command)?;
+    let accounts = account_found(alloc, core, header, entry, command, found.as_slice());
+    drop(found);
+    accounts
+}
+
+/// Whether the entry, whose message is this command, accounts for its answer, where these campaigns were found for it.
+/// Where it does, the exchange has taken the command.
+#[tactic(auto, using(crate::proofs::Leading::accounts_so))]
+pub fn account_found(
+    alloc: Global,
+    core: &mut Core,
+    header: &Header,
+    entry: &Entry,
+    command: &Command,
+    found: &[List<u32>],
+) -> Result<bool, AllocError>
+    requires valid { IsTrue (is_valid_command command.now) }
+    requires found { found.now ≡ found_of core.old.state command.now }
+    requires ttl { core.old.ttl ≡ header.now.ttl }
+    ensures leads { IfOk result (λ accounts. accounted header.now core.old.state entry.now (Ok command.now) ≡ (if accounts then Some core.new.state else None)) }
+    ensures ttl { core.new.ttl ≡ core.old.ttl }
+{
+    let reply = carry_out(alloc, core, command, found, entry.moment)?;
     let accounts = tells_so(alloc, header, entry, command, &reply);
     drop(reply);
     accounts
 }
 
-// Carries the command out, by a look at every live campaign where it is an auction.
+// Carries the command out, for which these campaigns were found.
 fn carry_out(
     alloc: Global,
     core: &mut Core,
     command: &Command,
+    found: &[List<u32>],
     moment: u64,
 ) -> Result<Reply, AllocError>
     requires valid { IsTrue (is_valid_command command.now) }
+    requires found { found.now ≡ found_of core.old.state command.now }
     ensures reply { IfOk result (λ r. r ≡ (step core.old.ttl moment core.old.state command.now).reply) }
     ensures state { OnOk result (core.new.state ≡ (step core.old.ttl moment core.old.state command.now).after) }
     ensures ttl { core.new.ttl ≡ core.old.ttl }
@@ -87,13 +111,11 @@ fn carry_out(
     if core.table().edits() >= MOST_EDITS {
         return Err(AllocError);
     }
-    let found = find_for(alloc, core, command)?;
-    let draft = core.prepare(alloc, command, found.as_slice(), moment)?;
-    drop(found);
+    let draft = core.prepare(alloc, command, found, moment)?;
     Ok(core.commit(draft))
 }
 
-// The live campaigns whose expressions are true of an auction's impressions.
+// The live campaigns whose expressions are true of an auction's impressions, by a look at each of them.
 fn find_for(alloc: Global, core: &Core, command: &Command) -> Result<Vec<List<u32>>, AllocError>
     ensures { IfOk result (λ found. found.items ≡ found_of core.now.state command.now) }
 {

@@ -11,6 +11,6 @@ mod input;
 mod run;
 mod verdict;
 
-pub use accounting::{account, passes};
+pub use accounting::{account, account_found, passes};
 pub use run::audit_run;
 pub use verdict::{AuditFault, Verdict};

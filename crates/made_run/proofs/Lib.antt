@@ -1,4 +1,5 @@
 pub mod Held
+pub mod Keeping
 pub mod Lines
 pub mod Posts
 pub mod SoFar

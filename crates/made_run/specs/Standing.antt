@@ -1,8 +1,13 @@
 -- A run as far as it was gathered. Only private clauses cite this file.
-use Rattle.std.specs.Prelude.{◌≡◌, ℕ, List}
+use Rattle.std.specs.Prelude.{◌≡◌, ℕ, List, Option, None, Some, ⊤}
+use Rattle.auction_core.specs.Core.{listed}
+use Rattle.conj_index.specs.Content.{IsIndexOf}
+use Rattle.conj_index.specs.declared.index.Index.{Index}
 use Rattle.http_wire.specs.declared.message.Message.{Message}
+use Rattle.live_index.specs.Reached.{live_expressions}
 use Rattle.made_run.specs.Runs.{IsRunOf, header, trace_text, with_status}
 use Rattle.made_run.specs.declared.gathering.Gathering.{Gathering}
+use Rattle.plain_exchange.specs.State.{State}
 use Rattle.trace.specs.declared.entry.Entry.{Entry}
 
 -- an exchange that holds sales for as long as the header says
@@ -17,3 +22,8 @@ pub record IsSoFar (posts : List (ℕ × Message)) (g : Gathering) : Type 0 wher
   pub trace_is : g.trace ≡ trace_text entries
   pub sold_is : g.sold ≡ with_status 200 entries
   pub no_bid_is : g.no_bid ≡ with_status 204 entries
+
+-- an index, where there is one, has the campaigns of the state
+abbrev pub Fits : Option Index → State → Type 0
+Fits None s = ⊤
+Fits (Some index) s = IsIndexOf (live_expressions (listed s)) index

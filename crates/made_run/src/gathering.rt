@@ -1,19 +1,25 @@
 //! The trace of a run, from what was sent on its links.
 ghost use Rattle.std.specs.Prelude.{◌≡◌, ◌↔◌, ◌+◌, ◌++◌, ◌∷◌, [], ℕ, IfOk, IsTrue, List as AList, OnOk, Some, false, if◌then◌else◌};
+ghost use Rattle.std.specs.Option.{option_copied};
+ghost use Rattle.auction_core.specs.Core.{listed};
 ghost use Rattle.audit.specs.Accounts.{LeadsTo, passes};
 ghost use Rattle.byte_fields.specs.Encodings.{IsShort};
+ghost use Rattle.conj_index.specs.Content.{IsIndexOf};
 ghost use Rattle.http_wire.specs.declared.message.Message.{Message as AMessage};
+ghost use Rattle.live_index.specs.Reached.{live_expressions};
 ghost use Rattle.made_run.specs.Runs.{IsMade, behind_campaigns, campaigns_from, has_status, post_of, posted, requests_from, reserved_in};
-ghost use Rattle.made_run.specs.Standing.{IsReady, IsSoFar};
+ghost use Rattle.made_run.specs.Standing.{Fits, IsReady, IsSoFar};
 ghost use Rattle.trace.specs.Traces.{entry_bytes, header_bytes};
 
 use crate::answers::{Told, told_at};
+use crate::finding::{accounts_for, index_of};
 use crate::posting::{CAMPAIGNS, next_campaign, next_request};
 use crate::reserving::{plus, reserved_in};
 use crate::run::Made;
 use crate::serving::{PUBLIC, TTL};
 use auction_core::Core;
-use audit::{account, passes};
+use audit::passes;
+use conj_index::Index;
 use http_wire::Message;
 use loadgen::Gen;
 use rtb_num::{Nanos, Txt};
@@ -131,7 +137,7 @@ impl Gathering {
         let mut place = 0;
         for _ in 0..CAMPAIGNS {
             let message = next_campaign(alloc, drawn)?;
-            place = self.take(alloc, 0, message, sent, place)?;
+            place = self.take(alloc, None, 0, message, sent, place)?;
         }
         Ok(place)
     }
@@ -148,32 +154,56 @@ impl Gathering {
         requires ready { IsReady self.old }
         ensures gathered { OnOk result ((posts : AList (ℕ × AMessage)) → IsSoFar posts self.old → IsSoFar (posts ++ requests_from drawn.old 1 requests) self.new) }
     {
+        let index = index_of(alloc, &self.core)?;
+        let gathered = self.requests_by(alloc, &index, drawn, requests, sent, place);
+        drop(index);
+        gathered
+    }
+
+    // The same, by the index of the campaigns.
+    fn requests_by(
+        &mut self,
+        alloc: Global,
+        index: &Index,
+        drawn: &mut Gen,
+        requests: u32,
+        sent: &[u8],
+        place: usize,
+    ) -> Result<(), AllocError>
+        requires ready { IsReady self.old }
+        requires index { IsIndexOf (live_expressions (listed self.old.core.state)) index.now }
+        ensures gathered { OnOk result ((posts : AList (ℕ × AMessage)) → IsSoFar posts self.old → IsSoFar (posts ++ requests_from drawn.old 1 requests) self.new) }
+    {
         let mut place = place;
         for done in 0..requests {
             let number = done + 1;
             let message = next_request(alloc, drawn, number)?;
-            place = self.take(alloc, u64::from(number), message, sent, place)?;
+            let moment = u64::from(number);
+            place = self.take(alloc, Some(index), moment, message, sent, place)?;
         }
         Ok(())
     }
 
-    // Gathers the answer at the place to the message. The place behind it.
+    // Gathers the answer at the place to the message, which is a request where there is an index. The place behind it.
     fn take(
         &mut self,
         alloc: Global,
+        index: Option<&Index>,
         moment: u64,
         message: Message,
         sent: &[u8],
         place: usize,
     ) -> Result<usize, AllocError>
         requires ready { IsReady self.old }
+        requires fits { Fits (option_copied index) self.old.core.state }
         ensures ready { IsReady self.new }
+        ensures fits { OnOk result (Fits (option_copied index.entry) self.new.core.state) }
         ensures one { OnOk result ((posts : AList (ℕ × AMessage)) → IsSoFar posts self.old → IsSoFar (posts ++ (moment, message) ∷ []) self.new) }
     {
         match told_at(alloc, sent, place) {
             Ok((told, next)) => {
                 let entry = entry_of(moment, message, told);
-                let put = self.put(alloc, &entry);
+                let put = self.put(alloc, index, &entry);
                 drop(entry);
                 put?;
                 Ok(next)
@@ -186,12 +216,14 @@ impl Gathering {
     }
 
     // One entry more.
-    fn put(&mut self, alloc: Global, entry: &Entry) -> Result<(), AllocError>
+    fn put(&mut self, alloc: Global, index: Option<&Index>, entry: &Entry) -> Result<(), AllocError>
         requires ready { IsReady self.old }
+        requires fits { Fits (option_copied index) self.old.core.state }
         ensures ready { IsReady self.new }
+        ensures fits { OnOk result (Fits (option_copied index.entry) self.new.core.state) }
         ensures one { OnOk result ((posts : AList (ℕ × AMessage)) → IsSoFar posts self.old → IsSoFar (posts ++ post_of entry.now ∷ []) self.new) }
     {
-        judge(alloc, &mut self.core, &self.header, entry)?;
+        judge(alloc, &mut self.core, index, &self.header, entry)?;
         self.sold = counted(self.sold, has_status(entry, 200))?;
         self.no_bid = counted(self.no_bid, has_status(entry, 204))?;
         put(entry, &mut self.trace)
@@ -212,16 +244,24 @@ fn entry_of(moment: u64, message: Message, told: Told) -> Entry
 
 // The exchange of one thread takes the entry's message, and gives its answer. One that tells of memory or of the store is
 // none of a run.
-fn judge(alloc: Global, core: &mut Core, header: &Header, entry: &Entry) -> Result<(), AllocError>
+fn judge(
+    alloc: Global,
+    core: &mut Core,
+    index: Option<&Index>,
+    header: &Header,
+    entry: &Entry,
+) -> Result<(), AllocError>
     requires ttl { core.old.ttl ≡ header.now.ttl }
+    requires fits { Fits (option_copied index) core.old.state }
     ensures leads { OnOk result (LeadsTo header.now core.old.state entry.now (Some core.new.state)) }
     ensures answered { OnOk result (passes entry.now ≡ false) }
     ensures ttl { core.new.ttl ≡ core.old.ttl }
+    ensures fits { OnOk result (Fits (option_copied index.entry) core.new.state) }
 {
     if passes(entry) {
         return Err(AllocError);
     }
-    let accounts = account(alloc, core, header, entry)?;
+    let accounts = accounts_for(alloc, core, index, header, entry)?;
     if !accounts {
         return Err(AllocError);
     }

@@ -1,0 +1,132 @@
+//! The exchange of one thread with an index of the campaigns, which stay as they are once all were posted.
+ghost use Rattle.std.specs.Prelude.{◌≡◌, ◌<◌, false, true, IfOk, IsTrue, Ok, Some, None, if◌then◌else◌};
+ghost use Rattle.std.specs.Option.{option_copied};
+ghost use Rattle.auction_core.specs.Core.{listed};
+ghost use Rattle.auction_core.specs.Draft.{found_of, is_valid_command};
+ghost use Rattle.audit.specs.Accounts.{LeadsTo, account as accounted, passes};
+ghost use Rattle.conj_index.specs.Content.{IsIndexOf};
+ghost use Rattle.live_index.specs.Reached.{live_expressions};
+ghost use Rattle.made_run.specs.Standing.{Fits};
+ghost use Rattle.plain_exchange.specs.State.{State};
+
+use auction_core::{Command, Core};
+use audit::{account, account_found};
+use command_read::{CommandFault, read_command};
+use conj_index::Index;
+use live_index::{find_by_index, index_of_live};
+use rtb_base::Steps;
+use rtb_num::List;
+use std::alloc::{AllocError, Global};
+use std::marker::Brand;
+use std::sync::ledger::{Blank, Ledger};
+use trace::{Entry, Header};
+
+/// The index of the exchange's campaigns.
+pub(crate) fn index_of(alloc: Global, core: &Core) -> Result<Index, AllocError>
+    ensures { IfOk result (IsIndexOf (live_expressions (listed core.now.state))) }
+{
+    index_counted::<Brand>(alloc, core, Blank::new(1))
+}
+
+// The steps are not counted.
+fn index_counted<L: Ledger>(alloc: Global, core: &Core, blank: Blank) -> Result<Index, AllocError>
+    requires name { blank.name ≡ L.name }
+    requires parts { blank.parts ≡ L.parts }
+    requires some { 0 < blank.parts }
+    ensures { IfOk result (IsIndexOf (live_expressions (listed core.now.state))) }
+{
+    let mut steps = Steps::<L>::new(blank);
+    index_of_live(alloc, core.table(), &mut steps)
+}
+
+/// Whether the entry accounts for its answer, by a look at each campaign, or by the index. With an index the entry is of
+/// a request: there is no answer for any other.
+pub(crate) fn accounts_for(
+    alloc: Global,
+    core: &mut Core,
+    index: Option<&Index>,
+    header: &Header,
+    entry: &Entry,
+) -> Result<bool, AllocError>
+    requires answered { passes entry.now ≡ false }
+    requires ttl { core.old.ttl ≡ header.now.ttl }
+    requires fits { Fits (option_copied index) core.old.state }
+    ensures leads { IfOk result (λ accounts. LeadsTo header.now core.old.state entry.now (if accounts then Some core.new.state else None)) }
+    ensures ttl { core.new.ttl ≡ core.old.ttl }
+    ensures fits { IfOk result (λ accounts. accounts ≡ true → Fits (option_copied index.entry) core.new.state) }
+{
+    match index {
+        Some(index) => accounts_by(alloc, core, index, header, entry),
+        None => account(alloc, core, header, entry),
+    }
+}
+
+// Whether the entry of a request accounts for its answer, by the index.
+fn accounts_by(
+    alloc: Global,
+    core: &mut Core,
+    index: &Index,
+    header: &Header,
+    entry: &Entry,
+) -> Result<bool, AllocError>
+    requires answered { passes entry.now ≡ false }
+    requires ttl { core.old.ttl ≡ header.now.ttl }
+    requires index { IsIndexOf (live_expressions (listed core.old.state)) index.now }
+    ensures leads { IfOk result (λ accounts. LeadsTo header.now core.old.state entry.now (if accounts then Some core.new.state else None)) }
+    ensures ttl { core.new.ttl ≡ core.old.ttl }
+    ensures listed { IfOk result (λ accounts. accounts ≡ true → listed core.new.state ≡ listed core.old.state) }
+{
+    match read_command(alloc, &entry.message) {
+        Ok(command) => {
+            let accounts = accounts_command(alloc, core, index, header, entry, &command);
+            drop(command);
+            accounts
+        }
+        Err(CommandFault::Refused { refusal }) => {
+            drop(refusal);
+            Err(AllocError)
+        }
+        Err(CommandFault::Memory) => Err(AllocError),
+    }
+}
+
+// The same, where its message is the command.
+fn accounts_command(
+    alloc: Global,
+    core: &mut Core,
+    index: &Index,
+    header: &Header,
+    entry: &Entry,
+    command: &Command,
+) -> Result<bool, AllocError>
+    requires valid { IsTrue (is_valid_command command.now) }
+    requires ttl { core.old.ttl ≡ header.now.ttl }
+    requires index { IsIndexOf (live_expressions (listed core.old.state)) index.now }
+    ensures leads { IfOk result (λ accounts. accounted header.now core.old.state entry.now (Ok command.now) ≡ (if accounts then Some core.new.state else None)) }
+    ensures ttl { core.new.ttl ≡ core.old.ttl }
+    ensures listed { IfOk result (λ accounts. accounts ≡ true → listed core.new.state ≡ listed core.old.state) }
+{
+    let Command::Auction(_) = command else {
+        return Err(AllocError);
+    };
+    let found = found_by::<Brand>(alloc, index, command, Blank::new(1))?;
+    let accounts = account_found(alloc, core, header, entry, command, found.as_slice());
+    drop(found);
+    accounts
+}
+
+// The campaigns that the command's impressions reach. The steps are not counted.
+fn found_by<L: Ledger>(
+    alloc: Global,
+    index: &Index,
+    command: &Command,
+    blank: Blank,
+) -> Result<Vec<List<u32>>, AllocError>
+    requires name { blank.name ≡ L.name }
+    requires parts { blank.parts ≡ L.parts }
+    requires some { 0 < blank.parts }
+    ensures { IfOk result (λ found. (s : State) → IsIndexOf (live_expressions (listed s)) index.now → found.items ≡ found_of s command.now) }
+{
+    let mut steps = Steps::<L>::new(blank);
+    find_by_index(alloc, index, command, &mut steps)
+}
