@@ -78,7 +78,7 @@ pub(crate) fn write_piece<L: Link>(
 // What a read of up to three bytes gives.
 pub(crate) fn read_three<L: Link>(link: &mut L, out: &mut Txt) -> Result<(), AllocError> {
     let mut piece = [0u8; 3];
-    match link.read(&mut piece) {
+    match link.read(&mut piece, false) {
         Ok(0) => out.extend(b"end "),
         Ok(n) => out.extend_all(&[&piece[..n], b" "]),
         Err(Failed) => out.extend(b"failed "),

@@ -19,7 +19,7 @@ impl Link for Pieces {
 
     ghost faults = { λ p. p.inner.calls.faults };
 
-    fn read(&mut self, out: &mut [u8]) -> Result<usize, Failed> {
+    fn read(&mut self, out: &mut [u8], inside: bool) -> Result<usize, Failed> {
         let most = if self.single {
             1
         } else if self.first > 0 {
@@ -28,7 +28,7 @@ impl Link for Pieces {
             out.len()
         };
         let room = out.len().min(most);
-        let n = self.inner.read(&mut out[..room])?;
+        let n = self.inner.read(&mut out[..room], inside)?;
         self.first = self.first.saturating_sub(n);
         Ok(n)
     }

@@ -5,6 +5,7 @@ use link_door::{Door, Link, OsWorld, TcpDoor, TcpLink, World};
 use rtb_num::{Failed, List, Txt, write_decimal};
 use std::io::{self, Read, Write};
 use std::net::{TcpListener, TcpStream};
+use std::os::fd::OwnedFd;
 use std::sync::atomic::{AtomicU64, Ordering};
 use std::thread::sleep;
 use std::time::{Clock, Duration};
@@ -38,13 +39,21 @@ pub fn put_tried(rt: &HostRuntime, out: &mut Txt) -> io::Result<()> {
 fn put_link(rt: &HostRuntime, out: &mut Txt) -> io::Result<()> {
     let listener = TcpListener::bind(rt, "127.0.0.1:0")?;
     let peer = TcpStream::connect(rt, listener.local_addr()?)?;
-    let mut door = TcpDoor::new(listener, rt, Duration::from_secs(60));
+    let mut door = door_over(rt, listener, Duration::from_secs(60))?;
     let given = door.next();
     drop(door);
     match given {
         Ok(Some(link)) => put_passed(link, peer, out),
         Ok(None) | Err(Failed) => put_none(peer, out),
     }
+}
+
+fn door_over<'r>(
+    rt: &'r HostRuntime,
+    listener: TcpListener,
+    patience: Duration,
+) -> io::Result<TcpDoor<&'r HostRuntime>> {
+    TcpDoor::new(rt.alloc(), rt, listener, rt, patience)
 }
 
 fn put_passed<C: Clock + Copy>(link: TcpLink<C>, peer: TcpStream, out: &mut Txt) -> io::Result<()> {
@@ -79,14 +88,11 @@ fn put_none(peer: TcpStream, out: &mut Txt) -> io::Result<()> {
     Ok(())
 }
 
-// A second handle of the stream tells of the link's.
 fn put_delay(rt: &HostRuntime, out: &mut Txt) -> io::Result<()> {
-    let listener = TcpListener::bind(rt, "127.0.0.1:0")?;
-    let stream = TcpStream::connect(rt, listener.local_addr()?)?;
-    let twin = stream.try_clone()?;
-    let link = TcpLink::new(stream, rt, Duration::from_secs(60))?;
-    let at_once = twin.nodelay()?;
+    let (link, peer) = linked(rt)?;
+    let at_once = link.stream().nodelay()?;
     drop(link);
+    drop(peer);
     out.extend(if at_once { b"no" } else { b"yes" })?;
     Ok(())
 }
@@ -102,9 +108,16 @@ fn put_patience(rt: &HostRuntime, out: &mut Txt) -> io::Result<()> {
 fn linked<'r>(rt: &'r HostRuntime) -> io::Result<(TcpLink<&'r HostRuntime>, TcpStream)> {
     let listener = TcpListener::bind(rt, "127.0.0.1:0")?;
     let peer = TcpStream::connect(rt, listener.local_addr()?)?;
-    let (stream, _) = listener.accept()?;
-    let link = TcpLink::new(stream, rt, Duration::from_millis(200))?;
+    let mut door = door_over(rt, listener, Duration::from_millis(200))?;
+    let link = next_link(&mut door)?;
     Ok((link, peer))
+}
+
+fn next_link<'r>(door: &mut TcpDoor<&'r HostRuntime>) -> io::Result<TcpLink<&'r HostRuntime>> {
+    match door.next() {
+        Ok(Some(link)) => Ok(link),
+        Ok(None) | Err(Failed) => Err(io::Error::from(io::ErrorKind::Other)),
+    }
 }
 
 // The peer sends nothing.
@@ -123,7 +136,7 @@ fn put_slow(rt: &HostRuntime, out: &mut Txt) -> io::Result<()> {
     let mut piece = [0u8; 1];
     for _ in 0..1000u32 {
         peer.write_all(b"a")?;
-        if link.read(&mut piece).is_err() {
+        if link.read(&mut piece, true).is_err() {
             out.extend(b"failed ")?;
             return Ok(());
         }
@@ -159,13 +172,16 @@ fn put_unread(rt: &HostRuntime, out: &mut Txt) -> io::Result<()> {
     Ok(())
 }
 
+// A stream that is no listening one cannot accept.
 fn put_door(rt: &HostRuntime, out: &mut Txt) -> io::Result<()> {
     let listener = TcpListener::bind(rt, "127.0.0.1:0")?;
-    listener.set_nonblocking(true)?;
+    let stream = TcpStream::connect(rt, listener.local_addr()?)?;
     let clock = Fading {
         left: AtomicU64::new(2),
     };
-    let mut door = TcpDoor::new(listener, &clock, Duration::from_secs(60));
+    let deaf = TcpListener::from(OwnedFd::from(stream));
+    let patience = Duration::from_secs(60);
+    let mut door = TcpDoor::new(rt.alloc(), rt, deaf, &clock, patience)?;
     put_given(door.next(), out)?;
     put_moments(&mut door, out)?;
     Ok(())
@@ -218,7 +234,7 @@ impl Clock for Fading {
 fn put_world(rt: &HostRuntime, out: &mut Txt) -> io::Result<()> {
     let mut world = OsWorld::new(rt);
     let address = free_address(rt)?;
-    match world.doors(rt.alloc(), &address, 2) {
+    match world.doors(rt.alloc(), &address, 2, 60_000) {
         Ok(doors) => put_doors(rt, doors, &address, out)?,
         Err(_) => out.extend(b"no doors ")?,
     }
@@ -263,7 +279,7 @@ fn put_reached<'r>(
 
 fn put_missing(rt: &HostRuntime, world: &mut OsWorld<'_>, out: &mut Txt) -> io::Result<()> {
     let nowhere = Txt::from_slice(rt.alloc(), b"nowhere/at all")?;
-    match world.doors(rt.alloc(), &nowhere, 1) {
+    match world.doors(rt.alloc(), &nowhere, 1, 60_000) {
         Ok(doors) => {
             drop(doors);
             out.extend(b"doors ")?;

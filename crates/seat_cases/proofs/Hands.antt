@@ -45,9 +45,9 @@ module _ {D : Type 0} {G : Ghosts D} where
       let mark : Entry = put h.seat.worker false w.durable w.faults in
       goes here h t (w.more ++ mark ∷ []) may is (w.same ∙ ap (λ l. seat_with h.seat l false) (append_assoc h.seat.seen w.more (mark ∷ [])))
 
-  pub goes_publishing : (here : TableId) (h : Hand D G) (t : Seat) (p : Published) → MayCall here t → IsHand here h → Publishes h.seat t p → GoesOn here h (record { seat = t; upto = h.upto })
-  goes_publishing here h t (answer.New edit) may is w = goes_gaining here h t (published_at h.seat.worker edit) may is w.0
-  goes_publishing here h t (answer.Kept edit) may is w = goes_waiting here h t may is w.0
+  pub goes_publishing : (after : ℕ) (here : TableId) (h : Hand D G) (t : Seat) (p : Published) → MayCall here t → IsHand here h → Publishes after h.seat t p → GoesOn here h (record { seat = t; upto = h.upto })
+  goes_publishing after here h t (answer.New edit) may is w = goes_gaining here h t (published_at h.seat.worker edit) may is w.0
+  goes_publishing after here h t (answer.Kept edit) may is w = goes_waiting here h t may is w.0
 
   pub goes_calling : (here : TableId) (h : Hand D G) (t : Seat) (command : Command) (m : ℕ) (s : Settled) → MayCall here t → Calls command m h.seat t s → GoesOn here h (record { seat = t; upto = s.upto })
   goes_calling here h t command m s may c = record {
@@ -83,9 +83,9 @@ joins_one here n s b t f j may = record {
 -- ---- two workers
 
 module _ {D : Type 0} {G : Ghosts D} where
-  pub goes_published : (here : TableId) (h : Hand D G) (t : Seat) (r : Result Published AllocError) → MayCall here t → IsHand here h → IfOk r (Publishes h.seat t) → OnErr r (Waits h.seat t) → GoesOn here h (record { seat = t; upto = h.upto })
-  goes_published here h t (Ok p) may is ok err = goes_publishing here h t p may is ok
-  goes_published here h t (Err e) may is ok err = goes_waiting here h t may is err
+  pub goes_published : (after : ℕ) (here : TableId) (h : Hand D G) (t : Seat) (r : Result Published AllocError) → MayCall here t → IsHand here h → IfOk r (Publishes after h.seat t) → OnErr r (Waits h.seat t) → GoesOn here h (record { seat = t; upto = h.upto })
+  goes_published after here h t (Ok p) may is ok err = goes_publishing after here h t p may is ok
+  goes_published after here h t (Err e) may is ok err = goes_waiting here h t may is err
 
   -- B's seat is split off
   pub two_of : (here : TableId) (o : Origin) (s t u : Seat) → s ≡ first_seat here o → SplitsOff worker_of s t u → MayCall here t → MayCall here u

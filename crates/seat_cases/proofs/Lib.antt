@@ -1,3 +1,2 @@
 mod Hands
 mod Sending
-mod Valid

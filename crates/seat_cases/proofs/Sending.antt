@@ -10,6 +10,7 @@ use Rattle.budget_book.proofs.sales.SaleRow.TheSendSync as sale
 use Rattle.budget_book.proofs.tree.Tree.TheLaws.TheKnot.{send-Tree}
 use Rattle.campaign_store.proofs.table.Table.TheSendSync as table
 use Rattle.exchange_shared.proofs.landing.Landings.TheSendSync as landings
+use Rattle.exchange_shared.proofs.worn.Worn.TheSendSync as worn
 use Rattle.exchange_shared.specs.contracts.exchange.Exchange as exchange
 use Rattle.exchange_state.specs.contracts.state.ExchangeState as state
 use Rattle.hist_lock.proofs.lock.HistLock.TheSendSync as lock
@@ -30,7 +31,7 @@ pub state_send : (D : RattleType) (g : Ghosts D.Denot) → IsSend D → IsSend (
 state_send D g s = search (sendable, crosses, core_send, version.the_send, version.the_sync, recent.the_send, journal.the_send, txt.the_send) depth 30 fits 5000
 
 exchange_sync : (D : RattleType) (g : Ghosts D.Denot) → IsSend D → IsSync (exchange.the_row D g)
-exchange_sync D g s = search (sendable, state_send, lock.the_sync, landings.the_field_sync) depth 30 fits 5000
+exchange_sync D g s = search (sendable, state_send, lock.the_sync, landings.the_field_sync, worn.the_field_sync) depth 30 fits 5000
 
 -- what all workers are given
 pub tools_sync : (κ : NamedLft) (D R : RattleType) (g : Ghosts D.Denot) → IsSend D → IsSync R → IsSync (tools.the_row κ D R g)

@@ -7,10 +7,10 @@ ghost use Rattle.rtb_base.specs.Faults.{CountsErrors};
 ghost use Rattle.seat_cases.specs.Hands.{IsHired};
 
 use crate::answers::put_done;
-use crate::messages::campaign;
 use crate::seats::{Hand, carry_out, keep};
 use crate::session::TTL;
 use crate::workers::{Job, hire};
+use case_messages::campaign;
 use exchange_shared::{Exchange, Seat};
 use plain_exchange::Command;
 use rtb_base::Steps;

@@ -9,7 +9,6 @@ ghost use Rattle.std.specs.Prelude.{◌≡◌, ◌<◌};
 mod answers;
 mod crashes;
 mod held;
-mod messages;
 mod seats;
 mod session;
 mod steps;

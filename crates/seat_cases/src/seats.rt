@@ -1,5 +1,5 @@
 //! What one worker does with its seat.
-ghost use Rattle.std.specs.Prelude.{◌≡◌, None, IfOk, IfSome, IsTrue};
+ghost use Rattle.std.specs.Prelude.{◌≡◌, ◌≤◌, None, IfOk, IfSome, IsTrue};
 ghost use Rattle.auction_core.specs.Draft.{is_simple, is_valid_command};
 ghost use Rattle.exchange_shared.specs.Seats.{MayBeSettled, Seat as ASeat, lock_of};
 ghost use Rattle.exchange_state.specs.Tickets.{IsVersionOf, version_in};
@@ -93,21 +93,32 @@ pub fn flush<D: Disk, R: Wait>(rt: &R, exchange: &Exchange<D>, hand: Hand<D>) ->
     }
 }
 
-/// Publishes a version where one is due, and says its edit.
+/// Publishes a version where so many edits make one due, and says its edit.
 pub fn publish<D: Disk, R: Wait, L: Ledger>(
     rt: &R,
     alloc: Global,
     exchange: &Exchange<D>,
     hand: Hand<D>,
+    after: u64,
     steps: &mut Steps<L>,
     out: &mut Txt,
 ) -> (Hand<D>, Result<(), AllocError>)
     requires hand { IsHand (lock_of exchange.now) hand }
+    requires some { 1 ≤ after }
     ensures { GoesOn (lock_of exchange.now) hand result.0 }
 {
     let Hand { seat, upto } = hand;
-    let (seat, published) = exchange.republish(rt, alloc, seat, steps);
+    let (seat, published) = exchange.republish(rt, alloc, seat, after, steps);
     (Hand { seat, upto }, put_published(published, out))
+}
+
+/// Says whether a newer version pays.
+pub fn put_worn<D: Disk>(exchange: &Exchange<D>, out: &mut Txt) -> Result<(), AllocError> {
+    if exchange.is_worn() {
+        out.extend(b"worn")
+    } else {
+        out.extend(b"not worn")
+    }
 }
 
 fn put_published(

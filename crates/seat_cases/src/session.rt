@@ -31,11 +31,13 @@ pub struct Two<D: Disk> {
 /// Answers the commands over the disk, with `; ` between two answers. Each begins with the worker, and has the
 /// moment 1000.
 ///
-/// - `A post TARGET NAME`: the reply to the command that the message asks for; `messages.rt` has the campaigns by name.
+/// - `A post TARGET NAME`: the reply to the command that the message asks for; `case_messages` has the campaigns by name.
 /// - `A turn TIMES N`: campaign N is paused and resumed in turn so many times; says how often it was done.
-/// - `A publish`: builds a version where one is due, and publishes it; says its edit, and whether it is new.
+/// - `A publish N`: builds a version where N edits stand, 1 at least, and publishes it; says its edit, and whether it is
+///   new.
+/// - `A worn`: whether a newer version pays, which is told once; says `worn` or `not worn`.
 /// - `A flush`: writes what is not durable; says `flushed` or `store failed`.
-/// - `B find`: looks at the version and finds in it for the bid request of `messages.rt`; says the edit of the version.
+/// - `B find`: looks at the version and finds in it for the bid request of `case_messages`; says the edit of the version.
 /// - `B settle`: sells over what was found last; says the number of the sale, its campaign and the price in
 ///   micro-dollars, or `no bid`.
 /// - `A keep` and `B keep`: make the worker's last command durable; say `durable` or `store failed`.

@@ -5,9 +5,9 @@ ghost use Rattle.exchange_shared.specs.Seats.{lock_of};
 ghost use Rattle.seat_cases.specs.Hands.{AreTwo, GoesOn, IsHand, WasSought};
 
 use crate::answers::{number_at, put_done, put_mark, put_numbered, put_reply, word_at};
-use crate::messages::{REQUEST, campaign_named, command_of, is_no_auction};
-use crate::seats::{Hand, Sought, carry_out, flush, keep, publish, seek, settle};
+use crate::seats::{Hand, Sought, carry_out, flush, keep, publish, put_worn, seek, settle};
 use crate::session::Two;
+use case_messages::{REQUEST, campaign_named, command_of, is_no_auction};
 use exchange_shared::Exchange;
 use plain_exchange::{Command, Reply};
 use rtb_base::Steps;
@@ -121,7 +121,11 @@ fn step_first<D: Disk + Drop, R: Wait, L: Ledger>(
         return (hand, write_decimal(done, out));
     }
     if word == b"publish".as_slice() {
-        return publish(rt, alloc, exchange, hand, steps, out);
+        let after = number_at(command, 2).max(1);
+        return publish(rt, alloc, exchange, hand, after, steps, out);
+    }
+    if word == b"worn".as_slice() {
+        return (hand, put_worn(exchange, out));
     }
     if word == b"flush".as_slice() {
         let (hand, done) = flush(rt, exchange, hand);

@@ -5,8 +5,8 @@ ghost use Rattle.exchange_shared.specs.Seats.{MayCall, effects_in, lock_of};
 ghost use Rattle.hist_lock.specs.Views.{first_seat};
 ghost use Rattle.seat_cases.specs.Hands.{AreBack, AreSeated, IsFirst, IsHired};
 
-use crate::messages::campaign;
 use crate::seats::{Hand, MOMENT, flush};
+use case_messages::campaign;
 use exchange_shared::{Exchange, Seat, Settled};
 use plain_exchange::{Command, Reply};
 use rtb_disk::Disk;

@@ -1,3 +1,2 @@
 mod Sessions
 mod Tries
-mod Valid

@@ -5,7 +5,6 @@
 #![tactic(auto)]
 
 mod answers;
-mod messages;
 mod session;
 mod sold;
 mod steps;

@@ -58,15 +58,39 @@ impl<D: Disk> Model for Session<D> {
     ghost invariant = { λ s. IsSession s.state s.entries s.sought s.hand };
 }
 
-/// The state of the journal on the disk.
+/// The state of the journal on the disk. Where that finds no memory, it is tried once more.
 pub fn open<D: Disk + Drop, L: Ledger>(
     alloc: Global,
     disk: D,
     steps: &mut Steps<L>,
 ) -> Result<Session<D>, JournalFault> {
+    match open_once(alloc, disk, steps) {
+        Err((disk, JournalFault::Memory)) => or_fault(open_once(alloc, disk, steps)),
+        opened => or_fault(opened),
+    }
+}
+
+// The session, or why there is none.
+fn or_fault<D: Disk + Drop>(
+    opened: Result<Session<D>, (D, JournalFault)>,
+) -> Result<Session<D>, JournalFault> {
+    match opened {
+        Ok(session) => Ok(session),
+        Err((disk, fault)) => {
+            drop(disk);
+            Err(fault)
+        }
+    }
+}
+
+fn open_once<D: Disk + Drop, L: Ledger>(
+    alloc: Global,
+    disk: D,
+    steps: &mut Steps<L>,
+) -> Result<Session<D>, (D, JournalFault)> {
     match open_state(alloc, disk, steps) {
         Ok(state) => Ok(session_of(state)),
-        Err(fault) => Err(fault),
+        Err(refused) => Err(refused),
     }
 }
 
@@ -85,16 +109,16 @@ fn open_state<D: Disk + Drop, L: Ledger>(
     alloc: Global,
     disk: D,
     steps: &mut Steps<L>,
-) -> Result<ExchangeState<D>, JournalFault>
+) -> Result<ExchangeState<D>, (D, JournalFault)>
     ensures { IfOk result IsOpenedState }
 {
     let reading = match Reading::start(disk) {
         Ok(reading) => reading,
-        Err((_, fault)) => return Err(fault),
+        Err(refused) => return Err(refused),
     };
     match ExchangeState::start(alloc, reading, TTL, steps) {
         Ok(state) => Ok(state),
-        Err((_, fault)) => Err(fault),
+        Err(refused) => Err(refused),
     }
 }
 

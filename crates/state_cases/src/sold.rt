@@ -63,18 +63,28 @@ impl<D: Disk + Drop> Session<D> {
     }
 
     /// Sells over what was found last, and appends what came of it.
-    #[tactic(auto, using(crate::proofs::Sessions::may_sell))]
     pub fn settle<L: Ledger>(
         &mut self,
         steps: &mut Steps<L>,
         out: &mut Txt,
     ) -> Result<(), AllocError> {
+        let settled = match self.settle_once(steps) {
+            Err(AllocError) => self.settle_once(steps),
+            settled => settled,
+        };
+        put_settled(settled, out)
+    }
+
+    #[tactic(auto, using(crate::proofs::Sessions::may_sell))]
+    fn settle_once<L: Ledger>(
+        &mut self,
+        steps: &mut Steps<L>,
+    ) -> Result<Option<Reply>, AllocError> {
         if self.entries >= MOST_ENTRIES {
             return Err(AllocError);
         }
         self.entries += 1;
-        let settled = settle_last(&mut self.state, &self.sought, steps);
-        put_settled(settled, out)
+        settle_last(&mut self.state, &self.sought, steps)
     }
 }
 

@@ -5,8 +5,8 @@ ghost use Rattle.exchange_state.specs.Settling.{IsStanding};
 ghost use Rattle.state_cases.specs.Session.{GoesOn};
 
 use crate::answers::{number_at, put_mark, put_reply, word_at};
-use crate::messages::{REQUEST, campaign_named, command_of, is_no_auction};
 use crate::session::{MOST_ENTRIES, Session, open};
+use case_messages::{REQUEST, campaign_named, command_of, is_no_auction};
 use exchange_state::{ExchangeState, Settled};
 use journal_file::JournalFault;
 use plain_exchange::{Command, Reply};
@@ -23,18 +23,21 @@ pub const MOMENT: u64 = 1000;
 
 /// Answers the commands, with `; ` between two answers. Every command has the moment 1000, and is that of worker 1.
 ///
-/// - `post TARGET NAME`: the reply to the command that the message asks for, in a word and its number; `messages.rt` has
+/// - `post TARGET NAME`: the reply to the command that the message asks for, in a word and its number; `case_messages` has
 ///   the campaigns by name.
 /// - `turn TIMES N`: campaign N is paused and resumed in turn so many times; says how often it was done.
 /// - `find`: looks at the version, and says its edit and the numbers of what it finds for the bid request.
 /// - `settle`: sells over what was found last; says the campaign and the price in micro-dollars, or `no bid`.
-/// - `publish`: builds a version where one is due, and publishes it; says its edit, or `not due`.
+/// - `publish N`: builds a version where N edits stand, and publishes it; says its edit, or `not due`.
+/// - `behind`: how many edits came behind the version that was looked at last.
 /// - `edition` and `durable`: the edit of the version, and how many effects are durable.
 /// - `take`: takes the journal; says `out`, `nothing`, or the length of the block, its end, and `again` where it failed
 ///   before.
 /// - `write`: appends the block, or repairs the journal with it; says `written` or `failed`.
 /// - `put`: puts the journal back.
 /// - `reopen`: the state is opened again from the disk that the journal leaves, where it is home; else all is let go.
+///
+/// A call that finds no memory is made once more, so a single refusal of memory changes no answer (`tests/states`).
 pub fn run(
     alloc: Global,
     disk: MemDisk,
@@ -176,7 +179,7 @@ impl<D: Disk + Drop> Session<D> {
             return self.settle(steps, out);
         }
         if name == b"publish".as_slice() {
-            return self.publish(alloc, steps, out);
+            return self.publish(alloc, number_at(command, 1), steps, out);
         }
         self.run_rest(name, out)
     }
@@ -187,6 +190,9 @@ impl<D: Disk + Drop> Session<D> {
         }
         if name == b"durable".as_slice() {
             return write_decimal(self.state.durable(), out);
+        }
+        if name == b"behind".as_slice() {
+            return self.put_behind(out);
         }
         if name == b"take".as_slice() {
             return self.take(out);
@@ -202,7 +208,7 @@ impl<D: Disk + Drop> Session<D> {
 
     fn post(&mut self, alloc: Global, command: &[u8], out: &mut Txt) -> Result<(), AllocError> {
         let body = campaign_named(word_at(command, 2));
-        match command_of(alloc, word_at(command, 1), body)? {
+        match command_again(alloc, word_at(command, 1), body)? {
             Some(command) => {
                 let told = self.post_one(&command, out);
                 drop(command);
@@ -223,8 +229,17 @@ impl<D: Disk + Drop> Session<D> {
     }
 
     // Worker 1 carries out a command other than an auction.
-    #[tactic(auto, using(crate::proofs::Sessions::standing))]
     fn carry_out(&mut self, command: &Command) -> Result<Reply, AllocError>
+        requires simple { IsTrue (is_simple command.now) }
+    {
+        match self.carry_out_once(command) {
+            Err(AllocError) => self.carry_out_once(command),
+            done => done,
+        }
+    }
+
+    #[tactic(auto, using(crate::proofs::Sessions::standing))]
+    fn carry_out_once(&mut self, command: &Command) -> Result<Reply, AllocError>
         requires simple { IsTrue (is_simple command.now) }
     {
         if self.entries >= MOST_ENTRIES {
@@ -260,13 +275,36 @@ impl<D: Disk + Drop> Session<D> {
         steps: &mut Steps<L>,
         out: &mut Txt,
     ) -> Result<(), AllocError> {
+        let sought = match self.find_once(alloc, steps) {
+            Err(AllocError) => self.find_once(alloc, steps),
+            sought => sought,
+        };
+        if sought? {
+            return self.put_sought(out);
+        }
+        out.extend(b"refused")
+    }
+
+    // Whether there is an auction that was sought.
+    fn find_once<L: Ledger>(
+        &mut self,
+        alloc: Global,
+        steps: &mut Steps<L>,
+    ) -> Result<bool, AllocError> {
         match command_of(alloc, b"/openrtb2/auction", REQUEST)? {
             Some(auction) => {
                 self.seek(alloc, auction, steps)?;
-                self.put_sought(out)
+                Ok(true)
             }
-            None => out.extend(b"refused"),
+            None => Ok(false),
         }
+    }
+}
+
+fn command_again(alloc: Global, target: &[u8], body: &[u8]) -> Result<Option<Command>, AllocError> {
+    match command_of(alloc, target, body) {
+        Err(AllocError) => command_of(alloc, target, body),
+        read => read,
     }
 }
 

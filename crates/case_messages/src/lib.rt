@@ -1,4 +1,8 @@
-//! The messages that cases name.
+//! The messages that cases of the exchange's calls name: a bid request, campaigns, and the commands of messages.
+//!
+//! The code owes safety, and that what it gives may be asked of an exchange.
+#![tactic(auto)]
+
 ghost use Rattle.std.specs.Prelude.{◌≡◌, IfOk, IfSome, IsTrue};
 ghost use Rattle.auction_core.specs.Draft.{is_simple, is_valid_command};
 
@@ -94,4 +98,25 @@ pub fn is_no_auction(command: &Command) -> bool
         Command::Auction(_) => false,
         _ => true,
     }
+}
+
+/// The command that adds the campaign of that name.
+pub fn campaign(alloc: Global, name: &[u8]) -> Result<Option<Command>, AllocError>
+    ensures { IfOk result (λ r. IfSome r (λ c. IsTrue (is_simple c))) }
+{
+    match command_of(alloc, b"/campaign", campaign_named(name)) {
+        Ok(Some(command)) => Ok(if_simple(command)),
+        Ok(None) => Ok(None),
+        Err(refused) => Err(refused),
+    }
+}
+
+fn if_simple(command: Command) -> Option<Command>
+    ensures { IfSome result (λ c. IsTrue (is_simple c)) }
+{
+    if is_no_auction(&command) {
+        return Some(command);
+    }
+    drop(command);
+    None
 }
