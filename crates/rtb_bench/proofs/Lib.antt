@@ -7,3 +7,5 @@ mod Selling
 mod Valid
 pub mod States
 mod Memory
+mod Seating
+mod Sending

@@ -4,3 +4,4 @@ pub mod Answer
 pub mod Found
 pub mod Work
 pub mod States
+pub mod Changes

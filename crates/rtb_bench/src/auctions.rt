@@ -11,6 +11,7 @@ mod shop;
 mod state_shop;
 
 use campaigns::message_of;
+pub use campaigns::{TTL, campaign_command};
 use http_wire::Message;
 use rtb_num::Txt;
 pub use shop::Shop;

@@ -1,6 +1,7 @@
 //! The jobs. Each answers how it ended.
 use crate::appends::{Outcome, append_blocks};
 use crate::auctions::{Asked, Shop, StateShop, ask_times};
+use crate::changes::{SlowDisk, change_all};
 use crate::messages::Piece;
 use crate::named_work::bench_run;
 use crate::plans::Plan;
@@ -14,6 +15,7 @@ use std::io;
 use std::io::Read;
 use std::sync::Wait;
 use std::thread::Threads;
+use std::time::Clock;
 
 /// The most threads.
 const MOST: usize = 64;
@@ -22,7 +24,7 @@ const MOST: usize = 64;
 const MOST_BYTES: usize = 270_336;
 
 /// Does the jobs of these words, up to the first that does not end well.
-pub fn run_all<T: Threads + Wait + Sync>(
+pub fn run_all<T: Threads + Wait + Clock + Sync>(
     rt: &HostRuntime,
     threads: &T,
     words: &[Txt],
@@ -36,7 +38,11 @@ pub fn run_all<T: Threads + Wait + Sync>(
     Ok(Status::Done)
 }
 
-fn run<T: Threads + Wait + Sync>(rt: &HostRuntime, threads: &T, job: &[Txt]) -> io::Result<Status> {
+fn run<T: Threads + Wait + Clock + Sync>(
+    rt: &HostRuntime,
+    threads: &T,
+    job: &[Txt],
+) -> io::Result<Status> {
     let Some((name, words)) = job.split_first() else {
         return Ok(Status::Usage);
     };
@@ -45,7 +51,10 @@ fn run<T: Threads + Wait + Sync>(rt: &HostRuntime, threads: &T, job: &[Txt]) -> 
         return run_turns(rt, threads, words);
     }
     if name == b"appends".as_slice() {
-        return run_appends(rt, words);
+        return run_appends(rt, threads, words);
+    }
+    if name == b"changes".as_slice() {
+        return run_changes(rt, threads, words);
     }
     if name == b"book".as_slice() {
         return run_book(rt, words);
@@ -129,17 +138,45 @@ fn take_turns<T: Threads + Wait + Sync>(
 
 // ---- appends
 
-fn run_appends(rt: &HostRuntime, words: &[Txt]) -> io::Result<Status> {
-    let [path, count] = words else {
-        return Ok(Status::Usage);
-    };
-    let (Ok(path), Some(count)) = (str::from_utf8(path.as_bytes()), number_in(count)) else {
-        return Ok(Status::Usage);
-    };
-    match FileDisk::open(rt, path) {
-        Ok(disk) => tell_appends(rt, append_blocks(rt.alloc(), disk, count)),
-        Err(_) => Ok(Status::JournalFailed),
+fn run_appends<C: Clock>(rt: &HostRuntime, clock: &C, words: &[Txt]) -> io::Result<Status> {
+    match words {
+        [path, count] => append(rt, clock, path, number_in(count), Some(0)),
+        [path, count, micros] => append(rt, clock, path, number_in(count), number_in(micros)),
+        _ => Ok(Status::Usage),
     }
+}
+
+fn append<C: Clock>(
+    rt: &HostRuntime,
+    clock: &C,
+    path: &Txt,
+    count: Option<u32>,
+    micros: Option<u32>,
+) -> io::Result<Status> {
+    let (Some(count), Some(micros)) = (count, micros) else {
+        return Ok(Status::Usage);
+    };
+    match slow_disk(rt, clock, path, micros) {
+        Some(disk) => tell_appends(rt, append_blocks(rt.alloc(), disk, count)),
+        None => Ok(Status::JournalFailed),
+    }
+}
+
+// A disk in the file, where each sync takes so many microseconds longer.
+fn slow_disk<'a, C: Clock>(
+    rt: &HostRuntime,
+    clock: &'a C,
+    path: &Txt,
+    micros: u32,
+) -> Option<SlowDisk<'a, C>> {
+    let path = str::from_utf8(path.as_bytes()).ok()?;
+    let disk = FileDisk::open(rt, path).ok()?;
+    let micros = u64::from(micros);
+    Some(SlowDisk {
+        disk,
+        clock,
+        micros,
+    })
 }
 
 fn tell_appends(rt: &HostRuntime, outcome: Option<Outcome>) -> io::Result<Status> {
@@ -152,6 +189,43 @@ fn tell_appends(rt: &HostRuntime, outcome: Option<Outcome>) -> io::Result<Status
         bytes,
     } = outcome;
     println!(rt; "{appended} appends, {read} read again, {bytes} bytes")?;
+    Ok(Status::Done)
+}
+
+// ---- changes
+
+fn run_changes<T: Threads + Wait + Clock + Sync>(
+    rt: &HostRuntime,
+    threads: &T,
+    words: &[Txt],
+) -> io::Result<Status> {
+    let Some((path, words)) = words.split_first() else {
+        return Ok(Status::Usage);
+    };
+    let Some((workers, each, micros)) = three_numbers(words) else {
+        return Ok(Status::Usage);
+    };
+    if workers as usize > MOST {
+        return Ok(Status::Usage);
+    }
+    match slow_disk(rt, threads, path, micros) {
+        Some(disk) => tell_changes(rt, change_all(threads, rt.alloc(), disk, workers, each)),
+        None => Ok(Status::JournalFailed),
+    }
+}
+
+fn three_numbers(words: &[Txt]) -> Option<(u32, u32, u32)> {
+    match words {
+        [one, two, three] => Some((number_in(one)?, number_in(two)?, number_in(three)?)),
+        _ => None,
+    }
+}
+
+fn tell_changes(rt: &HostRuntime, durable: Option<u64>) -> io::Result<Status> {
+    let Some(durable) = durable else {
+        return Ok(Status::JournalFailed);
+    };
+    println!(rt; "{durable} changes durable")?;
     Ok(Status::Done)
 }
 

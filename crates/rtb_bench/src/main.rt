@@ -9,15 +9,18 @@
 //! - `turns WORK COUNT ..`: each of so many threads takes so many turns under the lock, with that many steps of
 //!   work in each;
 //! - `appends FILE COUNT`: a journal is made of that file anew, so many blocks of 30 bytes are appended, and they
-//!   are read again;
+//!   are read again; behind it a word may say how many microseconds each sync takes longer;
+//! - `changes FILE WORKERS COUNT MICROS`: a journal is made of that file anew, and each of so many threads changes a
+//!   campaign of its own so many times, over one exchange, and makes each change durable; each sync takes so many
+//!   microseconds longer;
 //! - `book CAMPAIGNS SALES`: a book with so many campaigns and so many sales, where each line of standard input is
 //!   a step (`book.rt`), up to an empty line;
 //! - `auctions CAMPAIGNS COUNT`: an exchange with so many campaigns, where each line of standard input is a bid
 //!   request that is asked so many times (`auctions.rt`), up to an empty line;
 //! - `settle CAMPAIGNS COUNT`: the same with the state that workers share, by one worker: a look at the version, a
 //!   find, and a sale of what was found;
-//! - `message N SIZE`, and `head` and `link` with the same words: work on a message, so many bytes of standard
-//!   input, done so many times (`messages.rt`);
+//! - `message N SIZE`, and `head`, `link` and `command` with the same words: work on a message, so many bytes of
+//!   standard input, done so many times (`messages.rt`);
 //! - `which N`, and `which_find N`: what is left of standard input is a request for the best expressions, which is
 //!   answered so many times, or in whose index is found so many times (`plans.rt`).
 //!
@@ -28,6 +31,7 @@ mod appends;
 mod auctions;
 mod book;
 mod cases;
+mod changes;
 mod jobs;
 mod messages;
 mod named_work;

@@ -1,10 +1,12 @@
 //! Work on a message.
 ghost use Rattle.std.specs.Prelude.{◌≡◌, ◌<◌, ⊤};
 
+use command_read::{Rooms, read_command_in};
 use http_wire::{Allow, Answer, Message, Step, next_message};
 use httparse::Status;
 use httparse::spans::{EMPTY_HEADER_SPAN, parse_request};
 use link_door::MemLink;
+use plain_exchange::Command;
 use rtb_base::Steps;
 use rtb_num::{List, Txt, write_decimal};
 use session::{Given, Service, serve_link};
@@ -21,6 +23,8 @@ pub enum Piece {
     Head,
     /// So many of them are sent ahead over one link, each answered with 204; at most 10,000.
     Link,
+    /// It is read as a command, as a worker reads it.
+    Command,
 }
 
 impl Piece {
@@ -34,6 +38,9 @@ impl Piece {
         }
         if word == b"link".as_slice() {
             return Some(Piece::Link);
+        }
+        if word == b"command".as_slice() {
+            return Some(Piece::Command);
         }
         None
     }
@@ -60,6 +67,7 @@ fn done<L: Ledger>(
         Piece::Message => sum_line(alloc, read_messages(alloc, times, bytes, &mut steps)?),
         Piece::Head => sum_line(alloc, heads(times, bytes)),
         Piece::Link => sum_line(alloc, conversation(alloc, times, bytes, &mut steps)?),
+        Piece::Command => sum_line(alloc, commands(alloc, times, bytes, &mut steps)?),
     }
 }
 
@@ -146,5 +154,53 @@ impl Service for Empty {
             },
             entered: false,
         }
+    }
+}
+
+// How many impressions the commands had.
+fn commands<L: Ledger>(
+    alloc: Global,
+    times: u32,
+    bytes: &[u8],
+    steps: &mut Steps<L>,
+) -> Result<u64, AllocError> {
+    let step = next_message(alloc, bytes, steps)?;
+    let sum = commands_in(alloc, times, &step);
+    drop(step);
+    Ok(sum)
+}
+
+fn commands_in(alloc: Global, times: u32, step: &Step) -> u64 {
+    match step {
+        Step::Got { message, .. } => read_commands(alloc, times, message),
+        _ => 0,
+    }
+}
+
+fn read_commands(alloc: Global, times: u32, message: &Message) -> u64 {
+    let mut rooms = Rooms::new(alloc);
+    let mut sum: u64 = 0;
+    for _ in 0..times {
+        sum = sum.wrapping_add(imps_read(alloc, &mut rooms, message));
+    }
+    drop(rooms);
+    sum
+}
+
+// How many impressions the message asks for, where it asks for an auction.
+fn imps_read(alloc: Global, rooms: &mut Rooms, message: &Message) -> u64 {
+    let read = read_command_in(alloc, rooms, message);
+    let count = match &read {
+        Ok(command) => imps_of(command),
+        Err(_) => 0,
+    };
+    drop(read);
+    count
+}
+
+fn imps_of(command: &Command) -> u64 {
+    match command {
+        Command::Auction(request) => request.imps.len() as u64,
+        _ => 0,
     }
 }
