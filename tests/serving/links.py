@@ -93,14 +93,15 @@ def try_links(program, folder):
 
 
 def waits(server, link):
-    """A second link is answered once the first has ended."""
+    """A second link waits while the first is inside a message, and is taken in its place once it is answered."""
     with server.link() as second:
+        link.send(get("/campaign/2")[:-1])
         second.send(get("/campaign/2"))
         CHECKS.holds("a second link waits", second.is_silent())
-        link.send(get("/campaign/2"))
+        link.send(get("/campaign/2")[-1:])
         CHECKS.same("the first is served on", link.answer(), report(2, bid="1"))
-        link.socket.close()
         CHECKS.same("the second is served then", second.answer(), report(2, bid="1"))
+        CHECKS.same("and the first has ended", link.rest(), b"")
 
 
 def resets(server):

@@ -83,9 +83,13 @@ class Refusals:
         """The piece of this number from now on is refused; 0 refuses none."""
         self.shared[:4] = struct.pack("=i", place)
 
+    def left(self):
+        """How many pieces are given until one is refused."""
+        return struct.unpack("=i", self.shared[:4])[0]
+
     def came(self):
         """Whether the refusal came."""
-        return struct.unpack("=i", self.shared[:4])[0] == 0
+        return self.left() == 0
 
 
 def try_places(refusals, ask):

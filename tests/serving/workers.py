@@ -19,7 +19,7 @@ from serving.program import Link, counts, ended, recovered, running
 WORKERS = 4
 CLIENTS = 8
 MESSAGES = 20_000
-# Campaigns that each client adds, and how many messages it sends over one link: the next client waits for it.
+# Campaigns that each client adds, and how many messages it sends over one link at most: it ends where another client waits.
 CAMPAIGNS = 5
 ON_A_LINK = 50
 KILLS = 50
@@ -75,16 +75,21 @@ class Client:
         self.waits_for = None
 
     def run(self, count):
+        command = self.command()
         while len(self.sent) < count:
             with Link(self.port) as link:
                 for _ in range(min(ON_A_LINK, count - len(self.sent))):
-                    kind, data, what = self.command()
+                    kind, data, what = command
                     link.send(data)
                     came = link.answer(60)
+                    # A link that has ended without a byte gave way: the message was not taken, and is sent again.
+                    if not came and link.ended:
+                        break
                     self.sent.append((kind, what, came))
                     self.learn(kind, came)
                     if not came:
                         return
+                    command = self.command()
 
     def command(self):
         """A kind, its message, and what the model is asked."""
@@ -275,7 +280,7 @@ def try_workers(program, folder):
 
 
 def try_beside(program, folder):
-    """Each of four links is served while three others wait inside a message, and a fifth waits for one of them."""
+    """Each of four links is served while three others wait inside a message, and a fifth waits while all do."""
     with running(program, folder / "beside", workers=WORKERS) as server:
         links = [server.link() for _ in range(WORKERS)]
         for link in links:
@@ -283,12 +288,16 @@ def try_beside(program, folder):
         for i, link in enumerate(links):
             link.send(post("/campaign", A)[-1:])
             CHECKS.same(f"link {i} of {WORKERS}", link.answer(), new(i + 1))
+        for link in links:
+            link.send(post("/campaign", A)[:-1])
         with server.link() as more:
             more.send(post("/campaign", B))
             CHECKS.holds("one link more waits", more.is_silent())
-            links[0].socket.close()
-            CHECKS.same("until one ends", more.answer(), new(WORKERS + 1))
-        for link in links[1:]:
+            links[0].send(post("/campaign", A)[-1:])
+            CHECKS.same("until one is answered", links[0].answer(), new(WORKERS + 1))
+            CHECKS.same("and is taken in its place", more.answer(), new(WORKERS + 2))
+            CHECKS.same("which has ended", links[0].rest(), b"")
+        for link in links:
             link.socket.close()
 
 
