@@ -59,7 +59,23 @@ fn find<'a>(members: &'a [Member<'a>], name: &[u8]) -> Option<&'a Value<'a>>
 fn is_named(member: &Member<'_>, name: &[u8]) -> bool
     ensures { result ≡ bytes_eq (pair_of member.now).0 name.now }
 {
-    member.name == name
+    are_same(member.name, name)
+}
+
+// Whether the texts are the same. Of a few bytes it is quickest to compare one after the other.
+#[inline(always)]
+fn are_same(a: &[u8], b: &[u8]) -> bool
+    ensures { result ≡ bytes_eq a.now b.now }
+{
+    if a.len() != b.len() {
+        return false;
+    }
+    for i in 0..a.len() {
+        if a[i] != b[i] {
+            return false;
+        }
+    }
+    true
 }
 
 #[inline(always)]

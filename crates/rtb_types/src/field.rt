@@ -1,4 +1,4 @@
-//! The fields of a bid request that are read.
+//! The fields of a bid request that are read. The name of one that is known is known where it is asked for.
 ghost use Rattle.std.specs.Prelude.{◌≡◌};
 ghost use Rattle.rtb_types.specs.Paths.{app_member, app_name, banner_name, deal_name, device_name, geo_name, imp_name, member_name, pmp_name, request_name, site_member, site_name, size_name, user_name};
 
@@ -153,6 +153,7 @@ pub enum DealField {
 
 impl Field {
     /// The name that it has as a member of its object; that of the list for an entry of a list.
+    #[inline(always)]
     pub fn member(self) -> &'static [u8]
         ensures { result.now ≡ member_name self }
     {
@@ -175,6 +176,7 @@ impl Field {
 
 impl RequestField {
     /// Its name in the standard.
+    #[inline(always)]
     pub fn name(self) -> &'static [u8]
         ensures { result.now ≡ request_name self }
     {
@@ -198,6 +200,7 @@ impl RequestField {
 
 impl SiteField {
     /// Its name in the standard, from the site on.
+    #[inline(always)]
     pub fn name(self) -> &'static [u8]
         ensures { result.now ≡ site_name self }
     {
@@ -210,6 +213,7 @@ impl SiteField {
     }
 
     // Its name in the object that it is a member of.
+    #[inline(always)]
     fn member(self) -> &'static [u8]
         ensures { result.now ≡ site_member self }
     {
@@ -222,6 +226,7 @@ impl SiteField {
 
 impl AppField {
     /// Its name in the standard, from the app on.
+    #[inline(always)]
     pub fn name(self) -> &'static [u8]
         ensures { result.now ≡ app_name self }
     {
@@ -234,6 +239,7 @@ impl AppField {
     }
 
     // Its name in the object that it is a member of.
+    #[inline(always)]
     fn member(self) -> &'static [u8]
         ensures { result.now ≡ app_member self }
     {
@@ -246,6 +252,7 @@ impl AppField {
 
 impl DeviceField {
     /// Its name in the standard.
+    #[inline(always)]
     pub fn name(self) -> &'static [u8]
         ensures { result.now ≡ device_name self }
     {
@@ -265,6 +272,7 @@ impl DeviceField {
 
 impl GeoField {
     /// Its name in the standard.
+    #[inline(always)]
     pub fn name(self) -> &'static [u8]
         ensures { result.now ≡ geo_name self }
     {
@@ -280,6 +288,7 @@ impl GeoField {
 
 impl UserField {
     /// Its name in the standard.
+    #[inline(always)]
     pub fn name(self) -> &'static [u8]
         ensures { result.now ≡ user_name self }
     {
@@ -293,6 +302,7 @@ impl UserField {
 
 impl ImpField {
     /// Its name in the standard.
+    #[inline(always)]
     pub fn name(self) -> &'static [u8]
         ensures { result.now ≡ imp_name self }
     {
@@ -310,6 +320,7 @@ impl ImpField {
 
 impl BannerField {
     /// Its name in the standard.
+    #[inline(always)]
     pub fn name(self) -> &'static [u8]
         ensures { result.now ≡ banner_name self }
     {
@@ -325,6 +336,7 @@ impl BannerField {
 
 impl SizeField {
     /// Its name in the standard.
+    #[inline(always)]
     pub fn name(self) -> &'static [u8]
         ensures { result.now ≡ size_name self }
     {
@@ -337,6 +349,7 @@ impl SizeField {
 
 impl PmpField {
     /// Its name in the standard.
+    #[inline(always)]
     pub fn name(self) -> &'static [u8]
         ensures { result.now ≡ pmp_name self }
     {
@@ -349,6 +362,7 @@ impl PmpField {
 
 impl DealField {
     /// Its name in the standard.
+    #[inline(always)]
     pub fn name(self) -> &'static [u8]
         ensures { result.now ≡ deal_name self }
     {
