@@ -1,3 +1,3 @@
-pub mod Loops
 pub mod Made
 pub mod Required
+pub mod Last

@@ -1,21 +1,22 @@
 -- The faults of what is made of the fields: facts and an expression.
-use Rattle.std.proofs.Common.{◌≡◌, ℕ, ◌*◌, ◌%◌, List, [], ◌∷◌, ◌++◌, append_assoc, map, subst, sym, Some, Ok, Err, inl, inr, refl, ap, arith}
+use Rattle.std.proofs.Common.{◌≡◌, ℕ, ◌*◌, ◌%◌, List, [], ◌∷◌, ◌++◌, map, subst, Some, Ok, Err, inl, inr, refl, ap, arith}
 use Rattle.std.specs.Prelude.{Result}
 use Rattle.exact_json.specs.Tree.{Tree}
 use Rattle.json_fields.specs.Answers.{Answers, IsFirst}
-use Rattle.json_fields.proofs.First.{behind, neither}
+use Rattle.json_fields.specs.Readings.{◌>>◌}
+use Rattle.json_fields.proofs.Each.{left_none, right_none}
+use Rattle.json_fields.proofs.First.{answers_behind}
 use Rattle.campaign.specs.declared.parts.FactParts.{FactParts}
-use Rattle.campaign.specs.Paths.{member_name}
 use Rattle.campaign.specs.declared.field.CampField.{CampField}
-use Rattle.campaign.specs.Faults.{ok_unless, fact_faults}
+use Rattle.campaign.specs.Faults.{ok_unless}
 use Rattle.target_expr.specs.declared.pred.RawPred.{RawPred}
 use Rattle.target_expr.specs.declared.pred.Pred.{Pred}
 use Rattle.target_expr.specs.declared.fault.ExprFault.{ExprFault}
-use Rattle.target_expr.specs.Kept.{IsFirstUnlessMemory, faults, first_of, keep}
+use Rattle.target_expr.specs.Kept.{IsFirstUnlessMemory, first_of}
 use Rattle.campaign_read.specs.declared.fault.CampFault.{CampFault}
-use Rattle.campaign_read.specs.Campaign.{body_faults, campaign_from, fault_of_target, parts_faults, parts_from}
-use Rattle.campaign_read.specs.Parts.{amount_from}
-use Rattle.campaign_read.specs.Target.{target_faults, target_from}
+use Rattle.campaign_read.specs.Campaign.{body_in, fault_of_target, made_of, parts_in}
+use Rattle.campaign_read.specs.Parts.{amount_field}
+use Rattle.campaign_read.specs.Target.{target_field}
 
 pub checked_ok : {A E : Type 0} (fs : List E) (x y : A) → Ok y ≡ ok_unless fs x → (fs ≡ []) × (y ≡ x)
 checked_ok [] x y e = (refl, cc)
@@ -40,27 +41,20 @@ expr_first fs (ExprFault.TooMany i j) h = first_mapped CampFault.Target CampFaul
 expr_first fs (ExprFault.UnknownAttr i j) h = first_mapped CampFault.Target CampFault.Memory fs (ExprFault.UnknownAttr i j) (first_there fs (ExprFault.UnknownAttr i j) h)
 expr_first fs ExprFault.Memory h = record { first = inl refl }
 
-pub whole_budget : (t : Tree) → (parts_from t).budget % 1000 ≡ 0
-unfolding parts_from
-whole_budget t = whole (amount_from (member_name CampField.Budget) t)
+pub whole_budget : (t : Tree) → (parts_in t).value.budget % 1000 ≡ 0
+unfolding parts_in
+whole_budget t = whole (amount_field CampField.Budget t).value
   where
     whole : (n : ℕ) → n * 1000 % 1000 ≡ 0
     whole n = omega arith
 
--- ---- what is wrong with a body: with its fields, and then with what is made of them
-
-answers_behind : {A F : Type 0} (memory : F) (a b : List F) (x : A) (r : Result A F) → a ≡ [] → Answers memory b x r → Answers memory (a ++ b) x r
-answers_behind memory a b x (Ok y) e (none, is) = (neither a b e none, is)
-answers_behind memory a b x (Err f) e h = behind memory a b f e h
-
-pub made_right : (t : Tree) (p : FactParts) (raw : List (List RawPred)) (r : Result (FactParts × List (List Pred)) CampFault) → parts_faults t ++ target_faults t ≡ [] → p ≡ parts_from t → raw ≡ target_from t
-    → Answers CampFault.Memory (map CampFault.Fact (fact_faults p) ++ map CampFault.Target (faults raw)) (p, keep raw) r → Answers CampFault.Memory (body_faults t) (campaign_from t) r
-unfolding body_faults campaign_from
+-- what is wrong with a body: with its fields, and then with what is made of them
+pub made_right : (t : Tree) (p : FactParts) (raw : List (List RawPred)) (r : Result (FactParts × List (List Pred)) CampFault) → (parts_in t).faults ++ ((target_field t).faults ++ []) ≡ []
+    → p ≡ (parts_in t).value → raw ≡ (target_field t).value → Answers CampFault.Memory (made_of p raw) r → Answers CampFault.Memory (body_in t) r
+unfolding body_in
 made_right t p raw r none parts target h =
-    let facts = map CampFault.Fact (fact_faults (parts_from t)) in
-    let targets = map CampFault.Target (faults (target_from t)) in
-    let front = parts_faults t ++ target_faults t in
-    let right_parts = subst (λ q. Answers CampFault.Memory (map CampFault.Fact (fact_faults q) ++ map CampFault.Target (faults raw)) (q, keep raw) r) parts h in
-    let right = subst (λ w. Answers CampFault.Memory (facts ++ map CampFault.Target (faults w)) (parts_from t, keep w) r) target right_parts in
-    subst (λ fs. Answers CampFault.Memory fs (parts_from t, keep (target_from t)) r) (sym (append_assoc front facts targets))
-    (answers_behind CampFault.Memory front (facts ++ targets) (parts_from t, keep (target_from t)) r none right)
+    let right_parts = subst (λ q. Answers CampFault.Memory (made_of q raw) r) parts h in
+    let right = subst (λ w. Answers CampFault.Memory (made_of (parts_in t).value w) r) target right_parts in
+    let made = made_of (parts_in t).value (target_field t).value in
+    let of_target = answers_behind CampFault.Memory (target_field t).faults made r (left_none (target_field t).faults [] (right_none (parts_in t).faults ((target_field t).faults ++ []) none)) right in
+    answers_behind CampFault.Memory (parts_in t).faults ((target_field t).faults >> made) r (left_none (parts_in t).faults ((target_field t).faults ++ []) none) of_target

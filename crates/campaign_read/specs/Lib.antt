@@ -2,4 +2,3 @@ pub mod Parts
 pub mod Cap
 pub mod Target
 pub mod Campaign
-pub mod Pairs

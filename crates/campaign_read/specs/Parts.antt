@@ -1,9 +1,9 @@
--- The faults of the fields of a campaign's body, and what the fields hold.
-use Rattle.std.specs.Prelude.{ℕ, ℤ, pos, List, [], ◌∷◌, map, Option, None, Result, Ok, Err}
+-- The fields of a campaign's body, by their types.
+use Rattle.std.specs.Prelude.{ℕ, ℤ, pos, List, [], ◌∷◌, Bool, false, if◌then◌else◌, Option, None}
 use Rattle.exact_json.specs.Tree.{Tree}
-use Rattle.json_fields.specs.Answers.{flaws_of, value_or}
-use Rattle.json_fields.specs.Fields.{present, as_text, as_whole, as_exact, optional, required}
-use Rattle.json_fields.specs.Items.{list_flaws, list_values}
+use Rattle.json_fields.specs.Fields.{present, as_exact, as_flag, as_text, as_whole, optional, or_absent, required}
+use Rattle.json_fields.specs.Items.{list_in}
+use Rattle.json_fields.specs.Readings.{Reading, found_or, map_faults}
 use Rattle.json_fields.specs.declared.bounds.Bounds.{Bounds}
 use Rattle.json_fields.specs.declared.flaw.Flaw.{Flaw}
 use Rattle.json_fields.specs.declared.flaw.ListFlaw.{ListFlaw}
@@ -18,33 +18,31 @@ fault_of field Flaw.WrongType = CampFault.WrongType field
 fault_of field Flaw.Range = CampFault.Range field
 fault_of field (Flaw.Price fault) = CampFault.Price field fault
 
--- the faults of one field
-unfoldable pub faults_at : {A : Type 0} → CampField → Result A Flaw → List CampFault
-faults_at field r = map (fault_of field) (flaws_of r)
+-- a text that has to be there, and one that may be absent
+unfoldable pub text_field : CampField → Tree → Reading CampFault (List ℕ)
+text_field field t = found_or (fault_of field) [] (required as_text (present (member_name field) t))
 
--- a text that has to be there
-unfoldable pub text_faults : CampField → Tree → List CampFault
-text_faults field t = faults_at field (required as_text (present (member_name field) t))
-
-unfoldable pub text_from : List ℕ → Tree → List ℕ
-text_from name t = value_or [] (required as_text (present name t))
+unfoldable pub optional_text : CampField → Tree → Reading CampFault (Option (List ℕ))
+optional_text field t = found_or (fault_of field) None (optional as_text (present (member_name field) t))
 
 -- an amount in US dollars that has to be there, in whole micro-dollars
-unfoldable pub amount_faults : CampField → Tree → List CampFault
-amount_faults field t = faults_at field (required as_exact (present (member_name field) t))
+unfoldable pub amount_field : CampField → Tree → Reading CampFault ℕ
+amount_field field t = found_or (fault_of field) 0 (required as_exact (present (member_name field) t))
 
-unfoldable pub amount_from : List ℕ → Tree → ℕ
-amount_from name t = value_or 0 (required as_exact (present name t))
+-- a 0 or a 1, 0 where it is absent
+unfoldable pub flag_field : CampField → Tree → Reading CampFault Bool
+flag_field field t = found_or (fault_of field) false (or_absent false as_flag (present (member_name field) t))
+
+-- a whole number within bounds that has to be there, and one that may be absent
+unfoldable pub whole_field : Bounds → CampField → Tree → Reading CampFault ℤ
+whole_field bounds field t = found_or (fault_of field) (pos 0) (required (as_whole bounds) (present (member_name field) t))
+
+unfoldable pub optional_whole : Bounds → CampField → Tree → Reading CampFault (Option ℤ)
+optional_whole bounds field t = found_or (fault_of field) None (optional (as_whole bounds) (present (member_name field) t))
 
 -- a side of the creative: 1 to 32767 pixels
 abbrev pub side_bounds : Bounds
 side_bounds = record { least = pos 1; greatest = pos 32767 }
-
-unfoldable pub side_faults : CampField → Tree → List CampFault
-side_faults field t = faults_at field (optional (as_whole side_bounds) (present (member_name field) t))
-
-unfoldable pub side_from : List ℕ → Tree → Option ℤ
-side_from name t = value_or None (optional (as_whole side_bounds) (present name t))
 
 -- an attribute of the creative: from 0
 abbrev pub attr_bounds : Bounds
@@ -73,13 +71,14 @@ list_fault list (ListFlaw.Whole flaw) = fault_of (list_whole list) flaw
 list_fault list (ListFlaw.Item place flaw) = fault_of (list_item list place) flaw
 list_fault list ListFlaw.Memory = CampFault.Memory
 
-unfoldable pub list_faults : {A : Type 0} → ListField → (Tree → Result A Flaw) → Tree → List CampFault
-list_faults list read t = map (list_fault list) (list_flaws read (present (member_name (list_whole list)) t))
+-- texts, and whole numbers within bounds: none where the list is absent
+unfoldable pub texts_field : ListField → Tree → Reading CampFault (List (List ℕ))
+texts_field list t = map_faults (list_fault list) (list_in [] as_text (present (member_name (list_whole list)) t))
 
-unfoldable pub list_from : {A : Type 0} → ListField → (Tree → Result A Flaw) → Tree → List A
-list_from list read t = list_values read (present (member_name (list_whole list)) t)
+unfoldable pub wholes_field : Bounds → ListField → Tree → Reading CampFault (List ℤ)
+wholes_field bounds list t =
+    map_faults (list_fault list) (list_in (pos 0) (as_whole bounds) (present (member_name (list_whole list)) t))
 
--- an element of an array: its own fault, a null's too, else those of what is in it
-unfoldable pub element_faults : {A : Type 0} → CampField → (A → List CampFault) → Result A Flaw → List CampFault
-element_faults field inside (Err flaw) = fault_of field flaw ∷ []
-element_faults field inside (Ok x) = inside x
+-- the fault where it is so
+abbrev pub fault_where : Bool → CampFault → List CampFault
+fault_where b fault = if b then fault ∷ [] else []

@@ -1,14 +1,15 @@
 //! A campaign read from its body, or the body's first fault.
-#![tactic(auto, using(json_fields::proofs::First::firsts), unfolding(crate::specs::Campaign::campaign_faults))]
+#![tactic(auto, using(json_fields::proofs::First::firsts), unfolding(crate::specs::Campaign::campaign_body))]
 
-ghost use Rattle.std.specs.Prelude.{◌≡◌, ◌%◌, ◌++◌, map};
+ghost use Rattle.std.specs.Prelude.{◌≡◌, ◌%◌, map};
 ghost use Rattle.exact_json.specs.Docs.{doc_tree};
 ghost use Rattle.exact_json.specs.Forms.{HasForms};
 ghost use Rattle.exact_json.specs.View.{tree_of};
 ghost use Rattle.json_fields.specs.Answers.{Answers};
+ghost use Rattle.json_fields.specs.Readings.{with_faults};
 ghost use Rattle.campaign.specs.Faults.{fact_faults};
 ghost use Rattle.target_expr.specs.Kept.{faults, keep};
-ghost use Rattle.campaign_read.specs.Campaign.{body_faults, campaign_faults, campaign_from, fault_of_target};
+ghost use Rattle.campaign_read.specs.Campaign.{body_in, campaign_body, fault_of_target, made_of};
 ghost use Rattle.campaign_read.specs.declared.fault.CampFault.{CampFault};
 
 use crate::fault::CampFault;
@@ -24,7 +25,7 @@ use target_expr::{Expr, ExprFault, RawPred};
 /// The campaign in a JSON text, or the first of its faults in the order in which the fields are read;
 /// then come the faults of the facts, and then those of the target.
 pub fn read_campaign(alloc: Global, doc: &Doc<'_>) -> Result<(Facts, Expr), CampFault>
-    ensures { Answers CampFault.Memory (campaign_faults (doc_tree doc.now)) (campaign_from (doc_tree doc.now)) result }
+    ensures { Answers CampFault.Memory (campaign_body (doc_tree doc.now)) result }
 {
     match fields::object_in(doc.root()) {
         Ok(body) => campaign_in(alloc, body),
@@ -34,7 +35,7 @@ pub fn read_campaign(alloc: Global, doc: &Doc<'_>) -> Result<(Facts, Expr), Camp
 
 fn campaign_in(alloc: Global, body: &Value<'_>) -> Result<(Facts, Expr), CampFault>
     requires forms { HasForms (tree_of body.now) }
-    ensures { Answers CampFault.Memory (body_faults (tree_of body.now)) (campaign_from (tree_of body.now)) result }
+    ensures { Answers CampFault.Memory (body_in (tree_of body.now)) result }
 {
     let read = both(parts_in(alloc, body), target_field(alloc, body));
     match read {
@@ -50,7 +51,7 @@ fn made_of(
     target: List<List<RawPred>>,
 ) -> Result<(Facts, Expr), CampFault>
     requires { parts.budget % 1000 ≡ 0 }
-    ensures { Answers CampFault.Memory (map CampFault.Fact (fact_faults parts) ++ map CampFault.Target (faults target)) (parts, keep target) result }
+    ensures { Answers CampFault.Memory (made_of parts target) result }
 {
     let made = both(facts_of(parts), expr_of(alloc, &target));
     drop(target);
@@ -59,7 +60,7 @@ fn made_of(
 
 fn facts_of(parts: FactParts) -> Result<Facts, CampFault>
     requires { parts.budget % 1000 ≡ 0 }
-    ensures { Answers CampFault.Memory (map CampFault.Fact (fact_faults parts)) parts result }
+    ensures { Answers CampFault.Memory (with_faults (map CampFault.Fact (fact_faults parts)) parts) result }
 {
     match Facts::make(parts) {
         Ok(facts) => Ok(facts),
@@ -68,7 +69,7 @@ fn facts_of(parts: FactParts) -> Result<Facts, CampFault>
 }
 
 fn expr_of(alloc: Global, raw: &List<List<RawPred>>) -> Result<Expr, CampFault>
-    ensures { Answers CampFault.Memory (map CampFault.Target (faults raw.now)) (keep raw.now) result }
+    ensures { Answers CampFault.Memory (with_faults (map CampFault.Target (faults raw.now)) (keep raw.now)) result }
 {
     match Expr::make(alloc, raw) {
         Ok(expr) => Ok(expr),

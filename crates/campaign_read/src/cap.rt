@@ -1,11 +1,11 @@
 //! The cap of a body.
-ghost use Rattle.std.specs.Prelude.{◌≡◌, pos};
+ghost use Rattle.std.specs.Prelude.{◌≡◌};
 ghost use Rattle.exact_json.specs.Forms.{HasForms};
 ghost use Rattle.exact_json.specs.View.{tree_of};
-ghost use Rattle.json_fields.specs.Answers.{Answers, value_or};
-ghost use Rattle.campaign.specs.Paths.{member_name};
-ghost use Rattle.campaign_read.specs.Cap.{cap_faults, cap_from, terms_faults, terms_from, whole_in};
-ghost use Rattle.campaign_read.specs.Parts.{faults_at};
+ghost use Rattle.json_fields.specs.Answers.{Answers};
+ghost use Rattle.json_fields.specs.Fields.{as_whole, present as present_in, required};
+ghost use Rattle.campaign_read.specs.Cap.{cap_field, terms_in};
+ghost use Rattle.campaign_read.specs.Parts.{whole_field};
 ghost use Rattle.campaign_read.specs.declared.fault.CampFault.{CampFault};
 
 use crate::fault::CampFault;
@@ -28,10 +28,10 @@ const SECONDS: Bounds = Bounds {
 };
 
 // The cap, which may be absent.
-#[tactic(auto, unfolding(crate::specs::Parts::faults_at, crate::specs::Cap::object_faults, crate::specs::Cap::object_from, crate::specs::Cap::cap_faults, crate::specs::Cap::cap_from))]
+#[tactic(auto, unfolding(crate::specs::Cap::cap_field))]
 pub(crate) fn cap_field(body: &Value<'_>) -> Result<Option<Cap>, CampFault>
     requires forms { HasForms (tree_of body.now) }
-    ensures { Answers CampFault.Memory (cap_faults (tree_of body.now)) (cap_from (tree_of body.now)) result }
+    ensures { Answers CampFault.Memory (cap_field (tree_of body.now)) result }
 {
     match fields::object(body, CampField::Cap.member()) {
         Ok(Some(cap)) => terms_of(cap),
@@ -41,10 +41,10 @@ pub(crate) fn cap_field(body: &Value<'_>) -> Result<Option<Cap>, CampFault>
 }
 
 // The two numbers of a cap, in the order in which they are read.
-#[tactic(auto, using(json_fields::proofs::First::firsts), unfolding(crate::specs::Cap::terms_faults, crate::specs::Cap::terms_from))]
+#[tactic(auto, using(json_fields::proofs::First::firsts), unfolding(crate::specs::Cap::terms_in))]
 fn terms_of(cap: &Value<'_>) -> Result<Option<Cap>, CampFault>
     requires forms { HasForms (tree_of cap.now) }
-    ensures { Answers CampFault.Memory (terms_faults (tree_of cap.now)) (terms_from (tree_of cap.now)) result }
+    ensures { Answers CampFault.Memory (terms_in (tree_of cap.now)) result }
 {
     let count = whole_field(cap, CampField::CapCount, &COUNT)?;
     let seconds = whole_field(cap, CampField::CapSeconds, &SECONDS)?;
@@ -52,10 +52,10 @@ fn terms_of(cap: &Value<'_>) -> Result<Option<Cap>, CampFault>
 }
 
 // A whole number that has to be there.
-#[tactic(auto, unfolding(crate::specs::Parts::faults_at, crate::specs::Cap::whole_in))]
+#[tactic(auto, unfolding(crate::specs::Parts::whole_field))]
 fn whole_field(object: &Value<'_>, field: CampField, bounds: &Bounds) -> Result<i32, CampFault>
     requires forms { HasForms (tree_of object.now) }
-    ensures { Answers CampFault.Memory (faults_at field (whole_in (member_name field) bounds.now (tree_of object.now))) (value_or (pos 0) (whole_in (member_name field) bounds.now (tree_of object.now))) result }
+    ensures { Answers CampFault.Memory (whole_field bounds.now field (tree_of object.now)) result }
 {
     match required_whole(object, field.member(), bounds) {
         Ok(n) => Ok(n),
@@ -63,10 +63,10 @@ fn whole_field(object: &Value<'_>, field: CampField, bounds: &Bounds) -> Result<
     }
 }
 
-#[tactic(auto, using(crate::proofs::Required::there, crate::proofs::Required::absent, crate::proofs::Required::flawed), unfolding(crate::specs::Cap::whole_in))]
+#[tactic(auto, using(crate::proofs::Required::there, crate::proofs::Required::absent, crate::proofs::Required::flawed))]
 fn required_whole(object: &Value<'_>, name: &[u8], bounds: &Bounds) -> Result<i32, Flaw>
     requires forms { HasForms (tree_of object.now) }
-    ensures { result ≡ whole_in name.now bounds.now (tree_of object.now) }
+    ensures { result ≡ required (as_whole bounds.now) (present_in name.now (tree_of object.now)) }
 {
     match fields::whole_number(object, name, bounds) {
         Ok(Some(n)) => Ok(n),

@@ -1,12 +1,11 @@
 //! The lists of a body: categories, attributes and deals.
-#![tactic(auto, using(json_fields::proofs::First::firsts_mapped), unfolding(crate::specs::Parts::list_faults, crate::specs::Parts::list_from))]
+#![tactic(auto, using(json_fields::proofs::First::firsts_mapped), unfolding(crate::specs::Parts::texts_field, crate::specs::Parts::wholes_field))]
 
 ghost use Rattle.std.specs.Prelude.{◌≡◌};
 ghost use Rattle.exact_json.specs.Forms.{HasForms};
 ghost use Rattle.exact_json.specs.View.{tree_of};
 ghost use Rattle.json_fields.specs.Answers.{Answers};
-ghost use Rattle.json_fields.specs.Fields.{as_text, as_whole};
-ghost use Rattle.campaign_read.specs.Parts.{attr_bounds, list_fault, list_faults, list_from, list_item, list_whole};
+ghost use Rattle.campaign_read.specs.Parts.{attr_bounds, list_fault, list_item, list_whole, texts_field, wholes_field};
 
 use crate::fault::CampFault;
 use crate::parts::fault;
@@ -61,7 +60,7 @@ pub(crate) fn texts_field(
     object: &Value<'_>,
     list: ListField,
 ) -> Result<List<Txt>, CampFault>
-    ensures { Answers CampFault.Memory (list_faults list as_text (tree_of object.now)) (list_from list as_text (tree_of object.now)) result }
+    ensures { Answers CampFault.Memory (texts_field list (tree_of object.now)) result }
 {
     match fields::texts(alloc, object, list.whole().member()) {
         Ok(texts) => Ok(texts),
@@ -88,7 +87,7 @@ const ATTR: Bounds = Bounds {
 // The attributes of the creative, which may be absent.
 pub(crate) fn attr_field(alloc: Global, object: &Value<'_>) -> Result<List<i32>, CampFault>
     requires forms { HasForms (tree_of object.now) }
-    ensures { Answers CampFault.Memory (list_faults ListField.Attr (as_whole attr_bounds) (tree_of object.now)) (list_from ListField.Attr (as_whole attr_bounds) (tree_of object.now)) result }
+    ensures { Answers CampFault.Memory (wholes_field attr_bounds ListField.Attr (tree_of object.now)) result }
 {
     match fields::whole_numbers(alloc, object, CampField::Attr.member(), &ATTR) {
         Ok(attr) => Ok(attr),

@@ -1,18 +1,16 @@
 //! The fields of a body: texts, amounts, sides and flags.
-ghost use Rattle.std.specs.Prelude.{◌≡◌, ◌*◌, ◌++◌, List, false, None, option_map, IfOk};
+ghost use Rattle.std.specs.Prelude.{◌≡◌, ◌*◌, ◌++◌, [], option_map, IfOk};
 ghost use Rattle.exact_json.specs.Forms.{HasForms};
 ghost use Rattle.exact_json.specs.View.{tree_of};
-ghost use Rattle.json_fields.specs.Answers.{Answers, value_or};
-ghost use Rattle.json_fields.specs.Fields.{as_flag, as_text, optional, or_absent, present};
-ghost use Rattle.campaign.specs.Paths.{member_name};
-ghost use Rattle.campaign_read.specs.Campaign.{parts_faults, parts_from};
-ghost use Rattle.campaign_read.specs.Pairs.{joined};
-ghost use Rattle.campaign_read.specs.Parts.{amount_faults, amount_from, fault_of, faults_at, side_faults, side_from, text_faults, text_from};
+ghost use Rattle.json_fields.specs.Answers.{Answers, map_ok};
+ghost use Rattle.json_fields.specs.Readings.{Reading, with_faults};
+ghost use Rattle.campaign_read.specs.Campaign.{parts_in};
+ghost use Rattle.campaign_read.specs.Parts.{amount_field, fault_of, flag_field, optional_text, optional_whole, side_bounds, text_field};
 
 use crate::cap::cap_field;
 use crate::fault::CampFault;
 use crate::lists::{ListField, attr_field, texts_field};
-use campaign::{CampField, Cap, FactParts};
+use campaign::{CampField, FactParts};
 use exact_json::Value;
 use json_fields as fields;
 use json_fields::{Bounds, Flaw};
@@ -32,13 +30,13 @@ pub(crate) fn fault(field: CampField, flaw: Flaw) -> CampFault
 }
 
 // A text.
-#[tactic(auto, unfolding(crate::specs::Parts::faults_at, crate::specs::Parts::text_faults, crate::specs::Parts::text_from))]
+#[tactic(auto, unfolding(crate::specs::Parts::text_field))]
 pub(crate) fn text_field(
     alloc: Global,
     object: &Value<'_>,
     field: CampField,
 ) -> Result<Txt, CampFault>
-    ensures { Answers CampFault.Memory (text_faults field (tree_of object.now)) (text_from (member_name field) (tree_of object.now)) result }
+    ensures { Answers CampFault.Memory (text_field field (tree_of object.now)) result }
 {
     match fields::required_text(object, field.member()) {
         Ok(text) => Ok(Txt::from_slice(alloc, text)?),
@@ -49,26 +47,65 @@ pub(crate) fn text_field(
 // The fields other than the target, in the order in which they are read.
 pub(crate) fn parts_in(alloc: Global, body: &Value<'_>) -> Result<FactParts, CampFault>
     requires forms { HasForms (tree_of body.now) }
-    ensures { Answers CampFault.Memory (parts_faults (tree_of body.now)) (parts_from (tree_of body.now)) result }
+    ensures { Answers CampFault.Memory (parts_in (tree_of body.now)) result }
 {
-    let read = text_field(alloc, body, CampField::Seat);
-    let read = both(read, text_field(alloc, body, CampField::Adomain));
-    let read = both(read, texts_field(alloc, body, ListField::Cat));
-    let read = both(read, side_field(body, CampField::W));
-    let read = both(read, side_field(body, CampField::H));
-    let read = both(read, attr_field(alloc, body));
-    let read = both(read, secure_field(body));
-    let read = both(read, amount_field(body, CampField::Bid));
-    let read = both(read, texts_field(alloc, body, ListField::Deals));
-    let read = both(read, amount_field(body, CampField::Budget));
-    let read = both(read, text_field(alloc, body, CampField::Adm));
-    let read = both(read, text_field(alloc, body, CampField::Crid));
-    let read = both(read, adid_field(alloc, body));
-    let read = both(read, cap_field(body));
-    match read {
-        Ok(read) => Ok(joined(read)),
+    let mut parts = blank_parts(alloc);
+    let filled = fill_parts(alloc, body, &mut parts);
+    kept(parts, filled)
+}
+
+// The value, once all of it was filled in.
+pub(crate) fn kept<T: Drop>(value: T, filled: Result<(), CampFault>) -> Result<T, CampFault>
+    ensures { result ≡ map_ok (λ _. value) filled }
+{
+    match filled {
+        Ok(()) => Ok(value),
         Err(fault) => Err(fault),
     }
+}
+
+// Fields in which nothing is filled yet.
+fn blank_parts(alloc: Global) -> FactParts {
+    FactParts {
+        seat: Txt::new(alloc),
+        adomain: Txt::new(alloc),
+        cat: List::new(alloc),
+        w: None,
+        h: None,
+        attr: List::new(alloc),
+        secure: false,
+        bid: Micros::new(0).unwrap(),
+        deals: List::new(alloc),
+        budget: Nanos::new(0).unwrap(),
+        adm: Txt::new(alloc),
+        crid: Txt::new(alloc),
+        adid: None,
+        cap: None,
+    }
+}
+
+// Fills in each field; the budget in nano-dollars.
+#[tactic(auto, using(json_fields::proofs::First::firsts), unfolding(crate::specs::Campaign::parts_in))]
+fn fill_parts(alloc: Global, body: &Value<'_>, parts: &mut FactParts) -> Result<(), CampFault>
+    requires forms { HasForms (tree_of body.now) }
+    ensures { Answers CampFault.Memory (parts_in (tree_of body.now)) (map_ok (λ _. parts.new) result) }
+{
+    parts.seat = text_field(alloc, body, CampField::Seat)?;
+    parts.adomain = text_field(alloc, body, CampField::Adomain)?;
+    parts.cat = texts_field(alloc, body, ListField::Cat)?;
+    parts.w = side_field(body, CampField::W)?;
+    parts.h = side_field(body, CampField::H)?;
+    parts.attr = attr_field(alloc, body)?;
+    parts.secure = secure_field(body)?;
+    parts.bid = amount_field(body, CampField::Bid)?;
+    parts.deals = texts_field(alloc, body, ListField::Deals)?;
+    let budget = amount_field(body, CampField::Budget)?;
+    parts.budget = nanos(budget);
+    parts.adm = text_field(alloc, body, CampField::Adm)?;
+    parts.crid = text_field(alloc, body, CampField::Crid)?;
+    parts.adid = adid_field(alloc, body)?;
+    parts.cap = cap_field(body)?;
+    Ok(())
 }
 
 // What two fields hold, or the fault of the first that has one. A value of a type parameter is let go of in one
@@ -78,7 +115,7 @@ pub(crate) fn both<A: Drop, B: Drop>(
     first: Result<A, CampFault>,
     second: Result<B, CampFault>,
 ) -> Result<(A, B), CampFault>
-    ensures { (a b : List CampFault) (x : A) (y : B) → Answers CampFault.Memory a x first → Answers CampFault.Memory b y second → Answers CampFault.Memory (a ++ b) (x, y) result }
+    ensures { (a : Reading CampFault A) (b : Reading CampFault B) → Answers CampFault.Memory a first → Answers CampFault.Memory b second → Answers CampFault.Memory (with_faults (a.faults ++ (b.faults ++ [])) (a.value, b.value)) result }
 {
     match first {
         Ok(first) => match second {
@@ -89,52 +126,6 @@ pub(crate) fn both<A: Drop, B: Drop>(
     }
 }
 
-// Seat, domain and categories, the sides, the attributes, whether it is secure, the bid, the deals, and the budget in
-// micro-dollars.
-type Stated = (
-    (
-        (
-            (
-                (
-                    ((((Txt, Txt), List<Txt>), Option<i32>), Option<i32>),
-                    List<i32>,
-                ),
-                bool,
-            ),
-            Micros,
-        ),
-        List<Txt>,
-    ),
-    Micros,
-);
-
-// The fields as they are read one after the other: those, the markup, two names of the creative, and the cap.
-type Read = ((((Stated, Txt), Txt), Option<Txt>), Option<Cap>);
-
-// The fields that were read; the budget in nano-dollars.
-fn joined(read: Read) -> FactParts
-    ensures { result ≡ joined read }
-{
-    let ((((stated, adm), crid), adid), cap) = read;
-    let (((((((((seat, adomain), cat), w), h), attr), secure), bid), deals), budget) = stated;
-    FactParts {
-        seat,
-        adomain,
-        cat,
-        w,
-        h,
-        attr,
-        secure,
-        bid,
-        deals,
-        budget: nanos(budget),
-        adm,
-        crid,
-        adid,
-        cap,
-    }
-}
-
 // A side of the creative has 1 to 32767 pixels.
 const SIDE: Bounds = Bounds {
     least: 1,
@@ -142,10 +133,10 @@ const SIDE: Bounds = Bounds {
 };
 
 // A side of the creative, which may be absent.
-#[tactic(auto, unfolding(crate::specs::Parts::faults_at, crate::specs::Parts::side_faults, crate::specs::Parts::side_from))]
+#[tactic(auto, unfolding(crate::specs::Parts::optional_whole))]
 fn side_field(body: &Value<'_>, field: CampField) -> Result<Option<i32>, CampFault>
     requires forms { HasForms (tree_of body.now) }
-    ensures { Answers CampFault.Memory (side_faults field (tree_of body.now)) (side_from (member_name field) (tree_of body.now)) result }
+    ensures { Answers CampFault.Memory (optional_whole side_bounds field (tree_of body.now)) result }
 {
     match fields::whole_number(body, field.member(), &SIDE) {
         Ok(found) => Ok(found),
@@ -153,10 +144,10 @@ fn side_field(body: &Value<'_>, field: CampField) -> Result<Option<i32>, CampFau
     }
 }
 
-#[tactic(auto, unfolding(crate::specs::Parts::faults_at))]
+#[tactic(auto, unfolding(crate::specs::Parts::flag_field))]
 fn secure_field(body: &Value<'_>) -> Result<bool, CampFault>
     requires forms { HasForms (tree_of body.now) }
-    ensures { Answers CampFault.Memory (faults_at CampField.Secure (or_absent false as_flag (present (member_name CampField.Secure) (tree_of body.now)))) (value_or false (or_absent false as_flag (present (member_name CampField.Secure) (tree_of body.now)))) result }
+    ensures { Answers CampFault.Memory (flag_field CampField.Secure (tree_of body.now)) result }
 {
     match fields::flag(body, CampField::Secure.member()) {
         Ok(found) => Ok(found),
@@ -165,10 +156,10 @@ fn secure_field(body: &Value<'_>) -> Result<bool, CampFault>
 }
 
 // An amount in US dollars.
-#[tactic(auto, unfolding(crate::specs::Parts::faults_at, crate::specs::Parts::amount_faults, crate::specs::Parts::amount_from))]
+#[tactic(auto, unfolding(crate::specs::Parts::amount_field))]
 fn amount_field(body: &Value<'_>, field: CampField) -> Result<Micros, CampFault>
     requires forms { HasForms (tree_of body.now) }
-    ensures { Answers CampFault.Memory (amount_faults field (tree_of body.now)) (amount_from (member_name field) (tree_of body.now)) result }
+    ensures { Answers CampFault.Memory (amount_field field (tree_of body.now)) result }
 {
     match fields::exact_price(body, field.member()) {
         Ok(found) => Ok(found),
@@ -183,9 +174,9 @@ fn nanos(amount: Micros) -> Nanos
     Nanos::new(amount.get() * 1000).unwrap()
 }
 
-#[tactic(auto, unfolding(crate::specs::Parts::faults_at))]
+#[tactic(auto, unfolding(crate::specs::Parts::optional_text))]
 fn adid_field(alloc: Global, body: &Value<'_>) -> Result<Option<Txt>, CampFault>
-    ensures { Answers CampFault.Memory (faults_at CampField.Adid (optional as_text (present (member_name CampField.Adid) (tree_of body.now)))) (value_or None (optional as_text (present (member_name CampField.Adid) (tree_of body.now)))) result }
+    ensures { Answers CampFault.Memory (optional_text CampField.Adid (tree_of body.now)) result }
 {
     match fields::text(body, CampField::Adid.member()) {
         Ok(found) => Ok(copy_of(alloc, found)?),

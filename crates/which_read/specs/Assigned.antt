@@ -4,12 +4,13 @@ use Rattle.std.specs.List.{filter_map, list_all}
 use Rattle.exact_json.specs.Tree.{Tree, null, boolean, number, string, array, object, members_of}
 use Rattle.json_fields.specs.Answers.{flaws_of, value_or}
 use Rattle.json_fields.specs.Fields.{as_object, as_text, optional, present, required}
+use Rattle.json_fields.specs.Readings.{Reading, with_faults, within}
 use Rattle.json_fields.specs.declared.flaw.Flaw.{Flaw}
 use Rattle.target_expr.specs.Attributes.{attr_named, attributes, name_of}
 use Rattle.target_expr.specs.declared.attr.Attr.{Attr}
 use Rattle.which_read.specs.declared.fault.WhichFault.{WhichFault}
 use Rattle.which_read.specs.declared.field.WhichField.{WhichField}
-use Rattle.which_read.specs.Parts.{fault_where, faults_inside}
+use Rattle.which_read.specs.Parts.{fault_of, fault_where}
 use Rattle.which_read.specs.Paths.{member_name}
 
 unfoldable pub members_in : Tree → List (List ℕ × Tree)
@@ -27,15 +28,9 @@ is_text t = list_all (λ (_ : Flaw). false) (flaws_of (as_text t))
 abbrev pub is_assigned : List ℕ × Tree → Bool
 is_assigned (name, t) = is_some (attr_named name) && is_text t
 
-unfoldable pub members_faults : Tree → List WhichFault
-members_faults t = fault_where (not (list_all is_assigned (members_in t))) (WhichFault.WrongType WhichField.Assignment)
-
 -- the object of that name, which has to be there
 unfoldable pub object_in : List ℕ → Tree → Result Tree Flaw
 object_in name t = required as_object (present name t)
-
-unfoldable pub assignment_faults : Tree → List WhichFault
-assignment_faults t = faults_inside WhichField.Assignment members_faults (object_in (member_name WhichField.Assignment) t)
 
 -- an attribute with its text, where it has one
 abbrev pub pair_of : Tree → Attr → Option (Attr × List ℕ)
@@ -45,5 +40,12 @@ pair_of t a = option_map (λ v. (a, v)) (value_or None (optional as_text (presen
 unfoldable pub pairs_from : Tree → List (Attr × List ℕ)
 pairs_from t = filter_map (pair_of t) attributes
 
-unfoldable pub assignment_from : Tree → List (Attr × List ℕ)
-assignment_from t = pairs_from (value_or null (object_in (member_name WhichField.Assignment) t))
+unfoldable pub assigned_in : Tree → Reading WhichFault (List (Attr × List ℕ))
+assigned_in t =
+    with_faults
+    (fault_where (not (list_all is_assigned (members_in t))) (WhichFault.WrongType WhichField.Assignment))
+    (pairs_from t)
+
+unfoldable pub assignment_field : Tree → Reading WhichFault (List (Attr × List ℕ))
+assignment_field t =
+    within (fault_of WhichField.Assignment) null assigned_in (object_in (member_name WhichField.Assignment) t)

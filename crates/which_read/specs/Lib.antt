@@ -1,5 +1,4 @@
 pub mod Assigned
-pub mod Chosen
 pub mod Clauses
 pub mod Made
 pub mod Numbered

@@ -1,7 +1,7 @@
 -- Cited by private functions alone: what is made of expressions as they are written, while they are read.
 use Rattle.std.specs.Prelude.{ℕ, List, [], ◌∷◌, ◌++◌, map, Option, None, Some, Result, Ok, Err}
 use Rattle.cnf_match.specs.Conjunctive.{Cnf}
-use Rattle.json_fields.specs.Items.{each_at}
+use Rattle.json_fields.specs.Readings.{each_at}
 use Rattle.which_read.specs.declared.expressions.Making.{Making}
 use Rattle.which_read.specs.declared.fault.WhichFault.{WhichFault}
 use Rattle.which_read.specs.Request.{Written, made_of, making_faults}

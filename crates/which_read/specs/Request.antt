@@ -1,11 +1,9 @@
--- A request for the best expressions in a JSON text: its faults in the order of reading, and what it holds.
-use Rattle.std.specs.Prelude.{ℕ, ◌+◌, pos, nat_lt, List, [], ◌∷◌, ◌++◌, length, map, Result, Ok, Err}
-use Rattle.exact_json.specs.Tree.{Tree}
-use Rattle.json_fields.specs.Answers.{value_or}
+-- A request for the best expressions in a JSON text: what is wrong with it, in the order of reading, and what it holds.
+use Rattle.std.specs.Prelude.{ℕ, ◌+◌, pos, nat_lt, List, [], length, map}
+use Rattle.exact_json.specs.Tree.{Tree, null}
 use Rattle.json_fields.specs.Fields.{as_object}
-use Rattle.json_fields.specs.Items.{each_at}
+use Rattle.json_fields.specs.Readings.{Reading, each_at, each_in, give, within, ◌>>◌, ◌>>=◌}
 use Rattle.json_fields.specs.declared.bounds.Bounds.{Bounds}
-use Rattle.json_fields.specs.declared.flaw.Flaw.{Flaw}
 use Rattle.target_expr.specs.declared.pred.RawPred.{RawPred}
 use Rattle.cnf_match.specs.Making.{faults, keep}
 use Rattle.cnf_match.specs.Conjunctive.{Cnf}
@@ -14,11 +12,11 @@ use Rattle.cnf_match.specs.declared.weight.RawWeight.{RawWeight}
 use Rattle.which_read.specs.declared.fault.WhichFault.{WhichFault}
 use Rattle.which_read.specs.declared.field.WhichField.{WhichField}
 use Rattle.which_read.specs.declared.request.Request.{Request}
-use Rattle.which_read.specs.Assigned.{assignment_faults, assignment_from}
-use Rattle.which_read.specs.Clauses.{clauses_faults, clauses_from}
-use Rattle.which_read.specs.Parts.{array_in, fault_where, faults_inside, number_faults, number_from}
+use Rattle.which_read.specs.Assigned.{assignment_field}
+use Rattle.which_read.specs.Clauses.{clauses_field}
+use Rattle.which_read.specs.Parts.{array_in, fault_of, fault_where, number_field}
 use Rattle.which_read.specs.Paths.{member_name}
-use Rattle.which_read.specs.Weighed.{weights_faults, weights_from}
+use Rattle.which_read.specs.Weighed.{weights_field}
 
 -- how many are wanted
 abbrev pub n_bounds : Bounds
@@ -30,24 +28,25 @@ n_bounds = record { least = pos 1; greatest = pos 4096 }
 abbrev pub Written : Type 0
 Written = List (List RawPred) × List RawWeight
 
-unfoldable pub expression_faults : ℕ → Tree → List WhichFault
-expression_faults i t = clauses_faults i t ++ weights_faults i t
+-- the expression at place i
+unfoldable pub expression_in : ℕ → Tree → Reading WhichFault Written
+expression_in i t = do
+  clauses ← clauses_field i t
+  weights ← weights_field i t
+  give (clauses, weights)
 
-unfoldable pub expression_from : Tree → Written
-expression_from t = (clauses_from t, weights_from t)
-
-abbrev pub expression_at : ℕ → Tree → List WhichFault
-expression_at i t = faults_inside (WhichField.Expression i) (expression_faults i) (as_object t)
+abbrev pub expression_at : ℕ → Tree → Reading WhichFault Written
+expression_at i t = within (fault_of (WhichField.Expression i)) null (expression_in i) (as_object t)
 
 -- at most 4,096 of them
-abbrev pub written_faults : List Tree → List WhichFault
-written_faults ts = fault_where (nat_lt 4096 (length ts)) (WhichFault.Range WhichField.Expressions) ++ each_at expression_at ts
+unfoldable pub written_in : List Tree → Reading WhichFault (List Written)
+written_in ts = do
+  fault_where (nat_lt 4096 (length ts)) (WhichFault.Range WhichField.Expressions)
+  each_in expression_at ts
 
-unfoldable pub expressions_faults : Tree → List WhichFault
-expressions_faults t = faults_inside WhichField.Expressions written_faults (array_in (member_name WhichField.Expressions) t)
-
-unfoldable pub expressions_from : Tree → List Written
-expressions_from t = map expression_from (value_or [] (array_in (member_name WhichField.Expressions) t))
+unfoldable pub expressions_field : Tree → Reading WhichFault (List Written)
+expressions_field t =
+    within (fault_of WhichField.Expressions) [] written_in (array_in (member_name WhichField.Expressions) t)
 
 -- ---- the whole
 
@@ -67,25 +66,22 @@ fault_of_making n (CnfFault.Weight at) = WhichFault.Expression n (CnfFault.Weigh
 unfoldable pub made_of : Written → Cnf
 made_of (raw, ws) = keep raw ws
 
-unfoldable pub request_faults : Tree → List WhichFault
-request_faults t = number_faults n_bounds WhichField.N t
-    ++ assignment_faults t
-    ++ expressions_faults t
-    ++ each_at making_faults (expressions_from t)
+-- how many are wanted, the assignment, and the expressions
+unfoldable pub fields_in : Tree → Reading WhichFault Request
+fields_in t = do
+  n ← number_field n_bounds WhichField.N t
+  assignment ← assignment_field t
+  written ← expressions_field t
+  each_at making_faults written
+  give (record { n = n; assignment = assignment; expressions = map made_of written })
 
 -- a request is an object
-abbrev pub faults_unless_object : Result Tree Flaw → List WhichFault
-faults_unless_object (Err flaw) = WhichFault.NotObject ∷ []
-faults_unless_object (Ok t) = request_faults t
+unfoldable pub which_request : Tree → Reading WhichFault Request
+which_request t = within (λ _. WhichFault.NotObject) null fields_in (as_object t)
 
 -- all that is wrong with the request, the first fault first
-unfoldable pub which_faults : Tree → List WhichFault
-which_faults t = faults_unless_object (as_object t)
+abbrev pub which_faults : Tree → List WhichFault
+which_faults t = (which_request t).faults
 
--- how many are wanted, the assignment, and the expressions
-unfoldable pub which_from : Tree → Request
-which_from t = record {
-  n = number_from n_bounds (member_name WhichField.N) t;
-  assignment = assignment_from t;
-  expressions = map made_of (expressions_from t);
-}
+abbrev pub which_from : Tree → Request
+which_from t = (which_request t).value

@@ -6,7 +6,7 @@ ghost use Rattle.exact_json.specs.View.{pair_of as member_of, tree_of};
 ghost use Rattle.json_fields.specs.Answers.{Answers, map_ok, value_or};
 ghost use Rattle.json_fields.specs.Fields.{as_text, optional, present};
 ghost use Rattle.target_expr.specs.Attributes.{attr_named, name_of};
-ghost use Rattle.which_read.specs.Assigned.{assignment_faults, assignment_from, is_assigned, is_text, members_faults, members_in, object_in, pair_of, pairs_from};
+ghost use Rattle.which_read.specs.Assigned.{assigned_in, assignment_field, is_assigned, is_text, members_in, object_in, pair_of, pairs_from};
 ghost use Rattle.which_read.specs.Numbered.{pair_numbered};
 ghost use Rattle.which_read.specs.declared.fault.WhichFault.{WhichFault};
 
@@ -21,9 +21,9 @@ use std::alloc::{AllocError, Global};
 use target_expr::{Assignment, Attr, attr_named};
 
 // The assignment.
-#[tactic(auto, unfolding(crate::specs::Assigned::assignment_faults, crate::specs::Assigned::assignment_from, crate::specs::Parts::faults_inside))]
+#[tactic(auto, unfolding(crate::specs::Assigned::assignment_field))]
 pub(crate) fn assignment_field(alloc: Global, body: &Value<'_>) -> Result<Assignment, WhichFault>
-    ensures { Answers WhichFault.Memory (assignment_faults (tree_of body.now)) (assignment_from (tree_of body.now)) result }
+    ensures { Answers WhichFault.Memory (assignment_field (tree_of body.now)) result }
 {
     match object_in(body, WhichField::Assignment.member()) {
         Ok(assigned) => assignment_in(alloc, assigned),
@@ -42,9 +42,9 @@ fn object_in<'a>(body: &Value<'a>, name: &[u8]) -> Result<&'a Value<'a>, Flaw>
     }
 }
 
-#[tactic(auto, unfolding(crate::specs::Assigned::members_faults))]
+#[tactic(auto, unfolding(crate::specs::Assigned::assigned_in))]
 fn assignment_in(alloc: Global, assigned: &Value<'_>) -> Result<Assignment, WhichFault>
-    ensures { Answers WhichFault.Memory (members_faults (tree_of assigned.now)) (pairs_from (tree_of assigned.now)) result }
+    ensures { Answers WhichFault.Memory (assigned_in (tree_of assigned.now)) result }
 {
     if !are_assigned(assigned) {
         return Err(WhichFault::WrongType {

@@ -4,10 +4,10 @@ ghost use Rattle.std.specs.List.{All};
 ghost use Rattle.exact_json.specs.Forms.{HasForms};
 ghost use Rattle.exact_json.specs.View.{tree_of};
 ghost use Rattle.json_fields.specs.Answers.{Answers, map_ok};
-ghost use Rattle.json_fields.specs.Items.{each_at};
+ghost use Rattle.json_fields.specs.Readings.{each_in, give, map_value, with_faults};
 ghost use Rattle.cnf_match.specs.Conjunctive.{Cnf};
 ghost use Rattle.which_read.specs.Made.{made_from, made_in, unless_first, with_next};
-ghost use Rattle.which_read.specs.Request.{expression_at, expression_faults, expression_from, expressions_faults, expressions_from, fault_of_making, made_of, making_faults, written_faults};
+ghost use Rattle.which_read.specs.Request.{expression_at, expression_in, expressions_field, fault_of_making, made_of, making_faults, written_in};
 ghost use Rattle.which_read.specs.declared.fault.WhichFault.{WhichFault};
 
 use crate::clauses::clauses_field;
@@ -38,10 +38,10 @@ pub(crate) struct Making {
 
 // The expressions. Each is made as soon as it is read, and a fault of making one is kept until all are read, since a
 // fault of a later one's fields comes before it.
-#[tactic(auto, unfolding(crate::specs::Request::expressions_faults, crate::specs::Request::expressions_from, crate::specs::Parts::faults_inside, crate::specs::Parts::array_in))]
+#[tactic(auto, unfolding(crate::specs::Request::expressions_field, crate::specs::Parts::array_in))]
 pub(crate) fn expressions_field(alloc: Global, body: &Value<'_>) -> Result<Made, WhichFault>
     requires forms { HasForms (tree_of body.now) }
-    ensures { Answers WhichFault.Memory (expressions_faults (tree_of body.now)) (made_from (expressions_from (tree_of body.now))) result }
+    ensures { Answers WhichFault.Memory (map_value made_from (expressions_field (tree_of body.now))) result }
 {
     match fields::required_array(body, WhichField::Expressions.member()) {
         Ok(values) => some_expressions(alloc, values),
@@ -53,7 +53,7 @@ pub(crate) fn expressions_field(alloc: Global, body: &Value<'_>) -> Result<Made,
 #[tactic(auto, using(json_fields::proofs::First::firsts))]
 fn some_expressions(alloc: Global, values: &[Value<'_>]) -> Result<Made, WhichFault>
     requires forms { All (λ v. HasForms (tree_of v)) values.now }
-    ensures { Answers WhichFault.Memory (written_faults (map tree_of values.now)) (made_from (map expression_from (map tree_of values.now))) result }
+    ensures { Answers WhichFault.Memory (map_value made_from (written_in (map tree_of values.now))) result }
 {
     if values.len() > MOST_EXPRESSIONS {
         return Err(WhichFault::Range {
@@ -66,7 +66,7 @@ fn some_expressions(alloc: Global, values: &[Value<'_>]) -> Result<Made, WhichFa
 fn all_expressions(alloc: Global, values: &[Value<'_>]) -> Result<Made, WhichFault>
     requires few { length values.now ≤ 4096 }
     requires forms { All (λ v. HasForms (tree_of v)) values.now }
-    ensures { Answers WhichFault.Memory (each_at expression_at (map tree_of values.now)) (made_from (map expression_from (map tree_of values.now))) result }
+    ensures { Answers WhichFault.Memory (map_value made_from (each_in expression_at (map tree_of values.now))) result }
 {
     let mut making = Making {
         made: Vec::with_capacity(alloc, values.len())?,
@@ -102,7 +102,7 @@ fn enter_all(alloc: Global, values: &[Value<'_>], making: &mut Making) -> Result
     requires right { making.old.fault ≡ None }
     requires few { length values.now ≤ 4096 }
     requires forms { All (λ v. HasForms (tree_of v)) values.now }
-    ensures { Answers WhichFault.Memory (each_at expression_at (map tree_of values.now)) (made_from (map expression_from (map tree_of values.now))) (map_ok (λ _. made_in making.new) result) }
+    ensures { Answers WhichFault.Memory (map_value made_from (each_in expression_at (map tree_of values.now))) (map_ok (λ _. made_in making.new) result) }
 {
     for (i, value) in values.iter().enumerate() {
         enter(alloc, i, value, making)?;
@@ -114,18 +114,15 @@ fn enter_all(alloc: Global, values: &[Value<'_>], making: &mut Making) -> Result
 fn enter(alloc: Global, i: usize, value: &Value<'_>, making: &mut Making) -> Result<(), WhichFault>
     requires forms { HasForms (tree_of value.now) }
     requires place { i < 4096 }
-    ensures { Answers WhichFault.Memory (expression_at i (tree_of value.now)) (with_next i (expression_from (tree_of value.now)) (made_in making.old)) (map_ok (λ _. made_in making.new) result) }
+    ensures { Answers WhichFault.Memory (map_value (λ written. with_next i written (made_in making.old)) (expression_at i (tree_of value.now))) (map_ok (λ _. made_in making.new) result) }
 {
     let written = expression_entry(alloc, i, value)?;
-    let done = add(alloc, i, &written, making);
-    drop(written);
-    done
+    add(alloc, i, written, making)
 }
 
-#[tactic(auto, unfolding(crate::specs::Parts::faults_inside))]
 fn expression_entry(alloc: Global, i: usize, value: &Value<'_>) -> Result<Written, WhichFault>
     requires forms { HasForms (tree_of value.now) }
-    ensures { Answers WhichFault.Memory (expression_at i (tree_of value.now)) (expression_from (tree_of value.now)) result }
+    ensures { Answers WhichFault.Memory (expression_at i (tree_of value.now)) result }
 {
     match fields::object_in(value) {
         Ok(expression) => expression_in(alloc, i, expression),
@@ -133,10 +130,10 @@ fn expression_entry(alloc: Global, i: usize, value: &Value<'_>) -> Result<Writte
     }
 }
 
-#[tactic(auto, unfolding(crate::specs::Request::expression_faults, crate::specs::Request::expression_from))]
+#[tactic(auto, unfolding(crate::specs::Request::expression_in))]
 fn expression_in(alloc: Global, i: usize, expression: &Value<'_>) -> Result<Written, WhichFault>
     requires forms { HasForms (tree_of expression.now) }
-    ensures { Answers WhichFault.Memory (expression_faults i (tree_of expression.now)) (expression_from (tree_of expression.now)) result }
+    ensures { Answers WhichFault.Memory (expression_in i (tree_of expression.now)) result }
 {
     both(
         clauses_field(alloc, i, expression),
@@ -145,11 +142,12 @@ fn expression_in(alloc: Global, i: usize, expression: &Value<'_>) -> Result<Writ
 }
 
 // Makes the expression that is written so at place `i`, where all before it could be made.
-fn add(alloc: Global, i: usize, written: &Written, making: &mut Making) -> Result<(), WhichFault>
+fn add(alloc: Global, i: usize, written: Written, making: &mut Making) -> Result<(), WhichFault>
     requires place { i < 4096 }
-    ensures { Answers WhichFault.Memory [] (with_next i written.now (made_in making.old)) (map_ok (λ _. made_in making.new) result) }
+    ensures { Answers WhichFault.Memory (give (with_next i written (made_in making.old))) (map_ok (λ _. made_in making.new) result) }
 {
     if making.fault.is_some() {
+        drop(written);
         return Ok(());
     }
     keep(making, make(alloc, i + 1, written))
@@ -158,7 +156,7 @@ fn add(alloc: Global, i: usize, written: &Written, making: &mut Making) -> Resul
 // Keeps the expression, or why it is none. Want of memory alone is answered.
 fn keep(making: &mut Making, made: Result<CnfExpr, WhichFault>) -> Result<(), WhichFault>
     requires right { making.old.fault ≡ None }
-    ensures { (faults : List WhichFault) (e : Cnf) → Answers WhichFault.Memory faults e made → Answers WhichFault.Memory [] (unless_first faults (making.old.made.items ++ e ∷ [])) (map_ok (λ _. made_in making.new) result) }
+    ensures { (faults : List WhichFault) (e : Cnf) → Answers WhichFault.Memory (with_faults faults e) made → Answers WhichFault.Memory (give (unless_first faults (making.old.made.items ++ e ∷ []))) (map_ok (λ _. made_in making.new) result) }
 {
     match made {
         Ok(expression) => Ok(push(&mut making.made, expression)?),
@@ -179,10 +177,11 @@ fn keep_fault(making: &mut Making, fault: WhichFault) -> Result<(), WhichFault>
 }
 
 #[tactic(auto, unfolding(crate::specs::Request::making_faults, crate::specs::Request::made_of))]
-fn make(alloc: Global, number: usize, written: &Written) -> Result<CnfExpr, WhichFault>
-    ensures { (place : ℕ) → number ≡ place + 1 → Answers WhichFault.Memory (making_faults place written.now) (made_of written.now) result }
+fn make(alloc: Global, number: usize, written: Written) -> Result<CnfExpr, WhichFault>
+    ensures { (place : ℕ) → number ≡ place + 1 → Answers WhichFault.Memory (with_faults (making_faults place written) (made_of written)) result }
 {
-    match CnfExpr::make(alloc, &written.0, &written.1) {
+    let (raw, weights) = written;
+    match CnfExpr::make(alloc, raw, weights) {
         Ok(expression) => Ok(expression),
         Err(fault) => Err(making_fault(number, fault)),
     }

@@ -1,11 +1,11 @@
 //! The fields of a request: texts, numbers and lists.
-ghost use Rattle.std.specs.Prelude.{◌≡◌, ◌++◌, ◌∷◌, [], List, OnOk, pos};
+ghost use Rattle.std.specs.Prelude.{◌≡◌, ◌++◌, ◌∷◌, [], OnOk};
 ghost use Rattle.exact_json.specs.Forms.{HasForms};
 ghost use Rattle.exact_json.specs.View.{tree_of};
 ghost use Rattle.json_fields.specs.Answers.{Answers, map_ok};
 ghost use Rattle.json_fields.specs.Fields.{as_whole, present, required};
-ghost use Rattle.which_read.specs.Parts.{fault_of, list_fault, number_faults, number_from, text_faults, text_from, texts_faults, texts_from};
-ghost use Rattle.which_read.specs.Paths.{item_of, member_name};
+ghost use Rattle.json_fields.specs.Readings.{Reading, with_faults};
+ghost use Rattle.which_read.specs.Parts.{fault_of, list_fault, number_field, text_field, texts_field};
 ghost use Rattle.which_read.specs.declared.fault.WhichFault.{WhichFault};
 
 use crate::fault::WhichFault;
@@ -28,13 +28,13 @@ pub(crate) fn fault(field: WhichField, flaw: Flaw) -> WhichFault
 }
 
 // A text that has to be there.
-#[tactic(auto, unfolding(crate::specs::Parts::faults_at, crate::specs::Parts::text_faults, crate::specs::Parts::text_from))]
+#[tactic(auto, unfolding(crate::specs::Parts::text_field))]
 pub(crate) fn text_field(
     alloc: Global,
     object: &Value<'_>,
     field: WhichField,
 ) -> Result<Txt, WhichFault>
-    ensures { Answers WhichFault.Memory (text_faults field (tree_of object.now)) (text_from (member_name field) (tree_of object.now)) result }
+    ensures { Answers WhichFault.Memory (text_field field (tree_of object.now)) result }
 {
     match fields::required_text(object, field.member()) {
         Ok(text) => Ok(Txt::from_slice(alloc, text)?),
@@ -43,14 +43,14 @@ pub(crate) fn text_field(
 }
 
 // A whole number that has to be there, within bounds from 0 on.
-#[tactic(auto, unfolding(crate::specs::Parts::faults_at, crate::specs::Parts::number_faults, crate::specs::Parts::number_from))]
+#[tactic(auto, unfolding(crate::specs::Parts::number_field))]
 pub(crate) fn number_field(
     object: &Value<'_>,
     field: WhichField,
     bounds: &Bounds,
 ) -> Result<u32, WhichFault>
     requires forms { HasForms (tree_of object.now) }
-    ensures { Answers WhichFault.Memory (number_faults bounds.now field (tree_of object.now)) (number_from bounds.now (member_name field) (tree_of object.now)) result }
+    ensures { Answers WhichFault.Memory (number_field bounds.now field (tree_of object.now)) result }
 {
     match required_whole(object, field.member(), bounds) {
         Ok(n) => Ok(n.unsigned_abs()),
@@ -71,13 +71,13 @@ fn required_whole(object: &Value<'_>, name: &[u8], bounds: &Bounds) -> Result<i3
 }
 
 // A list of texts, which may be absent.
-#[tactic(auto, using(json_fields::proofs::First::firsts_mapped), unfolding(crate::specs::Parts::texts_faults, crate::specs::Parts::texts_from))]
+#[tactic(auto, using(json_fields::proofs::First::firsts_mapped), unfolding(crate::specs::Parts::texts_field))]
 pub(crate) fn texts_field(
     alloc: Global,
     object: &Value<'_>,
     field: WhichField,
 ) -> Result<List<Txt>, WhichFault>
-    ensures { Answers WhichFault.Memory (texts_faults field (tree_of object.now)) (texts_from (member_name field) (tree_of object.now)) result }
+    ensures { Answers WhichFault.Memory (texts_field field (tree_of object.now)) result }
 {
     match fields::texts(alloc, object, field.member()) {
         Ok(texts) => Ok(texts),
@@ -102,7 +102,7 @@ pub(crate) fn both<A: Drop, B: Drop>(
     first: Result<A, WhichFault>,
     second: Result<B, WhichFault>,
 ) -> Result<(A, B), WhichFault>
-    ensures { (a b : List WhichFault) (x : A) (y : B) → Answers WhichFault.Memory a x first → Answers WhichFault.Memory b y second → Answers WhichFault.Memory (a ++ b) (x, y) result }
+    ensures { (a : Reading WhichFault A) (b : Reading WhichFault B) → Answers WhichFault.Memory a first → Answers WhichFault.Memory b second → Answers WhichFault.Memory (with_faults (a.faults ++ (b.faults ++ [])) (a.value, b.value)) result }
 {
     match first {
         Ok(first) => match second {
@@ -113,19 +113,12 @@ pub(crate) fn both<A: Drop, B: Drop>(
     }
 }
 
-// What was read, or the first fault.
-#[tactic(auto, using(json_fields::proofs::First::firsts))]
-pub(crate) fn unless_faulty<A: Drop>(
-    read: Result<A, WhichFault>,
-    right: Result<(), WhichFault>,
-) -> Result<A, WhichFault>
-    ensures { (a b : _) (x : A) → Answers WhichFault.Memory a x read → Answers WhichFault.Memory b tt right → Answers WhichFault.Memory (a ++ b) x result }
+// The value, once all of it was filled in.
+pub(crate) fn kept<T: Drop>(value: T, filled: Result<(), WhichFault>) -> Result<T, WhichFault>
+    ensures { result ≡ map_ok (λ _. value) filled }
 {
-    match read {
-        Ok(read) => match right {
-            Ok(()) => Ok(read),
-            Err(fault) => Err(fault),
-        },
+    match filled {
+        Ok(()) => Ok(value),
         Err(fault) => Err(fault),
     }
 }

@@ -1,12 +1,12 @@
 //! A request for the best expressions, or its first fault.
-#![tactic(auto, using(json_fields::proofs::First::firsts), unfolding(crate::specs::Request::which_faults))]
+#![tactic(auto, using(json_fields::proofs::First::firsts), unfolding(crate::specs::Request::which_request))]
 
 ghost use Rattle.std.specs.Prelude.{◌≡◌, ◌≤◌, length, IfOk};
 ghost use Rattle.exact_json.specs.Docs.{doc_tree};
 ghost use Rattle.exact_json.specs.Forms.{HasForms};
 ghost use Rattle.exact_json.specs.View.{tree_of};
 ghost use Rattle.json_fields.specs.Answers.{Answers, map_ok};
-ghost use Rattle.which_read.specs.Request.{request_faults, which_faults, which_from};
+ghost use Rattle.which_read.specs.Request.{fields_in, which_request};
 ghost use Rattle.which_read.specs.declared.fault.WhichFault.{WhichFault};
 
 use crate::assigned::assignment_field;
@@ -35,7 +35,7 @@ pub struct Request {
 /// The request in a JSON text, or the first of its faults in the order in which the fields are read; behind all of
 /// them come the faults of the expressions, in their order.
 pub fn read_request(alloc: Global, doc: &Doc<'_>) -> Result<Request, WhichFault>
-    ensures answer { Answers WhichFault.Memory (which_faults (doc_tree doc.now)) (which_from (doc_tree doc.now)) result }
+    ensures answer { Answers WhichFault.Memory (which_request (doc_tree doc.now)) result }
     ensures few { IfOk result (λ r. length r.expressions ≤ 4096) }
 {
     match fields::object_in(doc.root()) {
@@ -50,10 +50,10 @@ const N: Bounds = Bounds {
     greatest: 4_096,
 };
 
-#[tactic(auto, using(json_fields::proofs::First::firsts), unfolding(crate::specs::Request::request_faults))]
+#[tactic(auto, using(json_fields::proofs::First::firsts), unfolding(crate::specs::Request::fields_in))]
 fn request_in(alloc: Global, body: &Value<'_>) -> Result<Request, WhichFault>
     requires forms { HasForms (tree_of body.now) }
-    ensures { Answers WhichFault.Memory (request_faults (tree_of body.now)) (which_from (tree_of body.now)) result }
+    ensures { Answers WhichFault.Memory (fields_in (tree_of body.now)) result }
 {
     let n = number_field(body, WhichField::N, &N)?;
     let read = both(

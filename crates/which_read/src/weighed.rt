@@ -4,29 +4,29 @@ ghost use Rattle.std.specs.List.{All};
 ghost use Rattle.exact_json.specs.Forms.{HasForms};
 ghost use Rattle.exact_json.specs.View.{tree_of};
 ghost use Rattle.json_fields.specs.Answers.{Answers, map_ok};
-ghost use Rattle.json_fields.specs.Items.{each_at};
-ghost use Rattle.which_read.specs.Weighed.{weight_at, weight_faults, weight_from, weights_faults, weights_from};
+ghost use Rattle.json_fields.specs.Readings.{each_in};
+ghost use Rattle.which_read.specs.Weighed.{weight_at, weight_in, weights_field};
 ghost use Rattle.which_read.specs.declared.fault.WhichFault.{WhichFault};
 
 use crate::fault::WhichFault;
 use crate::field::WhichField;
-use crate::parts::{both, fault, filled, number_field, push, text_field};
+use crate::parts::{fault, filled, kept, number_field, push, text_field};
 use cnf_match::RawWeight;
 use exact_json::Value;
 use json_fields as fields;
 use json_fields::Bounds;
-use rtb_num::List;
+use rtb_num::{List, Txt};
 use std::alloc::Global;
 
 // The weights of the expression at place `i`, which may be absent.
-#[tactic(auto, unfolding(crate::specs::Weighed::weights_faults, crate::specs::Weighed::weights_from, crate::specs::Weighed::weights_in, crate::specs::Parts::faults_where_present))]
+#[tactic(auto, unfolding(crate::specs::Weighed::weights_field))]
 pub(crate) fn weights_field(
     alloc: Global,
     i: usize,
     expression: &Value<'_>,
 ) -> Result<List<RawWeight>, WhichFault>
     requires forms { HasForms (tree_of expression.now) }
-    ensures { Answers WhichFault.Memory (weights_faults i (tree_of expression.now)) (weights_from (tree_of expression.now)) result }
+    ensures { Answers WhichFault.Memory (weights_field i (tree_of expression.now)) result }
 {
     match fields::array(expression, WhichField::Weights(i).member()) {
         Ok(Some(values)) => all_weights(alloc, i, values),
@@ -37,7 +37,7 @@ pub(crate) fn weights_field(
 
 fn all_weights(alloc: Global, i: usize, values: &[Value<'_>]) -> Result<List<RawWeight>, WhichFault>
     requires forms { All (λ v. HasForms (tree_of v)) values.now }
-    ensures { Answers WhichFault.Memory (each_at (weight_at i) (map tree_of values.now)) (map weight_from (map tree_of values.now)) result }
+    ensures { Answers WhichFault.Memory (each_in (weight_at i) (map tree_of values.now)) result }
 {
     let mut weights = Vec::with_capacity(alloc, values.len())?;
     let read = push_weights(alloc, i, values, &mut weights);
@@ -53,7 +53,7 @@ fn push_weights(
 ) -> Result<(), WhichFault>
     requires none { weights.old.items ≡ [] }
     requires forms { All (λ v. HasForms (tree_of v)) values.now }
-    ensures { Answers WhichFault.Memory (each_at (weight_at i) (map tree_of values.now)) (map weight_from (map tree_of values.now)) (map_ok (λ _. weights.new.items) result) }
+    ensures { Answers WhichFault.Memory (each_in (weight_at i) (map tree_of values.now)) (map_ok (λ _. weights.new.items) result) }
 {
     for (j, value) in values.iter().enumerate() {
         push(weights, weight_entry(alloc, i, j, value)?)?;
@@ -61,7 +61,6 @@ fn push_weights(
     Ok(())
 }
 
-#[tactic(auto, unfolding(crate::specs::Parts::faults_inside))]
 fn weight_entry(
     alloc: Global,
     i: usize,
@@ -69,7 +68,7 @@ fn weight_entry(
     value: &Value<'_>,
 ) -> Result<RawWeight, WhichFault>
     requires forms { HasForms (tree_of value.now) }
-    ensures { Answers WhichFault.Memory (weight_at i j (tree_of value.now)) (weight_from (tree_of value.now)) result }
+    ensures { Answers WhichFault.Memory (weight_at i j (tree_of value.now)) result }
 {
     match fields::object_in(value) {
         Ok(weight) => weight_in(alloc, i, j, weight),
@@ -83,25 +82,38 @@ const WEIGHT: Bounds = Bounds {
     greatest: i32::MAX,
 };
 
-fn weight_in(alloc: Global, i: usize, j: usize, weight: &Value<'_>) -> Result<RawWeight, WhichFault>
-    requires forms { HasForms (tree_of weight.now) }
-    ensures { Answers WhichFault.Memory (weight_faults i j (tree_of weight.now)) (weight_from (tree_of weight.now)) result }
+fn weight_in(alloc: Global, i: usize, j: usize, value: &Value<'_>) -> Result<RawWeight, WhichFault>
+    requires forms { HasForms (tree_of value.now) }
+    ensures { Answers WhichFault.Memory (weight_in i j (tree_of value.now)) result }
 {
-    let read = text_field(alloc, weight, WhichField::WeightAttr(i, j));
-    let read = both(
-        read,
-        text_field(alloc, weight, WhichField::WeightValue(i, j)),
-    );
-    let read = both(
-        read,
-        number_field(weight, WhichField::WeightNumber(i, j), &WEIGHT),
-    );
-    match read {
-        Ok(((attr, value), weight)) => Ok(RawWeight {
-            attr,
-            value,
-            weight,
-        }),
-        Err(fault) => Err(fault),
+    let mut weight = blank_weight(alloc);
+    let filled = fill_weight(alloc, i, j, value, &mut weight);
+    kept(weight, filled)
+}
+
+// A weight of which nothing is known.
+fn blank_weight(alloc: Global) -> RawWeight {
+    RawWeight {
+        attr: Txt::new(alloc),
+        value: Txt::new(alloc),
+        weight: 0,
     }
+}
+
+// Fills in each field.
+#[tactic(auto, using(json_fields::proofs::First::firsts), unfolding(crate::specs::Weighed::weight_in))]
+fn fill_weight(
+    alloc: Global,
+    i: usize,
+    j: usize,
+    value: &Value<'_>,
+    weight: &mut RawWeight,
+) -> Result<(), WhichFault>
+    requires forms { HasForms (tree_of value.now) }
+    ensures { Answers WhichFault.Memory (weight_in i j (tree_of value.now)) (map_ok (λ _. weight.new) result) }
+{
+    weight.attr = text_field(alloc, value, WhichField::WeightAttr(i, j))?;
+    weight.value = text_field(alloc, value, WhichField::WeightValue(i, j))?;
+    weight.weight = number_field(value, WhichField::WeightNumber(i, j), &WEIGHT)?;
+    Ok(())
 }

@@ -1,12 +1,12 @@
 use Rattle.std.proofs.Common.{◌≡◌, [], map, take}
 use Rattle.exact_json.specs.View.{tree_of}
-use Rattle.json_fields.specs.Items.{each_at}
+use Rattle.json_fields.specs.Readings.{each_in}
 use Rattle.which_read.specs.Made.{made_from, made_in}
-use Rattle.which_read.specs.Request.{expression_at, expression_from}
+use Rattle.which_read.specs.Request.{expression_at}
 use Rattle.which_read.proofs.expressions.enter_all.Given as goal
 
 abbrev pub invariant-loop-i : goal.invariant-loop-i
 invariant-loop-i l = record {
-  right : each_at expression_at (map tree_of (take l.i l.values)) ≡ [];
-  found : made_in l.making ≡ made_from (map expression_from (map tree_of (take l.i l.values)));
+  right : (each_in expression_at (map tree_of (take l.i l.values))).faults ≡ [];
+  found : made_in l.making ≡ made_from (each_in expression_at (map tree_of (take l.i l.values))).value;
 }

@@ -9,6 +9,6 @@ use Rattle.which_read.proofs.expressions.make.Goals as goal
 pub returns-in-Err : goal.returns-in-Err
 unfolding making_faults
 returns-in-Err c = λ place is.
-    let written = c.args.written.now in
+    let written = c.args.written in
     let first = making_first c.args.number (faults written.0 written.1) c.in-Err.fault c.in-Err.ensures.fault in
     subst (λ n. IsFirst WhichFault.Memory (map (WhichFault.Expression n) (faults written.0 written.1)) c.making_fault.result) is (rw c.making_fault.ensures first)

@@ -1,9 +1,12 @@
-use Rattle.std.proofs.Common.{map, subst, sym}
+use Rattle.std.proofs.Common.{map, length, nat_lt}
 use Rattle.exact_json.specs.View.{tree_of}
-use Rattle.json_fields.specs.Answers.{Answers}
+use Rattle.json_fields.specs.Readings.{each_in, map_value}
+use Rattle.json_fields.proofs.First.{answers_behind}
 use Rattle.which_read.specs.declared.fault.WhichFault.{WhichFault}
+use Rattle.which_read.specs.declared.field.WhichField.{WhichField}
 use Rattle.which_read.specs.Made.{made_from}
-use Rattle.which_read.specs.Request.{expression_from}
+use Rattle.which_read.specs.Parts.{fault_where}
+use Rattle.which_read.specs.Request.{expression_at, written_in}
 use Rattle.which_read.proofs.Few.{few_enough, too_many}
 use Rattle.which_read.proofs.expressions.some_expressions.Goals as goal
 
@@ -11,6 +14,7 @@ pub returns-then-values-gt-MOST_EXPRESSIONS : goal.returns-then-values-gt-MOST_E
 returns-then-values-gt-MOST_EXPRESSIONS c = too_many tree_of c.args.values.now c.if-values-gt-MOST_EXPRESSIONS.true
 
 pub returns : goal.returns
+unfolding written_in
 returns c =
-    subst (λ faults. Answers WhichFault.Memory faults (made_from (map expression_from (map tree_of c.args.values.now))) c.all_expressions.result)
-    (sym (few_enough tree_of c.args.values.now c.if-values-gt-MOST_EXPRESSIONS.false)) c.all_expressions.ensures
+    answers_behind WhichFault.Memory (fault_where (nat_lt 4096 (length (map tree_of c.args.values.now))) (WhichFault.Range WhichField.Expressions)) (map_value made_from (each_in expression_at (map tree_of c.args.values.now))) c.all_expressions.result
+    (few_enough tree_of c.args.values.now c.if-values-gt-MOST_EXPRESSIONS.false) c.all_expressions.ensures

@@ -1,8 +1,0 @@
-use Rattle.std.proofs.Common.{rules}
-use Rattle.campaign_read.proofs.target.choose.Goals as goal
-
-pub returns-then-negated : goal.returns-then-negated
-returns-then-negated c = search rules
-
-pub returns-else-negated : goal.returns-else-negated
-returns-else-negated c = search rules
