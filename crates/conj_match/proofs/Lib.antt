@@ -4,5 +4,6 @@ pub mod Marks
 pub mod Merge
 pub mod Shortest
 pub mod Skips
+pub mod Strikes
 pub mod Turn
 pub mod Words

@@ -13,19 +13,8 @@ use Rattle.postings.specs.Order.{IsRising, entry_at, rank_of}
 use Rattle.postings.specs.Packed.{is_marked}
 use Rattle.conj_match.specs.Bits.{AreSet}
 use Rattle.conj_match.specs.Matching.{lists_at, has_negated, has_plain, is_match}
-use Rattle.conj_match.specs.Tally.{AreBlank, AreTaken, AreTallied, IsBelow, all_in, asks, excludes, is_hit, is_of, next_mark, tally_of}
+use Rattle.conj_match.specs.Tally.{AreBlank, AreTaken, AreTallied, IsBelow, all_in, asks, excludes, is_hit, is_of}
 use Rattle.conj_match.proofs.Lists.{ids_rise, rising_pairs}
-
--- one more entry of the number
-counted : (a negated : Bool) (n m : ℕ) → n + cond (not negated) 1 0 < 128 → m ≡ cond a 0 128 + n → next_mark m negated ≡ cond (a || negated) 0 128 + (n + cond (not negated) 1 0)
-counted true true n m few h = omega arith
-counted false true n m few h = omega arith
-counted true false n m few h = omega arith
-counted false false n m few h = omega arith
-
-same_sign : (a b : ℕ) (s : Bool) → a ≡ b → ((a == b) && s) ≡ s
-same_sign a b true e = grind (arith, nat_tests)
-same_sign a b false e = grind (arith, nat_tests)
 
 other_sign : (a b : ℕ) (s : Bool) → a ≢ b → ((a == b) && s) ≡ false
 other_sign a b true e = grind (arith, nat_tests)
@@ -38,63 +27,8 @@ or_false false = refl
 any_more : (p : Entry → Bool) (es : List Entry) (e : Entry) → list_any p (es ++ e ∷ []) ≡ (list_any p es || p e)
 any_more p es e = list_any-append p es (e ∷ []) ∙ ap (λ b. list_any p es || b) (or_false (p e))
 
-count_more : (p : Entry → Bool) (es : List Entry) (e : Entry) → count_by p (es ++ e ∷ []) ≡ count_by p es + cond (p e) 1 0
+pub count_more : (p : Entry → Bool) (es : List Entry) (e : Entry) → count_by p (es ++ e ∷ []) ≡ count_by p es + cond (p e) 1 0
 count_more p es e = sum_by_push (λ x. cond (p x) 1 0) es e
-
-tally_more : (id : ℕ) (es : List Entry) (e : Entry) → tally_of id (es ++ e ∷ []) ≡ cond (list_any (excludes id) es || excludes id e) 0 128 + (count_by (asks id) es + cond (asks id e) 1 0)
-tally_more id es e =
-    ap (λ b. cond b 0 128 + count_by (asks id) (es ++ e ∷ [])) (any_more (excludes id) es e)
-    ∙ ap (λ n. cond (list_any (excludes id) es || excludes id e) 0 128 + n) (count_more (asks id) es e)
-
-tally_same : (id : ℕ) (es : List Entry) (e : Entry) (m : ℕ) → e.id ≡ id → count_by (asks id) (es ++ e ∷ []) < 128 → m ≡ tally_of id es → next_mark m e.negated ≡ tally_of id (es ++ e ∷ [])
-tally_same id es e m is few before =
-    let sign = same_sign e.id id (not e.negated) is in
-    let more : count_by (asks id) (es ++ e ∷ []) ≡ count_by (asks id) es + cond (not e.negated) 1 0 = count_more (asks id) es e ∙ ap (λ b. count_by (asks id) es + cond b 1 0) sign in
-    counted (list_any (excludes id) es) e.negated (count_by (asks id) es) m (omega arith) before
-    ∙ ap (λ b. cond (list_any (excludes id) es || b) 0 128 + (count_by (asks id) es + cond (not e.negated) 1 0)) (sym (same_sign e.id id e.negated is))
-    ∙ ap (λ b. cond (list_any (excludes id) es || excludes id e) 0 128 + (count_by (asks id) es + cond b 1 0)) (sym sign)
-    ∙ sym (tally_more id es e)
-
-count_other : (id : ℕ) (es : List Entry) (e : Entry) → e.id ≢ id → count_by (asks id) (es ++ e ∷ []) ≡ count_by (asks id) es
-count_other id es e other = count_more (asks id) es e ∙ none (count_by (asks id) es) (asks id e) (other_sign e.id id (not e.negated) other)
-  where
-    none : (n : ℕ) (b : Bool) → b ≡ false → n + cond b 1 0 ≡ n
-    none n true h = absurd (false≢true (sym h))
-    none n false h = omega arith
-
-tally_other : (id : ℕ) (es : List Entry) (e : Entry) → e.id ≢ id → tally_of id es ≡ tally_of id (es ++ e ∷ [])
-tally_other id es e other =
-    ap (λ b. cond b 0 128 + count_by (asks id) es) (sym (any_more (excludes id) es e ∙ ap (λ b. list_any (excludes id) es || b) (other_sign e.id id e.negated other) ∙ or_false (list_any (excludes id) es)))
-    ∙ ap (λ n. cond (list_any (excludes id) (es ++ e ∷ [])) 0 128 + n) (sym (count_other id es e other))
-
-fewer_before : (id : ℕ) (es : List Entry) (e : Entry) → count_by (asks id) (es ++ e ∷ []) < 128 → count_by (asks id) es < 128
-fewer_before id es e few =
-    let more = count_more (asks id) es e in
-    omega arith
-
-pub tallied_more : (marks : List ℕ) (before : List Entry) (e : Entry) (m : ℕ) → e.id < length marks → m ≡ next_mark (slice_index marks e.id) e.negated
-    → AreTallied marks before → AreTallied (set marks e.id m) (before ++ e ∷ [])
-tallied_more marks before e m within is tallied id h few =
-    let here : id < length marks = omega (arith, length-set marks e.id m) in
-    elim (cases_eq e.id id) [
-      | inl same ↦
-          let old : slice_index marks e.id ≡ tally_of id before = ap (slice_index marks) same ∙ tallied id here (fewer_before id before e few) in
-          ap (λ n. slice_index (set marks e.id m) n) (sym same)
-          ∙ get_or-set_same marks e.id m 0 within
-          ∙ is
-          ∙ tally_same id before e (slice_index marks e.id) same few old
-      | inr other ↦
-          let apart : id ≢ e.id = λ q. other (sym q) in
-          get_or-set_other marks e.id id m 0 apart
-          ∙ tallied id here (fewer_before id before e few)
-          ∙ tally_other id before e other
-    ]
-
--- an entry without a mark
-pub tallied_beyond : (marks : List ℕ) (before : List Entry) (e : Entry) → length marks ≤ e.id → AreTallied marks before → AreTallied marks (before ++ e ∷ [])
-tallied_beyond marks before e past tallied id h few =
-    let other : e.id ≢ id = omega arith in
-    tallied id h (fewer_before id before e few) ∙ tally_other id before e other
 
 -- over all lists, as many entries ask as there are lists that do
 any_in : (id : ℕ) (lists : List (List Entry)) → list_any (excludes id) (all_in lists) ≡ list_any (has_negated id) lists

@@ -1,5 +1,5 @@
 -- The marks of a match by counting, which the crate's private clauses cite.
-use Rattle.std.specs.Prelude.{ℕ, ◌≡◌, ◌+◌, ◌%◌, ◌<◌, ◌&&◌, ◌||◌, ◌==◌, not, nat_le, List, Bool, if◌then◌else◌, count_by, length, slice_index}
+use Rattle.std.specs.Prelude.{ℕ, ◌≡◌, ◌+◌, ◌<◌, ◌&&◌, ◌||◌, ◌==◌, not, nat_le, List, Bool, if◌then◌else◌, count_by, length, slice_index}
 use Rattle.std.specs.List.{flat_map, list_any}
 use Rattle.postings.specs.declared.entry.Entry.{Entry}
 use Rattle.postings.specs.Order.{entry_at}
@@ -34,10 +34,6 @@ AreTallied marks es = (id : ℕ) → id < length marks → count_by (asks id) es
 -- the marks of no entry
 abbrev pub AreBlank : List ℕ → Type 0
 AreBlank marks = (i : ℕ) → i < length marks → slice_index marks i ≡ 128
-
--- the mark after one more entry
-abbrev pub next_mark : ℕ → Bool → ℕ
-next_mark mark negated = if negated then mark % 128 else (mark + 1) % 256
 
 -- the mark is that of a match
 abbrev pub is_hit : ℕ → ℕ → Bool

@@ -40,7 +40,21 @@ pub(crate) fn push_numbers(bits: &[u64], numbers: &mut Vec<u32>) -> Result<(), A
 }
 
 // Appends the numbers of the bits of one word, the first of which is `base`.
+#[inline(always)]
 fn push_word(word: u64, base: u32, numbers: &mut Vec<u32>) -> Result<(), AllocError>
+    requires { base + 64 ≤ 2 ^ 32 }
+    ensures { OnOk result ((bits : List ℕ) → IsWord bits base word → AreThose (is_marked bits) base numbers.old.items → AreThose (is_marked bits) (base + 64) numbers.new.items) }
+{
+    if word == 0 {
+        return Ok(());
+    }
+    push_bits(word, base, numbers)
+}
+
+// The same, of a word that has bits. It stands apart, so that going past words that have none is a short
+// loop.
+#[inline(never)]
+fn push_bits(word: u64, base: u32, numbers: &mut Vec<u32>) -> Result<(), AllocError>
     requires { base + 64 ≤ 2 ^ 32 }
     ensures { OnOk result ((bits : List ℕ) → IsWord bits base word → AreThose (is_marked bits) base numbers.old.items → AreThose (is_marked bits) (base + 64) numbers.new.items) }
 {

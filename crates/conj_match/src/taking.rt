@@ -8,7 +8,6 @@ ghost use Rattle.conj_match.specs.Matching.{lists_at};
 ghost use Rattle.conj_match.specs.Tally.{AreTaken, all_in, is_hit};
 
 use crate::bits::set_bit;
-use crate::leaping::entry_at;
 use postings::Postings;
 use rtb_base::Steps;
 use std::simd::prelude::*;
@@ -80,8 +79,9 @@ fn take_list<L: Ledger>(
     ensures taken { (first : List ℕ) (found : List ℕ) (before : List Entry) → length first ≡ length marks.old → AreTaken k first found before marks.old hits.old → AreTaken k first found (before ++ list.now) marks.new hits.new }
     ensures cost { steps.new ≤ steps.old + length list.now }
 {
-    for place in 0..list.len() {
-        take_mark(marks, hits, entry_at(list, place, steps).id as usize, k);
+    let entries = list.read(steps);
+    for id in entries.ids {
+        take_mark(marks, hits, *id as usize, k);
     }
 }
 

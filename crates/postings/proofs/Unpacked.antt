@@ -1,5 +1,5 @@
 -- A posting list has the entries that it was made of.
-use Rattle.std.proofs.Common.{◌≡◌, ℕ, ◌+◌, ◌-◌, ◌<◌, suc, zero, List, [], ◌∷◌, Bool, refl, sym, ◌∙◌, ap, arith, length, map, Some, option_map, slice_get}
+use Rattle.std.proofs.Common.{◌≡◌, ℕ, ◌+◌, ◌<◌, suc, zero, List, [], ◌∷◌, Bool, refl, sym, ◌∙◌, ap, arith, length, map, Some, option_map, slice_get, slice_index}
 use Rattle.postings.specs.declared.entry.Entry.{Entry}
 use Rattle.postings.specs.Order.{entry_at}
 use Rattle.postings.specs.Packed.{AreMarked, id_of, is_marked, unpack, unpack_from}
@@ -33,3 +33,13 @@ get_from marks n (id ∷ ids) (suc i) =
 
 pub unpacked_get : (ids marks : List ℕ) (i : ℕ) → slice_get (unpack ids marks) i ≡ option_map (λ (id : ℕ). record { id = id; negated = is_marked marks i }) (slice_get ids i)
 unpacked_get ids marks i = get_from marks 0 ids i ∙ ap (λ k. option_map (λ (id : ℕ). record { id = id; negated = is_marked marks k }) (slice_get ids i)) (omega arith)
+
+at_from : (marks : List ℕ) (n : ℕ) (ids : List ℕ) (i : ℕ) → i < length ids → entry_at (unpack_from marks n ids) i ≡ record { id = slice_index ids i; negated = is_marked marks (n + i) }
+at_from marks n [] i h = absurd (omega arith)
+at_from marks n (id ∷ ids) zero h = ap (λ k. record { id = id; negated = is_marked marks k }) (omega arith)
+at_from marks n (id ∷ ids) (suc i) h =
+    let same : n + 1 + i ≡ n + suc i = omega arith in
+    at_from marks (n + 1) ids i (omega arith) ∙ ap (λ k. record { id = slice_index ids i; negated = is_marked marks k }) same
+
+pub unpacked_at : (ids marks : List ℕ) (i : ℕ) → i < length ids → entry_at (unpack ids marks) i ≡ record { id = slice_index ids i; negated = is_marked marks i }
+unpacked_at ids marks i h = at_from marks 0 ids i h ∙ ap (λ k. record { id = slice_index ids i; negated = is_marked marks k }) (omega arith)

@@ -1,12 +1,13 @@
 //! Posting lists: sorted lists of the conjunctions that name a value.
 //!
 //! `specs/Order.antt` has the order of the entries, and `specs/Packed.antt` how they are kept. A list
-//! is read one entry at a time, and each entry that is read is counted, so that the cost of a match can
-//! be part of its contract.
+//! is read one entry at a time or all at once, and each entry that is read is counted, so that the cost
+//! of a match can be part of its contract.
 #![tactic(auto)]
 
-ghost use Rattle.std.specs.Prelude.{◌≡◌, ◌≤◌, ◌<◌, ◌+◌, ◌↔◌, ℕ, length, IfOk, IfErr, Err, MatchOption, slice_get};
+ghost use Rattle.std.specs.Prelude.{◌≡◌, ◌≤◌, ◌<◌, ◌+◌, ◌*◌, ◌↔◌, ℕ, length, IfOk, IfErr, Err, MatchOption, slice_get};
 ghost use Rattle.postings.specs.Order.{IsRising, IsFirstBelow, IsFirstEqual, explains, rank_of};
+ghost use Rattle.postings.specs.Packed.{unpack};
 ghost use Rattle.postings.specs.declared.fault.BuildFault.TheVariants.{NotSorted, Repeated, Memory as memory};
 
 use rtb_base::Steps;
@@ -21,7 +22,8 @@ mod packing;
 
 pub use entry::Entry;
 pub use fault::BuildFault;
-use packing::{ids_of, is_marked, marks_of};
+pub use packing::Packed;
+use packing::{count, ids_of, is_marked, marks_of};
 
 /// A posting list: entries that rise strictly. Contracts see it as the list of its entries.
 ///
@@ -84,6 +86,22 @@ impl Postings {
             id,
             negated: is_marked(self.marks.as_slice(), place),
         })
+    }
+
+    /// All entries at once, as they are kept.
+    ///
+    /// One step is one entry read.
+    pub fn read<L: Ledger>(&self, steps: &mut Steps<L>) -> Packed<'_>
+        ensures value { unpack result.ids.now result.negated.now ≡ self.now }
+        ensures room { length result.ids.now ≤ 64 * length result.negated.now }
+        ensures rising { IsRising self.now }
+        ensures read { steps.new ≡ steps.old + length self.now }
+    {
+        count(self.ids.len(), steps);
+        Packed {
+            ids: self.ids.as_slice(),
+            negated: self.marks.as_slice(),
+        }
     }
 }
 

@@ -1,9 +1,30 @@
 //! The numbers and the marks of entries, packed.
-ghost use Rattle.std.specs.Prelude.{◌≡◌, ◌≢◌, ◌≤◌, ◌<◌, ◌*◌, ◌/◌, ℕ, false, map, length, IfOk};
+ghost use Rattle.std.specs.Prelude.{◌≡◌, ◌≢◌, ◌≤◌, ◌<◌, ◌+◌, ◌*◌, ◌/◌, ℕ, false, map, length, IfOk};
 ghost use Rattle.postings.specs.Packed.{AreMarked, id_of, is_marked};
 
 use crate::entry::Entry;
+use rtb_base::Steps;
 use std::alloc::{AllocError, Global};
+use std::sync::ledger::Ledger;
+
+/// The entries of a posting list as it keeps them.
+#[derive(Clone, Copy)]
+pub struct Packed<'a> {
+    /// The conjunctions' numbers.
+    pub ids: &'a [u32],
+    /// A bit for each entry, 64 to a word and the lowest first, which is set where it is negated.
+    pub negated: &'a [u64],
+}
+
+/// Counts a step for each entry. It takes no time.
+#[inline(always)]
+pub(crate) fn count<L: Ledger>(entries: usize, steps: &mut Steps<L>)
+    ensures { steps.new ≡ steps.old + entries }
+{
+    for _ in 0..entries {
+        steps.tick();
+    }
+}
 
 /// The numbers of the entries.
 pub(crate) fn ids_of(alloc: Global, entries: &[Entry]) -> Result<Vec<u32>, AllocError>

@@ -1,21 +1,10 @@
-use Rattle.std.proofs.Common.{◌++◌, take, ◌∙◌, subst, arith}
+use Rattle.std.proofs.Common.{◌++◌, ◌∙◌, subst}
 use Rattle.conj_match.specs.Tally.{AreTallied}
-use Rattle.conj_match.proofs.Marks.{entry_more, entries_end}
+use Rattle.conj_match.proofs.Strikes.{tallied_by}
 use Rattle.conj_match.proofs.marking.mark_list.Goals as goal
-
-pub loop-place-preserved : goal.loop-place-preserved
-loop-place-preserved g c =
-    let list = c.args.list.now in
-    let i = c.loop-place.place in
-    let marks = c.mark_entry.new.marks in
-    record {
-      len = c.mark_entry.ensures.len ∙ c.loop-place.invariant.len;
-      tallied = λ before tallied. subst (AreTallied marks) (entry_more before list i c.entry_at.result (omega (arith, c.loop-place-test.true, c.len-place-end.ensures.value)) c.entry_at.ensures.value)
-          (c.mark_entry.ensures.marks (before ++ take i list) (c.loop-place.invariant.tallied before tallied));
-      cost = omega (arith, c.entry_at.ensures.cost, c.loop-place.invariant.cost);
-    }
 
 pub returns-clause-marks : goal.returns-clause-marks
 returns-clause-marks g c = λ before tallied.
-    subst (AreTallied c.loop-place.marks) (entries_end before c.args.list.now c.loop-place.place (omega (arith, c.loop-place-test.false, c.len-place-end.ensures.value)))
-    (c.loop-place.invariant.tallied before tallied)
+    let entries = c.read-entries.result in
+    subst (λ l. AreTallied c.strike_all.new.marks (before ++ l)) c.read-entries.ensures.value
+    (tallied_by c.args.marks.now c.count_all.new.marks c.strike_all.new.marks entries.ids.now entries.negated.now before c.count_all.ensures.len (c.strike_all.ensures.len ∙ c.count_all.ensures.len) c.count_all.ensures.counts c.strike_all.ensures.struck tallied)
