@@ -13,3 +13,5 @@ pub mod Left
 pub mod Answered
 pub mod Turns
 pub mod Naming
+pub mod Pairs
+pub mod Below

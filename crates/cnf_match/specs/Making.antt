@@ -1,5 +1,5 @@
 -- Expressions in conjunctive form as they are written, their faults, and how they are kept.
-use Rattle.std.specs.Prelude.{ℕ, ◌≡◌, ◌==◌, ◌&&◌, ◌||◌, nat_lt, true, List, [], ◌∷◌, ◌++◌, ◌-◌, length, take, map, get_or, Bool, if◌then◌else◌, Option, Some, is_none, option_map, find}
+use Rattle.std.specs.Prelude.{ℕ, ◌≡◌, ◌==◌, ◌&&◌, ◌||◌, nat_lt, true, List, [], ◌∷◌, ◌++◌, ◌-◌, length, take, map, get_or, Bool, if◌then◌else◌, Option, Some, is_none, option_map, find, Result, Ok, Err}
 use Rattle.std.specs.List.{list_any, flat_map, filter_map, enumerate_from}
 use Rattle.std.specs.Str.{bytes_eq}
 use Rattle.target_expr.specs.declared.pred.Pred.{Pred}
@@ -64,6 +64,12 @@ IsFirstUnlessMemory fs f = first_of fs ≡ Some f
 -- the last byte, which private clauses cite
 abbrev pub end_of : List ℕ → ℕ
 end_of text = get_or text (length text - 1) 0
+
+-- both, unless memory was refused for one, which private clauses cite
+abbrev pub both_of : {A B E : Type 0} → Result A E → Result B E → Result (A × B) E
+both_of (Ok a) (Ok b) = Ok (a, b)
+both_of (Ok a) (Err e) = Err e
+both_of (Err e) second = Err e
 
 -- ---- what is kept
 

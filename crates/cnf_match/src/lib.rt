@@ -15,6 +15,7 @@ mod growing;
 mod index;
 mod make;
 mod names;
+mod rising;
 mod truth;
 mod weight;
 

@@ -163,6 +163,20 @@ sorted_is_in_order ts sorted moved rising =
     (λ z h. in_order_has ts z (has_from_contains ts z (Contains-permutation sorted ts z (IsPermutation-sym ts sorted moved) (Contains-from_dedup (pointwise nat_eq) sorted z (contains_from_has _ z h)))))
     (λ z h. has_from_contains _ z (Contains-dedup nat_list_eq_equiv equal_bytes sorted z (Contains-permutation ts sorted z moved (contains_from_has ts z (has_in_order ts z h)))))
 
+-- ---- texts that rise already
+
+first_stays : (x : Text) (a b : List Text) (o : Ordering) → is_lt o ≡ true → by_order o (x ∷ a) a b ≡ x ∷ a
+first_stays x a b Less e = refl
+first_stays x a b Equal e = cc
+first_stays x a b Greater e = cc
+
+pub risen_in_order : (ts : List Text) → rise text_below ts ≡ true → in_order ts ≡ ts
+risen_in_order [] e = refl
+risen_in_order (x ∷ []) e = refl
+risen_in_order (x ∷ y ∷ ts) e =
+    let parts = and_parts (text_below x y) (rise text_below (y ∷ ts)) e in
+    ap (put_in x) (risen_in_order (y ∷ ts) parts.1) ∙ first_stays x (y ∷ ts) (y ∷ put_in x ts) (order x y) parts.0
+
 -- ---- as tests
 
 pub rise_from_up : (xs : List Text) → Up xs → rise text_below xs ≡ true

@@ -9,6 +9,7 @@ use crate::attr::{ATTRIBUTES, Attr};
 use crate::check::first_fault;
 use crate::expr::Expr;
 use crate::fault::ExprFault;
+use crate::order::values_rise;
 use crate::pred::{Pred, RawPred};
 use rtb_num::{List, Txt};
 use std::alloc::{AllocError, Global};
@@ -75,7 +76,7 @@ fn push_kept(
     ensures { OnOk result (preds.new ≡ preds.old ++ keep_in conjunction.now (attr ∷ [])) }
 {
     if let Some(pred) = find_named(conjunction, attr) {
-        preds.push(keep_pred(alloc, attr, pred)?)?;
+        preds.push(kept_copy(alloc, attr, pred)?)?;
     }
     Ok(())
 }
@@ -89,26 +90,54 @@ fn find_named(conjunction: &[RawPred], attr: Attr) -> Option<&RawPred>
         .find(|pred| pred.attr.as_bytes() == attr.name())
 }
 
-/// The predicate of that attribute, with its values in byte order, each once.
-pub fn keep_pred(alloc: Global, attr: Attr, pred: &RawPred) -> Result<Pred, AllocError>
+// The predicate of that attribute, with copies of its values.
+fn kept_copy(alloc: Global, attr: Attr, pred: &RawPred) -> Result<Pred, AllocError>
     ensures { IfOk result (λ p. p ≡ keep_pred attr pred.now) }
 {
-    let values = in_order(alloc, pred.values.as_slice())?;
+    let values = copies(alloc, pred.values.as_slice())?;
     Ok(Pred {
         attr,
         negated: pred.negated,
-        values,
+        values: in_order(List::from_vec(values)),
     })
 }
 
-// The texts in byte order, each once.
-fn in_order(alloc: Global, texts: &[Txt]) -> Result<List<Txt>, AllocError>
-    ensures { IfOk result (λ kept. kept ≡ in_order texts.now) }
+/// The predicate of that attribute, with its values in byte order, each once, in the memory that they are in.
+pub fn keep_pred(attr: Attr, pred: RawPred) -> Pred
+    ensures { result ≡ keep_pred attr pred }
 {
-    let mut kept = copies(alloc, texts)?;
+    let RawPred {
+        attr: name,
+        negated,
+        values,
+    } = pred;
+    drop(name);
+    Pred {
+        attr,
+        negated,
+        values: in_order(values),
+    }
+}
+
+// The texts in byte order, each once. Mostly they are written so.
+#[tactic(auto, using(crate::proofs::ByteOrder::risen_in_order))]
+fn in_order(texts: List<Txt>) -> List<Txt>
+    ensures { result ≡ in_order texts }
+{
+    if values_rise(texts.as_slice()) {
+        texts
+    } else {
+        sorted(texts)
+    }
+}
+
+fn sorted(texts: List<Txt>) -> List<Txt>
+    ensures { result ≡ in_order texts }
+{
+    let mut kept = texts.into_vec();
     kept.sort_unstable();
     kept.dedup();
-    Ok(List::from_vec(kept))
+    List::from_vec(kept)
 }
 
 // The same texts.

@@ -49,7 +49,7 @@ fn are_short(values: &[Txt]) -> bool
 }
 
 // Whether each value is below the next in byte order.
-fn values_rise(values: &[Txt]) -> bool
+pub(crate) fn values_rise(values: &[Txt]) -> bool
     ensures { result ≡ rise text_below values.now }
 {
     for i in 1..values.len() {

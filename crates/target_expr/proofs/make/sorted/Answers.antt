@@ -2,10 +2,10 @@ use Rattle.std.proofs.Common.{◌∙◌, ap}
 use Rattle.std.proofs.lemmas.List.Filters.{dedup_is}
 use Rattle.target_expr.specs.Kept.{in_order}
 use Rattle.target_expr.proofs.ByteOrder.{sorted_is_in_order}
-use Rattle.target_expr.proofs.make.in_order.Goals as goal
+use Rattle.target_expr.proofs.make.sorted.Goals as goal
 
 pub returns : goal.returns
 returns c =
     c.from_vec.ensures ∙ dedup_is _ _ _ c.dedup.ensures.filtered
     ∙ sorted_is_in_order _ _ c.sort_unstable.ensures.permutation c.sort_unstable.ensures.sorted
-    ∙ ap in_order c.in_ok-kept.ensures
+    ∙ ap in_order c.into_vec-kept.ensures
