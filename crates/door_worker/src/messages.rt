@@ -102,7 +102,7 @@ fn enter<'e, D: Disk, R: Wait, P: Pause>(
     }
 }
 
-// Sells over the campaigns that are found in the present version, which is a new one where that pays.
+// Sells over the campaigns that are found in the present version, which is a new one where the last is worn out.
 fn sell<'e, D: Disk, R: Wait, P: Pause>(
     exchange: &Exchange<D>,
     tools: &Tools<'e, R, P>,
@@ -120,7 +120,8 @@ fn sell<'e, D: Disk, R: Wait, P: Pause>(
     ensures none { OnErr result.1 (Goes [] 0 seat result.0) }
     ensures order { IsOrdered result.0.origin result.0.seen }
 {
-    let seat = renew::<D, R, P, Brand>(exchange, tools, seat, Blank::new(1));
+    let worn = exchange.is_worn_out();
+    let seat = renew::<D, R, P, Brand>(exchange, tools, seat, worn, Blank::new(1));
     sell_found(exchange, tools, scratch, seat, command, request, moment)
 }
 
@@ -129,6 +130,7 @@ fn renew<'e, D: Disk, R: Wait, P: Pause, L: Ledger>(
     exchange: &Exchange<D>,
     tools: &Tools<'e, R, P>,
     seat: Seat<D>,
+    worn: bool,
     blank: Blank,
 ) -> Seat<D>
     requires name { blank.name ≡ L.name }
@@ -138,7 +140,7 @@ fn renew<'e, D: Disk, R: Wait, P: Pause, L: Ledger>(
     ensures seat { MayCall (lock_of exchange.now) result }
     ensures goes { Goes [] 0 seat result }
 {
-    if !exchange.is_worn() {
+    if !worn {
         return seat;
     }
     let mut steps = Steps::<L>::new(blank);
@@ -322,7 +324,8 @@ fn tell<'e, D: Disk, R: Wait, P: Pause>(
     }
 }
 
-// Behind an edit: publishes a version where one is due.
+// Behind an edit: publishes a version where the present one is worn, and where one is due. Only where one is due a want
+// of memory counts.
 fn publish_edit<'e, D: Disk, R: Wait, P: Pause, L: Ledger>(
     exchange: &Exchange<D>,
     tools: &Tools<'e, R, P>,
@@ -343,6 +346,8 @@ fn publish_edit<'e, D: Disk, R: Wait, P: Pause, L: Ledger>(
     if !is_edit(command) {
         return (seat, Ok(()));
     }
+    let worn = exchange.is_worn();
+    let seat = renew::<D, R, P, Brand>(exchange, tools, seat, worn, Blank::new(1));
     let mut steps = Steps::<L>::new(blank);
     let (seat, published) = exchange.republish(tools.rt, tools.alloc, seat, EDITS_DUE, &mut steps);
     match published {

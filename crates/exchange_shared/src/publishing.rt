@@ -83,7 +83,7 @@ impl<D: Disk> Exchange<D> {
         }
     }
 
-    // Publishes it, where it is newer.
+    // Publishes it, where it is newer. The last version is let go behind the turn, by its ticket.
     fn publish<R: Wait>(&self, rt: &R, seat: Seat<D>, version: Arc<Version>) -> (Seat<D>, Published)
         requires seat { MayCall (lock_of self.now) seat }
         requires version { IsVersionOf seat.origin (calls seat.seen) (arc_value version) }
@@ -92,13 +92,19 @@ impl<D: Disk> Exchange<D> {
         ensures published { HasPublished (arc_value version).edit seat result.0 result.1 }
     {
         let (seat, mut turn) = self.lock.enter(rt, seat);
+        let last = turn.value.begin();
         let published = turn.value.publish(version);
         match published {
             Published::New { edit } => {
                 let seat = leave_published::<D, Brand>(&self.lock, seat, turn, edit);
+                drop(last);
                 (seat, published)
             }
-            Published::Kept { edit: _ } => (self.lock.leave(seat, turn), published),
+            Published::Kept { edit: _ } => {
+                let seat = self.lock.leave(seat, turn);
+                drop(last);
+                (seat, published)
+            }
         }
     }
 }

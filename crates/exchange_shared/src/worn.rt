@@ -1,16 +1,23 @@
 //! When a newer version of the index pays.
 //!
-//! An auction asks each campaign anew that was edited behind the version in which it found, in its turn. The more of
-//! this was done since the last version was built, the more a new one would have saved. So one is due where it came to
-//! as much as the build of one costs: what is spent is then at most twice what it would be if the best moment were
-//! known beforehand, as where skis are rented until the rents come to their price (Karlin and others 1988).
+//! An auction asks each campaign anew that was edited behind the version in which it found. The more of this was done
+//! since the last version was built, the more a new one would have saved; so one is due where it came to as much as the
+//! build of one costs: what is spent is then at most twice what it would be if the best moment were known beforehand,
+//! as where skis are rented until the rents come to their price (Karlin and others 1988).
+//!
+//! Who edits builds it then, since nobody waits for an edit as for an auction. Where nobody edits any more the version
+//! wears on, and an auction builds one once it is worn out.
 //!
 //! These words are hints: contracts say nothing of them.
 use std::sync::atomic::AtomicU64;
 use std::sync::atomic::Ordering::SeqCst;
 
-// How many campaigns can be asked while one is built into a version: some 60 nanoseconds beside some 5 microseconds.
+// How often a campaign is asked for each that is built into a version: some 60 nanoseconds each time, and some 4
+// microseconds.
 const ASKED_FOR_ONE: u64 = 64;
+
+// How many times as worn a version is where it is worn out.
+const WORN_OUT: u64 = 2;
 
 // A version of a table with fewer campaigns is worn no sooner than one with so many.
 const FEWEST: u64 = 64;
@@ -46,11 +53,22 @@ impl Worn {
 
     /// Whether a version is worn. It is told once, so that of several workers one builds the next.
     pub(crate) fn is_told(&self) -> bool {
+        self.is_told_at(1)
+    }
+
+    /// The same where it is worn out.
+    pub(crate) fn is_told_out(&self) -> bool {
+        self.is_told_at(WORN_OUT)
+    }
+
+    // Whether it is so many times as worn.
+    fn is_told_at(&self, times: u64) -> bool {
         let most = self
             .campaigns
             .load(SeqCst)
             .max(FEWEST)
-            .saturating_mul(ASKED_FOR_ONE);
+            .saturating_mul(ASKED_FOR_ONE)
+            .saturating_mul(times);
         self.asked.load(SeqCst) > most && self.asked.swap(0, SeqCst) > most
     }
 }

@@ -112,9 +112,11 @@ pub fn publish<D: Disk, R: Wait, L: Ledger>(
     (Hand { seat, upto }, put_published(published, out))
 }
 
-/// Says whether a newer version pays.
+/// Says whether a newer version pays, even in front of an auction.
 pub fn put_worn<D: Disk>(exchange: &Exchange<D>, out: &mut Txt) -> Result<(), AllocError> {
-    if exchange.is_worn() {
+    if exchange.is_worn_out() {
+        out.extend(b"worn out")
+    } else if exchange.is_worn() {
         out.extend(b"worn")
     } else {
         out.extend(b"not worn")

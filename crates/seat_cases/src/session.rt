@@ -35,7 +35,7 @@ pub struct Two<D: Disk> {
 /// - `A turn TIMES N`: campaign N is paused and resumed in turn so many times; says how often it was done.
 /// - `A publish N`: builds a version where N edits stand, 1 at least, and publishes it; says its edit, and whether it is
 ///   new.
-/// - `A worn`: whether a newer version pays, which is told once; says `worn` or `not worn`.
+/// - `A worn`: whether a newer version pays, which is told once; says `worn out`, `worn` or `not worn`.
 /// - `A flush`: writes what is not durable; says `flushed` or `store failed`.
 /// - `B find`: looks at the version and finds in it for the bid request of `case_messages`; says the edit of the version.
 /// - `B settle`: sells over what was found last; says the number of the sale, its campaign and the price in

@@ -15,8 +15,8 @@ leave_published-seat-requires-clause-value g c =
     posted _ _ _ c.enter-seat.result.0.worker _ _ c.in-New.is
     (c.publish-published.ensures.stands c.enter-seat.result.0.origin c.enter-seat.result.0.seen c.enter-seat.result.0.worker c.enter-seat.ensures.value (version_stays c.args.seat c.enter-seat.result.0 _ c.enter-seat.ensures.seat c.requires.version))
 
-pub leave-requires-clause-value : goal.leave-requires-clause-value
-leave-requires-clause-value g c =
+pub leave-seat-requires-clause-value : goal.leave-seat-requires-clause-value
+leave-seat-requires-clause-value g c =
     posted_none _ _ _ 0 _ (ap (publishing_marks 0) c.in-Kept.is)
     (c.publish-published.ensures.stands c.enter-seat.result.0.origin c.enter-seat.result.0.seen 0 c.enter-seat.ensures.value (version_stays c.args.seat c.enter-seat.result.0 _ c.enter-seat.ensures.seat c.requires.version))
 
@@ -29,10 +29,10 @@ pub returns-in-New-clause-published : goal.returns-in-New-clause-published
 returns-in-New-clause-published g c = newer _ _ _ _ _ _ c.in-New.is (c.publish-published.ensures.answer _ _ c.enter-seat.ensures.value) c.enter-seat.ensures.seat c.leave_published-seat.ensures
 
 pub returns-in-Kept-clause-seat : goal.returns-in-Kept-clause-seat
-returns-in-Kept-clause-seat g c = still _ _ _ c.requires.seat (waits _ _ _ c.enter-seat.ensures.seat c.leave.ensures)
+returns-in-Kept-clause-seat g c = still _ _ _ c.requires.seat (waits _ _ _ c.enter-seat.ensures.seat c.leave-seat.ensures)
 
 pub returns-in-Kept-clause-published : goal.returns-in-Kept-clause-published
-returns-in-Kept-clause-published g c = kept _ _ _ _ _ _ c.in-Kept.is (c.publish-published.ensures.answer _ _ c.enter-seat.ensures.value) c.enter-seat.ensures.seat c.leave.ensures
+returns-in-Kept-clause-published g c = kept _ _ _ _ _ _ c.in-Kept.is (c.publish-published.ensures.answer _ _ c.enter-seat.ensures.value) c.enter-seat.ensures.seat c.leave-seat.ensures
 
 pub returns-in-New-clause-order : goal.returns-in-New-clause-order
 returns-in-New-clause-order g c =
@@ -42,4 +42,4 @@ returns-in-New-clause-order g c =
     c.leave_published-seat.ensures
 
 pub returns-in-Kept-clause-order : goal.returns-in-Kept-clause-order
-returns-in-Kept-clause-order g c = ordered_at _ c.enter-seat.result.0 _ _ c.enter-seat.ensures.value c.leave.ensures
+returns-in-Kept-clause-order g c = ordered_at _ c.enter-seat.result.0 _ _ c.enter-seat.ensures.value c.leave-seat.ensures
