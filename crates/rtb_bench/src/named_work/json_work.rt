@@ -10,7 +10,7 @@ ghost use Rattle.rtb_bench.specs.Answer.{IsLine, counts_line, fault_line, kind_o
 
 use super::counts::{Counts, with_tree};
 use bumpalo::Bump;
-use exact_json::{JsonFault, read, room_for};
+use exact_json::{JsonFault, read};
 use rtb_num::{Txt, write_decimal};
 use std::alloc::{AllocError, Global};
 
@@ -25,7 +25,7 @@ pub(crate) fn json_line(alloc: Global, bytes: &[u8], times: u32) -> Result<Txt, 
     }
 }
 
-// Reads the bytes so many times, or once where they are no text.
+// Reads the bytes so many times, or once where they are no text. The room in which they are read is kept.
 fn with_readings(alloc: Global, bytes: &[u8], times: u32) -> Result<Counts, JsonFault>
     requires { 1 ≤ times }
     ensures text { IfOk result (λ _. (t : Tree) × IsText t bytes.now) }
@@ -33,24 +33,36 @@ fn with_readings(alloc: Global, bytes: &[u8], times: u32) -> Result<Counts, Json
     ensures bytes { (t : Tree) → IsText t bytes.now → IfOk result (λ r. r.bytes ≡ (times * bytes_in t) % 2 ^ 64) }
     ensures fault { IfErr result (Explains bytes.now) }
 {
+    let mut room = Bump::new(alloc);
     let mut counts = Counts::zero();
     for _ in 0..times {
-        counts = with_reading(alloc, bytes, counts)?;
+        counts = with_reading(alloc, &room, bytes, counts)?;
+        clear(alloc, &mut room);
     }
     Ok(counts)
 }
 
+// Lets go of what was read in it.
+fn clear(alloc: Global, room: &mut Bump) {
+    match room.reset() {
+        Ok(()) => {}
+        Err(_) => *room = Bump::new(alloc),
+    }
+}
+
 // Reads the bytes once, and counts what they say.
-fn with_reading(alloc: Global, bytes: &[u8], counts: Counts) -> Result<Counts, JsonFault>
+fn with_reading(
+    alloc: Global,
+    room: &Bump,
+    bytes: &[u8],
+    counts: Counts,
+) -> Result<Counts, JsonFault>
     ensures text { IfOk result (λ _. (t : Tree) × IsText t bytes.now) }
     ensures values { (t : Tree) → IsText t bytes.now → IfOk result (λ r. r.values ≡ (counts.values + values_in t) % 2 ^ 64) }
     ensures bytes { (t : Tree) → IsText t bytes.now → IfOk result (λ r. r.bytes ≡ (counts.bytes + bytes_in t) % 2 ^ 64) }
     ensures fault { IfErr result (Explains bytes.now) }
 {
-    let Ok(arena) = Bump::try_with_capacity(alloc, room_for(bytes.len())) else {
-        return Err(JsonFault::Memory);
-    };
-    match read(alloc, &arena, bytes) {
+    match read(alloc, room, bytes) {
         Ok(doc) => Ok(with_tree(counts, doc.root())),
         Err(fault) => Err(fault),
     }
@@ -127,7 +139,8 @@ fn fault_after(alloc: Global, bytes: &[u8], fault: JsonFault) -> JsonFault
     requires { Explains bytes.now fault }
     ensures { Explains bytes.now result }
 {
-    match with_reading(alloc, bytes, Counts::zero()) {
+    let room = Bump::new(alloc);
+    match with_reading(alloc, &room, bytes, Counts::zero()) {
         Ok(_) => fault,
         Err(fault) => fault,
     }
