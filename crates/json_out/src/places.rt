@@ -26,6 +26,9 @@ impl Place {
     }
 }
 
+// How many are open at once in most texts, or fewer.
+const ROOM: usize = 8;
+
 // The arrays and objects that are open, the innermost last; contracts see it first.
 #[derive(Drop)]
 pub(crate) struct Places {
@@ -47,6 +50,16 @@ impl Places {
     {
         Places {
             items: Vec::new(alloc),
+        }
+    }
+
+    // As `new`, with room where it is given.
+    pub(crate) fn with_room(alloc: Global) -> Places
+        ensures { result ≡ [] }
+    {
+        match Vec::with_capacity(alloc, ROOM) {
+            Ok(items) => Places { items },
+            Err(_) => Places::new(alloc),
         }
     }
 

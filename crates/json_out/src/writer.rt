@@ -42,6 +42,17 @@ impl Writer {
         }
     }
 
+    /// As `new`, with the memory for a text of so many bytes, where it is given: for speed alone, no contract sees
+    /// room. A text that grows beyond takes more.
+    pub fn with_room(alloc: Global, bytes: usize) -> Writer
+        ensures { result ≡ blank }
+    {
+        Writer {
+            text: text_with_room(alloc, bytes),
+            places: Places::with_room(alloc),
+        }
+    }
+
     /// Whether a value may stand next: as the whole text, in an array, or behind a name.
     pub fn takes_value(&self) -> bool
         ensures { result ≡ takes_value self.now }
@@ -223,6 +234,16 @@ impl Writer {
         ensures err { OnErr result (self.new ≡ record { text = take before self.old.text; places = self.old.places }) }
     {
         self.text.settle(before, written)
+    }
+}
+
+// The empty text, with room where it is given.
+fn text_with_room(alloc: Global, bytes: usize) -> Txt
+    ensures { result ≡ [] }
+{
+    match Vec::with_capacity(alloc, bytes) {
+        Ok(bytes) => Txt::from_vec(bytes),
+        Err(_) => Txt::new(alloc),
     }
 }
 

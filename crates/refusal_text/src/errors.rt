@@ -80,12 +80,15 @@ pub(crate) fn with_numbers(
     Ok(text)
 }
 
+// Mostly enough bytes for a refusal.
+const ROOM: usize = 128;
+
 // A refusal of which the word is written, and which takes further members.
 fn error(alloc: Global, word: &[u8]) -> Result<Writer, AllocError>
     ensures value { IfOk result (λ w. w ≡ in_object blank ((codes "error", string_text word.now) ∷ [])) }
     ensures next { IfOk result (λ w. IsTrue (takes_name w)) }
 {
-    let mut writer = Writer::new(alloc);
+    let mut writer = Writer::with_room(alloc, ROOM);
     writer.obj()?;
     writer.put_text(b"error", word)?;
     Ok(writer)

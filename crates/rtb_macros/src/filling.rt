@@ -1,5 +1,5 @@
 //! Markup with the values of one sale in place of its macros.
-ghost use Rattle.std.specs.Prelude.{◌≡◌, ◌<◌, ◌≤◌, ◌++◌, length, take, drop, None, IfOk};
+ghost use Rattle.std.specs.Prelude.{◌≡◌, ◌<◌, ◌≤◌, ◌++◌, length, take, drop, nat_lt, false, None, IfOk};
 ghost use Rattle.std.specs.List.{prefix_len};
 ghost use Rattle.rtb_macros.specs.Macros.{filled_in, is_plain, macro_at, value_of};
 ghost use Rattle.rtb_macros.specs.declared.filling.MacroValues.{MacroValues};
@@ -23,6 +23,14 @@ pub struct MacroValues {
     pub ad: Option<Txt>,
     /// The clearing price in US dollars per thousand impressions, as it is written in `price`.
     pub price: Txt,
+}
+
+/// Whether the markup may have a macro, as a `$` stands in it. Without one it stays as it is, whatever the values are.
+pub fn may_have_macros(markup: &[u8]) -> bool
+    ensures answer { result ≡ nat_lt (prefix_len is_plain markup.now) (length markup.now) }
+    ensures none { result ≡ false → (v : MacroValues) → filled_in v markup.now ≡ markup.now }
+{
+    plain_front(markup) < markup.len()
 }
 
 /// The markup with each macro's value in its place, from left to right. What was put in is not looked at

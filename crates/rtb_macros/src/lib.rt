@@ -6,5 +6,5 @@
 mod filling;
 mod macros;
 
-pub use filling::{MacroValues, substitute};
+pub use filling::{MacroValues, may_have_macros, substitute};
 pub use macros::Macro;

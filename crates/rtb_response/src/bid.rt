@@ -13,7 +13,7 @@ ghost use Rattle.rtb_response.specs.Response.{ad_members, bid_text, further_memb
 use campaign::Facts;
 use json_out::Writer;
 use plain_exchange::Sold;
-use rtb_macros::{MacroValues, substitute};
+use rtb_macros::{MacroValues, may_have_macros, substitute};
 use rtb_num::{Micros, Txt, pair_with, write_decimal, write_micros};
 use rtb_types::BidRequest;
 use std::alloc::{AllocError, Global};
@@ -132,10 +132,23 @@ fn put_address(
 fn address(alloc: Global, public: &[u8], path: &[u8], sale: u64) -> Result<Txt, AllocError>
     ensures { IfOk result (λ t. t ≡ public.now ++ path.now ++ decimal sale) }
 {
-    let mut text = Txt::from_slice(alloc, public)?;
+    let mut text = Txt::new(alloc);
+    text.reserve(room_for(public, path))?;
+    text.extend(public)?;
     text.extend(path)?;
     write_decimal(sale, &mut text)?;
     Ok(text)
+}
+
+// No number of 64 bits has more digits.
+const MOST_DIGITS: usize = 20;
+
+// Enough bytes for the address of a notice.
+fn room_for(public: &[u8], path: &[u8]) -> usize {
+    public
+        .len()
+        .saturating_add(path.len())
+        .saturating_add(MOST_DIGITS)
 }
 
 // Writes what is shown, and of whom.
@@ -158,6 +171,23 @@ fn put_ad(
 }
 
 fn put_markup(
+    alloc: Global,
+    writer: &mut Writer,
+    request: &BidRequest,
+    sale: &Sold,
+) -> Result<(), AllocError>
+    requires { IsTrue (takes_name writer.old) }
+    ensures ok { OnOk result (writer.new ≡ put_member writer.old (text_member (codes "adm") (filled_in (values_of request.now sale.now) sale.now.record.facts.adm))) }
+    ensures next { OnOk result (IsTrue (takes_name writer.new)) }
+{
+    let markup = sale.record.record().facts.adm().as_bytes();
+    if may_have_macros(markup) {
+        return put_filled(alloc, writer, request, sale);
+    }
+    writer.put_text(b"adm", markup)
+}
+
+fn put_filled(
     alloc: Global,
     writer: &mut Writer,
     request: &BidRequest,

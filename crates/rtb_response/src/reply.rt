@@ -84,7 +84,7 @@ fn sold_reply(
     }
 }
 
-// An object that was begun.
+// An object that was begun. What has one short member takes no memory for its text.
 fn object(alloc: Global) -> Result<Writer, AllocError>
     ensures value { IfOk result (λ w. w ≡ in_object blank []) }
     ensures next { IfOk result (λ w. IsTrue (takes_name w)) }
@@ -113,10 +113,13 @@ fn campaign_reply(alloc: Global, status: u16, n: u32) -> Result<Answer, AllocErr
     Ok(answer)
 }
 
+// Mostly enough bytes for an answer of two or three members.
+const FEW: usize = 128;
+
 fn sale_reply(alloc: Global, sale: u64, state: &[u8]) -> Result<Answer, AllocError>
     ensures { IfOk result (λ a. a ≡ sale_answer sale state.now) }
 {
-    let mut writer = Writer::new(alloc);
+    let mut writer = Writer::with_room(alloc, FEW);
     let done = put_sale(&mut writer, sale, state);
     closed(200, writer, done)
 }
@@ -134,6 +137,9 @@ fn put_sale(writer: &mut Writer, sale: u64, state: &[u8]) -> Result<(), AllocErr
     Ok(())
 }
 
+// Mostly enough bytes for a report.
+const REPORT: usize = 256;
+
 fn report_reply(
     alloc: Global,
     n: u32,
@@ -144,7 +150,7 @@ fn report_reply(
 ) -> Result<Answer, AllocError>
     ensures { IfOk result (λ a. a ≡ object_answer 200 (report_members n live bid budget totals.now)) }
 {
-    let mut writer = Writer::new(alloc);
+    let mut writer = Writer::with_room(alloc, REPORT);
     let done = put_report(&mut writer, n, live, bid, budget, totals);
     closed(200, writer, done)
 }
@@ -197,7 +203,7 @@ pub fn error_reply(alloc: Global, status: u16, word: &[u8]) -> Result<Answer, Al
 fn below_reply(alloc: Global, committed: Nanos) -> Result<Answer, AllocError>
     ensures { IfOk result (λ a. a ≡ error_answer 409 (codes "below-committed") ((codes "committed", nanos_text committed) ∷ [])) }
 {
-    let mut writer = Writer::new(alloc);
+    let mut writer = Writer::with_room(alloc, FEW);
     let done = put_below(&mut writer, committed);
     closed(409, writer, done)
 }
@@ -217,7 +223,7 @@ fn put_below(writer: &mut Writer, committed: Nanos) -> Result<(), AllocError>
 fn full_reply(alloc: Global, limit: Limit) -> Result<Answer, AllocError>
     ensures { IfOk result (λ a. a ≡ error_answer 503 (codes "full") (text_member (codes "limit") (limit_word limit) ∷ [])) }
 {
-    let mut writer = Writer::new(alloc);
+    let mut writer = Writer::with_room(alloc, FEW);
     let done = put_full(&mut writer, limit);
     closed(503, writer, done)
 }

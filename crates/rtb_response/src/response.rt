@@ -26,9 +26,20 @@ pub fn write_response(
 ) -> Result<Txt, AllocError>
     ensures { IfOk result (λ t. t ≡ response_text (option_copied public.entry) request.now sold.now) }
 {
-    let mut writer = Writer::new(alloc);
+    let mut writer = Writer::with_room(alloc, room_for(sold.len()));
     let done = put_response(alloc, &mut writer, request, sold.as_slice(), public);
     finished(writer, done)
+}
+
+// Mostly enough bytes for what stands around the bids.
+const AROUND: usize = 256;
+
+// Mostly enough bytes for a bid and its seat.
+const BID: usize = 512;
+
+// Mostly enough bytes for a response of so many bids.
+fn room_for(bids: usize) -> usize {
+    bids.saturating_mul(BID).saturating_add(AROUND)
 }
 
 // Writes the object of the response, before which nothing is written.

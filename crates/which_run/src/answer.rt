@@ -41,9 +41,27 @@ fn best_of(alloc: Global, request: &Request) -> Result<List<Scored>, AllocError>
 fn best_text(alloc: Global, best: &[Scored], marks: &[Mark]) -> Result<Txt, AllocError>
     ensures { IfOk result (λ t. t ≡ best_text best.now marks.now) }
 {
-    let mut writer = Writer::new(alloc);
+    let mut writer = Writer::with_room(alloc, room_for(best.len(), marks.len()));
     let done = put_answer(&mut writer, best, marks);
     finished(writer, done)
+}
+
+// Mostly enough bytes for what stands around the lists.
+const AROUND: usize = 64;
+
+// Mostly enough bytes for one of the best.
+const BEST: usize = 48;
+
+// Mostly enough bytes for a mark.
+const MARK: usize = 16;
+
+// Mostly enough bytes for so many of the best and so many marks.
+fn room_for(best: usize, marks: usize) -> usize {
+    let listed = best.saturating_mul(BEST);
+    marks
+        .saturating_mul(MARK)
+        .saturating_add(listed)
+        .saturating_add(AROUND)
 }
 
 // What was written, where all of it could be.

@@ -11,4 +11,4 @@ use Rattle.refusal_text.proofs.errors.error.Goals as goal
 pub returns-clause-value : goal.returns-clause-value
 returns-clause-value c =
     let e : Member = (codes "error", string_text c.args.word.now) in
-    c.in_ok-put_text.ensures.ok ∙ ap (λ w. put_member w e) (c.in_ok-obj.ensures.ok ∙ ap (λ w. begin w (Object false false)) c.new-writer.ensures) ∙ member_more blank [] e
+    c.in_ok-put_text.ensures.ok ∙ ap (λ w. put_member w e) (c.in_ok-obj.ensures.ok ∙ ap (λ w. begin w (Object false false)) c.with_room-writer.ensures) ∙ member_more blank [] e
