@@ -3,9 +3,9 @@ use Rattle.exact_json.specs.View.{tree_of}
 use Rattle.rtb_read.proofs.Last.{IsCleanToDevice, at_imps, at_user}
 use Rattle.rtb_read.proofs.request.fill.Goals as goal
 
-pub returns-in_err-request-12 : goal.returns-in_err-request-12
-returns-in_err-request-12 c =
-    let p = err_from_is_err_and c.from_residual-in_err-request-12.result c.from_residual-in_err-request-12.ensures.1 in
+pub returns-in_err-fill_user : goal.returns-in_err-fill_user
+returns-in_err-fill_user c =
+    let p = err_from_is_err_and c.from_residual-in_err-fill_user.result c.from_residual-in_err-fill_user.ensures.1 in
     let clean : IsCleanToDevice (tree_of c.args.value.now) = record {
       id = c.in_ok-request.ensures.0;
       at = c.in_ok-request-2.ensures.0;
@@ -15,15 +15,15 @@ returns-in_err-request-12 c =
       cur = c.in_ok-request-6.ensures.0;
       bcat = c.in_ok-request-7.ensures.0;
       badv = c.in_ok-request-8.ensures.0;
-      site = c.in_ok-request-9.ensures.0;
-      app = c.in_ok-request-10.ensures.0;
-      device = c.in_ok-request-11.ensures.0;
+      site = c.in_ok-fill_site.ensures.0;
+      app = c.in_ok-fill_app.ensures.0;
+      device = c.in_ok-fill_device.ensures.0;
     } in
-    rw (p.1, p.2) (at_user (tree_of c.args.value.now) _ clean c.in_err-request-12.ensures)
+    rw (p.1, p.2) (at_user (tree_of c.args.value.now) _ clean c.in_err-fill_user.ensures)
 
-pub returns-in_err-request-13 : goal.returns-in_err-request-13
-returns-in_err-request-13 c =
-    let p = err_from_is_err_and c.from_residual-in_err-request-13.result c.from_residual-in_err-request-13.ensures.1 in
+pub returns-in_err-request-9 : goal.returns-in_err-request-9
+returns-in_err-request-9 c =
+    let p = err_from_is_err_and c.from_residual-in_err-request-9.result c.from_residual-in_err-request-9.ensures.1 in
     let clean : IsCleanToDevice (tree_of c.args.value.now) = record {
       id = c.in_ok-request.ensures.0;
       at = c.in_ok-request-2.ensures.0;
@@ -33,8 +33,8 @@ returns-in_err-request-13 c =
       cur = c.in_ok-request-6.ensures.0;
       bcat = c.in_ok-request-7.ensures.0;
       badv = c.in_ok-request-8.ensures.0;
-      site = c.in_ok-request-9.ensures.0;
-      app = c.in_ok-request-10.ensures.0;
-      device = c.in_ok-request-11.ensures.0;
+      site = c.in_ok-fill_site.ensures.0;
+      app = c.in_ok-fill_app.ensures.0;
+      device = c.in_ok-fill_device.ensures.0;
     } in
-    rw (p.1, p.2) (at_imps (tree_of c.args.value.now) _ _ clean c.in_ok-request-12.ensures.0 c.in_ok-request-2.ensures.1 c.in_err-request-13.ensures)
+    rw (p.1, p.2) (at_imps (tree_of c.args.value.now) _ _ clean c.in_ok-fill_user.ensures.0 c.in_ok-request-2.ensures.1 c.in_err-request-9.ensures)
