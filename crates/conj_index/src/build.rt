@@ -7,7 +7,7 @@ ghost use Rattle.conj_index.specs.Campaigns.{AreKept, DoRise, conjunctions_in, e
 ghost use Rattle.conj_index.specs.Content.{IsIndexOf, conjunctions_of};
 ghost use Rattle.conj_index.specs.Growing.{AreGrown, HasZeroList, finish, greatest, lists_of, shift, zero_of};
 
-use crate::builder::Builder;
+use crate::builder::{Added, Builder};
 use crate::fault::IndexFault;
 use crate::growing::Growing;
 use crate::index::Index;
@@ -18,7 +18,7 @@ use rtb_base::Steps;
 use rtb_num::List;
 use std::alloc::{AllocError, Global};
 use std::sync::ledger::Ledger;
-use target_expr::{Expr, Pair};
+use target_expr::Pair;
 
 impl Index {
     /// The index of the campaigns that were added.
@@ -27,11 +27,11 @@ impl Index {
     /// is a fault.
     pub fn build<L: Ledger>(
         alloc: Global,
-        builder: Builder,
+        builder: Builder<'_>,
         steps: &mut Steps<L>,
     ) -> Result<Index, IndexFault>
-        ensures content { IfOk result (IsIndexOf builder) }
-        ensures cost { steps.new ≤ steps.old + length (pairs_of (expression_of builder)) }
+        ensures content { IfOk result (IsIndexOf builder.entry) }
+        ensures cost { steps.new ≤ steps.old + length (pairs_of (expression_of builder.entry)) }
     {
         let added = builder.into_campaigns();
         let index = index_of(alloc, added.as_slice(), steps)?;
@@ -42,7 +42,7 @@ impl Index {
 // The index of these campaigns.
 fn index_of<L: Ledger>(
     alloc: Global,
-    added: &[(u32, Expr)],
+    added: &[Added],
     steps: &mut Steps<L>,
 ) -> Result<Index, AllocError>
     requires rising { DoRise added.now }
@@ -61,13 +61,17 @@ fn index_of<L: Ledger>(
 }
 
 // The campaign of each conjunction.
-fn all_owners(alloc: Global, added: &[(u32, Expr)]) -> Result<List<u32>, AllocError>
+fn all_owners(alloc: Global, added: &[Added]) -> Result<List<u32>, AllocError>
     ensures owners { IfOk result (λ owners. owners ≡ map (λ c. c.owner) (conjunctions_of added.now)) }
     ensures kept { IfOk result (λ _. AreKept added.now) }
 {
     let mut owners = List::new(alloc);
-    for (number, expr) in added {
-        push_times(&mut owners, *number, expr.conjunctions())?;
+    for campaign in added {
+        push_times(
+            &mut owners,
+            campaign.number(),
+            campaign.expr().conjunctions(),
+        )?;
     }
     Ok(owners)
 }
@@ -83,12 +87,12 @@ fn push_times(owners: &mut List<u32>, number: u32, times: usize) -> Result<(), A
 }
 
 // The size of each conjunction.
-fn all_sizes(alloc: Global, added: &[(u32, Expr)]) -> Result<Vec<u32>, AllocError>
+fn all_sizes(alloc: Global, added: &[Added]) -> Result<Vec<u32>, AllocError>
     ensures { IfOk result (λ sizes. sizes.items ≡ sizes_of (expression_of added.now)) }
 {
     let mut sizes = Vec::new(alloc);
-    for (_, expr) in added {
-        sizes.extend_from_slice(expr.sizes()?.as_slice())?;
+    for campaign in added {
+        sizes.extend_from_slice(campaign.expr().sizes()?.as_slice())?;
     }
     Ok(sizes)
 }
@@ -137,7 +141,7 @@ fn empty_parts(alloc: Global, count: usize) -> Result<Vec<Growing>, AllocError>
 fn enter_all<L: Ledger>(
     alloc: Global,
     parts: &mut Vec<Growing>,
-    added: &[(u32, Expr)],
+    added: &[Added],
     steps: &mut Steps<L>,
 ) -> Result<(), AllocError>
     requires empty { AreGrown [] parts.old.items }
@@ -148,7 +152,8 @@ fn enter_all<L: Ledger>(
     ensures cost { steps.new ≤ steps.old + length (pairs_of (expression_of added.now)) }
 {
     let mut first = 0;
-    for (_, expr) in added {
+    for campaign in added {
+        let expr = campaign.expr();
         let pairs = expr.pairs(steps)?;
         enter_pairs(alloc, parts, pairs.into_vec(), first)?;
         first += expr.conjunctions() as u32;

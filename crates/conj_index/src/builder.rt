@@ -11,13 +11,13 @@ use target_expr::Expr;
 /// The campaigns that an index is to be built of. Contracts see it as the list of their numbers and
 /// their expressions.
 ///
-/// The numbers rise, and the expressions have at most 1,000,000 conjunctions in all.
+/// The numbers rise, and the expressions, which it borrows, have at most 1,000,000 conjunctions in all.
 #[derive(Drop)]
-pub struct Builder {
-    added: Vec<(u32, Expr)>,
+pub struct Builder<'a> {
+    added: Vec<Added<'a>>,
 }
 
-impl Model for Builder {
+impl<'a> Model for Builder<'a> {
     ghost use Rattle.std.specs.Prelude.{ℕ, List, ◌≤◌, length};
     ghost use Rattle.target_expr.specs.declared.pred.Pred.{Pred};
     ghost use Rattle.conj_index.specs.Campaigns.{conjunctions_in, DoRise};
@@ -29,9 +29,25 @@ impl Model for Builder {
     ghost invariant = { λ b. DoRise b.added.items × (conjunctions_in b.added.items ≤ 1000000) };
 }
 
-impl Builder {
+// A campaign that was added. Contracts see its number and its expression.
+#[derive(Drop)]
+pub(crate) struct Added<'a> {
+    number: u32,
+    expr: &'a Expr,
+}
+
+impl<'a> Model for Added<'a> {
+    ghost use Rattle.std.specs.Prelude.{ℕ, List};
+    ghost use Rattle.target_expr.specs.declared.pred.Pred.{Pred};
+
+    ghost Value = { ℕ × List (List Pred) };
+
+    ghost view = { λ a. (a.number, a.expr.now) };
+}
+
+impl<'a> Builder<'a> {
     /// No campaign yet. It takes no memory.
-    pub fn new(alloc: Global) -> Builder
+    pub fn new(alloc: Global) -> Builder<'a>
         ensures { result ≡ [] }
     {
         Builder {
@@ -39,13 +55,13 @@ impl Builder {
         }
     }
 
-    /// Adds a campaign, whose number is above those added before. Its expression is copied.
+    /// Adds a campaign, whose number is above those added before. Its expression is borrowed.
     ///
     /// One step is one expression. Where memory is refused, nothing is added.
     pub fn add<L: Ledger>(
         &mut self,
         number: u32,
-        expr: &Expr,
+        expr: &'a Expr,
         steps: &mut Steps<L>,
     ) -> Result<(), AllocError>
         requires above { All (λ p. p.0 < number) self.old }
@@ -55,17 +71,32 @@ impl Builder {
         ensures cost { steps.new ≤ steps.old + 1 }
     {
         steps.tick();
-        let expr = expr.copy()?;
-        self.added.push((number, expr))?;
+        self.added.push(Added { number, expr })?;
         Ok(())
     }
 
     // The campaigns that were added.
-    pub(crate) fn into_campaigns(self) -> Vec<(u32, Expr)>
-        ensures value { result.items ≡ self }
-        ensures rising { DoRise self }
-        ensures few { conjunctions_in self ≤ 1000000 }
+    pub(crate) fn into_campaigns(self) -> Vec<Added<'a>>
+        ensures value { result.items ≡ self.entry }
+        ensures rising { DoRise self.entry }
+        ensures few { conjunctions_in self.entry ≤ 1000000 }
     {
         self.added
+    }
+}
+
+impl<'a> Added<'a> {
+    // The campaign's number.
+    pub(crate) fn number(&self) -> u32
+        ensures { result ≡ self.now.0 }
+    {
+        self.number
+    }
+
+    // Its expression.
+    pub(crate) fn expr(&self) -> &'a Expr
+        ensures { result.now ≡ self.now.1 }
+    {
+        self.expr
     }
 }

@@ -251,12 +251,12 @@ fn index_of<L: Ledger>(
 
 // Adds a campaign, where its number is above the last and there is room, and gives how many conjunctions
 // there are.
-fn add_above<L: Ledger>(
-    builder: &mut Builder,
+fn add_above<'a, L: Ledger>(
+    builder: &mut Builder<'a>,
     last: u32,
     count: usize,
     number: u32,
-    expr: &Expr,
+    expr: &'a Expr,
     steps: &mut Steps<L>,
 ) -> Result<usize, AllocError>
     requires last { All (λ p. p.0 ≤ last) builder.old }

@@ -59,11 +59,11 @@ fn index_of<L: Ledger>(
 }
 
 // The campaigns, each with its expression.
-fn builder_of<L: Ledger>(
+fn builder_of<'a, L: Ledger>(
     alloc: Global,
-    live: &[LiveRecord],
+    live: &'a [LiveRecord],
     steps: &mut Steps<L>,
-) -> Result<Builder, AllocError>
+) -> Result<Builder<'a>, AllocError>
     requires rising { DoRise (campaigns_of live.now) }
     requires few { conjunctions_in (campaigns_of live.now) ≤ 1000000 }
     ensures content { IfOk result (λ b. b ≡ campaigns_of live.now) }

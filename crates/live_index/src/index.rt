@@ -31,11 +31,11 @@ pub fn index_of_live<L: Ledger>(
 }
 
 // The live campaigns, each with its expression.
-fn builder_of<L: Ledger>(
+fn builder_of<'a, L: Ledger>(
     alloc: Global,
-    table: &Table,
+    table: &'a Table,
     steps: &mut Steps<L>,
-) -> Result<Builder, AllocError>
+) -> Result<Builder<'a>, AllocError>
     ensures content { IfOk result (λ b. b ≡ live_expressions table.now.campaigns) }
     ensures cost { steps.new ≤ steps.old + length table.now.campaigns }
 {
@@ -47,9 +47,9 @@ fn builder_of<L: Ledger>(
 }
 
 // Adds campaign `n`, where it is live.
-fn add_where_live<L: Ledger>(
-    builder: &mut Builder,
-    table: &Table,
+fn add_where_live<'a, L: Ledger>(
+    builder: &mut Builder<'a>,
+    table: &'a Table,
     n: u32,
     steps: &mut Steps<L>,
 ) -> Result<(), AllocError>
@@ -71,9 +71,9 @@ fn is_live(table: &Table, n: u32) -> bool
 }
 
 // Adds campaign `n`.
-fn add_there<L: Ledger>(
-    builder: &mut Builder,
-    table: &Table,
+fn add_there<'a, L: Ledger>(
+    builder: &mut Builder<'a>,
+    table: &'a Table,
     n: u32,
     steps: &mut Steps<L>,
 ) -> Result<(), AllocError>
