@@ -1,9 +1,10 @@
 -- The lists of keys after one entry more.
-use Rattle.std.proofs.Common.{◌≡◌, ℕ, zero, suc, ◌+◌, ◌<◌, length, get_or, subst, ◌||◌, not, List, [], ◌∷◌, ◌++◌, Bool, true, false, cond, Some, None, map, take, refl, sym, ◌∙◌, ap, arith, append_assoc}
+use Rattle.std.proofs.Common.{◌≡◌, ℕ, zero, suc, ◌+◌, ◌<◌, length, get_or, subst, ◌||◌, not, List, [], ◌∷◌, ◌++◌, Bool, true, false, cond, Option, Some, None, Result, Ok, Err, OnOk, map, option_map, slice_get, take, refl, sym, ◌∙◌, ap, arith, append_assoc}
 use Rattle.std.specs.List.{AllByRecursion, IsDistinct, cons_option, enumerate_from, filter_map, flat_map, list_any, position_or_len}
 use Rattle.std.specs.Map.{keys_of}
 use Rattle.std.proofs.lemmas.Bool.{or_parts}
 use Rattle.std.proofs.lemmas.List.{append-nil}
+use Rattle.std.proofs.lemmas.Option.{slice_get-map}
 use Rattle.std.proofs.lemmas.List.Elements.{filter_map-append}
 use Rattle.std.proofs.lemmas.List.Folds.{list_any-append}
 use Rattle.indexmap.specs.IndexMap.{insert_entry, keys}
@@ -60,6 +61,38 @@ with_key_any q key (x ∷ ks) = by (same_key key x) refl (with_key_any q key ks)
         ∙ ap (λ (k : Key). (same_key q x || list_any (same_key q) ks) || same_key q k) (sym (key_same key x e))
     by false e later =
         ap (λ b. same_key q x || b) later ∙ or_assoc (same_key q x) (list_any (same_key q) ks) (same_key q key)
+
+-- a key that has a place stays there, and none is added
+kept_there : (key : Key) (ks : List Key) (n : ℕ) → slice_get ks n ≡ Some key → with_key ks key ≡ ks
+kept_there key [] n there = cc
+kept_there key (k ∷ ks) zero there =
+    let same : k ≡ key = cc in
+    ap (λ b. cond b (k ∷ ks) (k ∷ with_key ks key)) (ap (same_key key) same ∙ own_key key)
+kept_there key (k ∷ ks) (suc n) there = by (same_key key k) (kept_there key ks n there)
+  where
+    by : (b : Bool) → with_key ks key ≡ ks → cond b (k ∷ ks) (k ∷ with_key ks key) ≡ k ∷ ks
+    by true later = refl
+    by false later = ap (λ l. k ∷ l) later
+
+none_at : (k key : Key) (ks : List Key) (n : ℕ) → AllByRecursion (λ (y : Key). same_key k y ≡ false) ks → slice_get ks n ≡ Some key → same_key k key ≡ false
+none_at k key [] n apart there = cc
+none_at k key (x ∷ ks) zero apart there =
+    let same : x ≡ key = cc in
+    ap (same_key k) (sym same) ∙ apart.0
+none_at k key (x ∷ ks) (suc n) apart there = none_at k key ks n apart.1 there
+
+-- no other place has the key
+place_there : (key : Key) (ks : List Key) (n : ℕ) → IsDistinct same_key ks → slice_get ks n ≡ Some key → position_or_len (same_key key) ks ≡ n
+unfolding IsDistinct
+place_there key [] n apart there = cc
+place_there key (k ∷ ks) zero apart there =
+    let same : k ≡ key = cc in
+    ap (λ b. cond (not b) (1 + position_or_len (same_key key) ks) 0) (ap (same_key key) same ∙ own_key key)
+place_there key (k ∷ ks) (suc n) apart there =
+    let other : same_key key k ≡ false = same_turned key k ∙ none_at k key ks n apart.0 there in
+    let later : position_or_len (same_key key) ks ≡ n = place_there key ks n apart.1 there in
+    let next : 1 + n ≡ suc n = omega arith in
+    ap (λ b. cond (not b) (1 + position_or_len (same_key key) ks) 0) other ∙ ap (λ m. 1 + m) later ∙ next
 
 -- ---- the lists
 
@@ -142,6 +175,23 @@ enters_none a before grown = subst (λ (ps : List (Key × Entry)). IsGrown ps a)
 pub enters_one : (key : Key) (e : Entry) (old new : Growing) → keys new.keys ≡ with_key (keys old.keys) key → IsDistinct same_key (keys new.keys)
     → lists_of new ≡ with_item (lists_of old) (position_or_len (same_key key) (keys old.keys)) e → Enters ((key, e) ∷ []) old new
 enters_one key e old new added unique put before grown = grown_more before key e old new grown added unique put
+
+-- a key that is found at a place
+pub key_there : {V : Type 0} (es : List (Key × V)) (n : ℕ) (k key : Key) (v : V) → Some (k, v) ≡ slice_get es n → same_key k key ≡ true → slice_get (keys_of es) n ≡ Some key
+key_there {V} es n k key v at same =
+    slice_get-map (λ (e : Key × V). e.0) es n ∙ ap (option_map (λ (e : Key × V). e.0)) (sym at) ∙ ap Some (key_same k key same)
+
+pub on_ok : {X E P Q : Type 0} (r : Result X E) → (P → Q) → OnOk r P → OnOk r Q
+on_ok (Ok x) f h = f h
+on_ok (Err e) f h = tt
+
+pub enters_there : (key : Key) (e : Entry) (old new : Growing) (n : ℕ) → slice_get (keys old.keys) n ≡ Some key → keys new.keys ≡ keys old.keys
+    → lists_of new ≡ with_item (lists_of old) n e → Enters ((key, e) ∷ []) old new
+enters_there key e old new n there same put before grown =
+    grown_more before key e old new grown
+    (same ∙ sym (kept_there key (keys old.keys) n there))
+    (subst (λ (ks : List Key). IsDistinct same_key ks) (sym same) grown.unique)
+    (put ∙ ap (λ m. with_item (lists_of old) m e) (sym (place_there key (keys old.keys) n grown.unique there)))
 
 pub enters_then : (ps qs rs : List (Key × Entry)) (a b c : Growing) → rs ≡ ps ++ qs → Enters ps a b → Enters qs b c → Enters rs a c
 enters_then ps qs rs a b c is first second before grown =

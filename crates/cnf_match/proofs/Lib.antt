@@ -15,3 +15,4 @@ pub mod Turns
 pub mod Naming
 pub mod Pairs
 pub mod Below
+pub mod Seen

@@ -1,5 +1,5 @@
 -- Expressions in conjunctive form as they are written, their faults, and how they are kept.
-use Rattle.std.specs.Prelude.{ℕ, ◌≡◌, ◌==◌, ◌&&◌, ◌||◌, nat_lt, true, List, [], ◌∷◌, ◌++◌, ◌-◌, length, take, map, get_or, Bool, if◌then◌else◌, Option, Some, is_none, option_map, find, Result, Ok, Err}
+use Rattle.std.specs.Prelude.{ℕ, ◌≡◌, ◌==◌, ◌&&◌, ◌||◌, nat_lt, true, List, [], ◌∷◌, ◌++◌, ◌+◌, ◌-◌, ◌*◌, ◌%◌, length, take, map, get_or, Bool, if◌then◌else◌, Option, Some, is_none, option_map, find, Result, Ok, Err}
 use Rattle.std.specs.List.{list_any, flat_map, filter_map, enumerate_from}
 use Rattle.std.specs.Str.{bytes_eq}
 use Rattle.target_expr.specs.declared.pred.Pred.{Pred}
@@ -64,6 +64,10 @@ IsFirstUnlessMemory fs f = first_of fs ≡ Some f
 -- the last byte, which private clauses cite
 abbrev pub end_of : List ℕ → ℕ
 end_of text = get_or text (length text - 1) 0
+
+-- what two weights of one pair have in common, which private clauses cite
+abbrev pub mark_of : RawWeight → ℕ
+mark_of w = (end_of w.attr * 5 + end_of w.value) % 64
 
 -- both, unless memory was refused for one, which private clauses cite
 abbrev pub both_of : {A B E : Type 0} → Result A E → Result B E → Result (A × B) E

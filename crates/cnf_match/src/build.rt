@@ -23,7 +23,8 @@ impl CnfIndex {
         let exprs = exprs.as_slice();
         let zeros = zero_list(alloc, exprs)?;
         let negated = all_negated(alloc, exprs)?;
-        let Growing { keys, lists } = grow(alloc, exprs)?;
+        let Growing { keys, lists, seats } = grow(alloc, exprs)?;
+        drop(seats);
         let lists = lists_in(alloc, lists)?;
         Ok(made(keys, lists, zeros, negated))
     }
@@ -133,7 +134,7 @@ fn grow(alloc: Global, exprs: &[CnfExpr]) -> Result<Growing, AllocError>
     requires { length exprs.now ≤ 4096 }
     ensures { IfOk result (IsGrown (pairs_of exprs.now)) }
 {
-    let mut growing = Growing::new(alloc);
+    let mut growing = Growing::new(alloc)?;
     enter_all(alloc, &mut growing, exprs)?;
     Ok(growing)
 }
@@ -192,16 +193,12 @@ fn enter_pred(
     ensures { OnOk result (Enters (pred_pairs n i pred.now) growing.old growing.new) }
 {
     for value in pred.values.as_slice() {
-        let key = Key {
-            attr: pred.attr,
-            value: value.copy()?,
-        };
         let entry = Entry {
             expression: n,
             clause: i,
             negated: pred.negated,
         };
-        growing.enter(alloc, key, entry)?;
+        growing.enter(alloc, pred.attr, value, entry)?;
     }
     Ok(())
 }

@@ -1,9 +1,9 @@
 //! The first fault of an expression in conjunctive form, in the order in which it is written.
-ghost use Rattle.std.specs.Prelude.{◌≡◌, ◌≤◌, ◌==◌, is_none, length, nat_lt};
+ghost use Rattle.std.specs.Prelude.{◌≡◌, ◌<◌, ◌==◌, false, is_none, length, nat_lt};
 ghost use Rattle.std.specs.List.{list_any};
 ghost use Rattle.target_expr.specs.Attributes.{attr_named};
 ghost use Rattle.target_expr.specs.Kept.{is_too_much};
-ghost use Rattle.cnf_match.specs.Making.{clause_faults, clauses_faults, end_of, faults, first_of, is_refused, is_wrong, pred_faults, same_pair, weight_faults};
+ghost use Rattle.cnf_match.specs.Making.{clause_faults, clauses_faults, end_of, faults, first_of, is_refused, is_wrong, mark_of, pred_faults, same_pair, weight_faults};
 
 use crate::fault::CnfFault;
 use crate::names::attr_of;
@@ -90,23 +90,48 @@ fn pred_fault(i: usize, j: usize, pred: &RawPred) -> Option<CnfFault>
     None
 }
 
-// The first fault of the weights.
+// The first fault of the weights. Two of one pair have the same mark, so mostly no earlier one has to be looked at.
 fn weights_fault(weights: &[RawWeight]) -> Option<CnfFault>
     ensures { result ≡ first_of (weight_faults weights.now) }
 {
+    let mut seen = [false; MARKS];
     for (at, weight) in weights.iter().enumerate() {
-        if is_wrong(&weights[..at], weight) {
+        let mark = mark_of(weight);
+        if is_wrong(&weights[..at], weight, seen[mark]) {
             return Some(CnfFault::Weight { at });
         }
+        seen[mark] = true;
     }
     None
 }
 
+const MARKS: usize = 64;
+
+// The weight's mark, below 64.
+fn mark_of(weight: &RawWeight) -> usize
+    ensures value { result ≡ mark_of weight.now }
+    ensures small { result < 64 }
+{
+    let attr = usize::from(end_of(weight.attr.as_bytes()));
+    let value = usize::from(end_of(weight.value.as_bytes()));
+    (attr * 5 + value) % MARKS
+}
+
 // Whether behind these the weight is one too many, or refused, or of a pair that was weighed before.
-fn is_wrong(earlier: &[RawWeight], weight: &RawWeight) -> bool
+fn is_wrong(earlier: &[RawWeight], weight: &RawWeight, seen: bool) -> bool
+    requires { seen ≡ false → list_any (λ v. same_pair v weight.now) earlier.now ≡ false }
     ensures { result ≡ is_wrong earlier.now weight.now }
 {
-    earlier.len() == MOST_WEIGHTS || is_refused(weight) || stands_in(earlier, weight)
+    earlier.len() == MOST_WEIGHTS || is_refused(weight) || is_twice(earlier, weight, seen)
+}
+
+// Whether one of the earlier weights is of the same pair, which only one whose mark was seen can be.
+#[tactic(auto, using(crate::proofs::Seen::where_seen))]
+fn is_twice(earlier: &[RawWeight], weight: &RawWeight, seen: bool) -> bool
+    requires { seen ≡ false → list_any (λ v. same_pair v weight.now) earlier.now ≡ false }
+    ensures { result ≡ list_any (λ v. same_pair v weight.now) earlier.now }
+{
+    seen && stands_in(earlier, weight)
 }
 
 // Whether it names no attribute, or its value is too long, or it is too great.

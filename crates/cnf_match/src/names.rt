@@ -1,5 +1,5 @@
 //! The attribute of a name, found by its length and two of its letters.
-ghost use Rattle.std.specs.Prelude.{◌≡◌, ◌<◌};
+ghost use Rattle.std.specs.Prelude.{◌≡◌};
 ghost use Rattle.std.specs.Str.{bytes_eq};
 ghost use Rattle.target_expr.specs.Attributes.{attr_named};
 
@@ -18,7 +18,7 @@ pub(crate) fn attr_of(name: &[u8]) -> Option<Attr>
 }
 
 // Whether the texts are the same. Of a few bytes it is quickest to compare one after the other.
-fn are_same(a: &[u8], b: &[u8]) -> bool
+pub(crate) fn are_same(a: &[u8], b: &[u8]) -> bool
     ensures { result ≡ bytes_eq a.now b.now }
 {
     if a.len() != b.len() {
@@ -32,62 +32,42 @@ fn are_same(a: &[u8], b: &[u8]) -> bool
     true
 }
 
-// The only attribute that may have the name.
+// The only attribute that may have the name. Each of the names has a place of its own, and any other place is as good
+// as none: the names are compared.
 fn likely_attr(name: &[u8]) -> Attr {
-    LIKELY[place_of(name)]
+    match place_of(name) {
+        1 => Attr::Model,
+        6 => Attr::Bundle,
+        9 => Attr::Gender,
+        13 => Attr::Metro,
+        20 => Attr::DeviceType,
+        21 => Attr::City,
+        25 => Attr::ConnectionType,
+        26 => Attr::Region,
+        27 => Attr::Country,
+        29 => Attr::Os,
+        34 => Attr::Pos,
+        35 => Attr::Make,
+        40 => Attr::Language,
+        41 => Attr::App,
+        42 => Attr::Publisher,
+        43 => Attr::Osv,
+        52 => Attr::Zip,
+        53 => Attr::Site,
+        54 => Attr::TagId,
+        57 => Attr::Yob,
+        63 => Attr::Carrier,
+        _ => Attr::Domain,
+    }
 }
 
-// Where the name of an attribute leads to that attribute below. Each of the names has a place of its own.
-fn place_of(name: &[u8]) -> usize
-    ensures { result < 40 }
-{
-    let first = usize::from(name.first().copied().unwrap_or(0));
-    let last = usize::from(name.last().copied().unwrap_or(0));
-    (name.len() % PLACES * 3 + first + last * 2) % PLACES
+// A place below 64, by the length of the name and two of its letters.
+fn place_of(name: &[u8]) -> u8 {
+    let first = name.first().copied().unwrap_or(0);
+    let last = name.last().copied().unwrap_or(0);
+    let length = name.len() % 64;
+    let sum = (length * 2) as u8;
+    sum.wrapping_add(first.wrapping_mul(3))
+        .wrapping_add(last.wrapping_mul(4))
+        % 64
 }
-
-const PLACES: usize = 40;
-
-// An attribute for each place; those of no name have the first.
-const LIKELY: [Attr; PLACES] = [
-    Attr::Domain,
-    Attr::Domain,
-    Attr::Country,
-    Attr::Make,
-    Attr::Domain,
-    Attr::Domain,
-    Attr::Yob,
-    Attr::Publisher,
-    Attr::Domain,
-    Attr::Site,
-    Attr::App,
-    Attr::TagId,
-    Attr::DeviceType,
-    Attr::Domain,
-    Attr::Language,
-    Attr::Domain,
-    Attr::Domain,
-    Attr::Domain,
-    Attr::Domain,
-    Attr::Domain,
-    Attr::Model,
-    Attr::Domain,
-    Attr::Domain,
-    Attr::ConnectionType,
-    Attr::Domain,
-    Attr::Domain,
-    Attr::Metro,
-    Attr::Os,
-    Attr::Carrier,
-    Attr::Gender,
-    Attr::Domain,
-    Attr::Pos,
-    Attr::Region,
-    Attr::City,
-    Attr::Domain,
-    Attr::Zip,
-    Attr::Osv,
-    Attr::Domain,
-    Attr::Bundle,
-    Attr::Domain,
-];

@@ -1,3 +1,4 @@
+pub mod Absent
 pub mod Few
 pub mod Made
 pub mod Making

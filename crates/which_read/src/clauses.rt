@@ -10,7 +10,7 @@ ghost use Rattle.which_read.specs.declared.field.WhichField.{WhichField};
 
 use crate::fault::WhichFault;
 use crate::field::WhichField;
-use crate::parts::{fault, filled, kept, push, text_field, texts_field};
+use crate::parts::{fault, filled, kept, push, text_field, texts_where};
 use exact_json::Value;
 use json_fields as fields;
 use rtb_num::{List, Txt};
@@ -160,9 +160,9 @@ fn fill_pred(
     let excludes = has_not(value);
     pred.attr = text_field(alloc, value, WhichField::PredicateAttr(i, j, k))?;
     some_list(i, j, k, admits, excludes)?;
-    pred.values = texts_field(alloc, value, WhichField::In(i, j, k))?;
+    pred.values = texts_where(admits, alloc, value, WhichField::In(i, j, k))?;
     one_list(i, j, k, admits, excludes)?;
-    let excluded = texts_field(alloc, value, WhichField::Not(i, j, k))?;
+    let excluded = texts_where(excludes, alloc, value, WhichField::Not(i, j, k))?;
     choose(pred, excludes, excluded);
     Ok(())
 }

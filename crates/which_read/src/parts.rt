@@ -1,11 +1,12 @@
 //! The fields of a request: texts, numbers and lists.
-ghost use Rattle.std.specs.Prelude.{◌≡◌, ◌++◌, ◌∷◌, [], OnOk};
+ghost use Rattle.std.specs.Prelude.{◌≡◌, ◌++◌, ◌∷◌, [], is_some, OnOk};
 ghost use Rattle.exact_json.specs.Forms.{HasForms};
 ghost use Rattle.exact_json.specs.View.{tree_of};
 ghost use Rattle.json_fields.specs.Answers.{Answers, map_ok};
 ghost use Rattle.json_fields.specs.Fields.{as_whole, present, required};
 ghost use Rattle.json_fields.specs.Readings.{Reading, with_faults};
 ghost use Rattle.which_read.specs.Parts.{fault_of, list_fault, number_field, text_field, texts_field};
+ghost use Rattle.which_read.specs.Paths.{member_name};
 ghost use Rattle.which_read.specs.declared.fault.WhichFault.{WhichFault};
 
 use crate::fault::WhichFault;
@@ -28,6 +29,7 @@ pub(crate) fn fault(field: WhichField, flaw: Flaw) -> WhichFault
 }
 
 // A text that has to be there.
+#[inline(always)]
 #[tactic(auto, unfolding(crate::specs::Parts::text_field))]
 pub(crate) fn text_field(
     alloc: Global,
@@ -43,6 +45,7 @@ pub(crate) fn text_field(
 }
 
 // A whole number that has to be there, within bounds from 0 on.
+#[inline(always)]
 #[tactic(auto, unfolding(crate::specs::Parts::number_field))]
 pub(crate) fn number_field(
     object: &Value<'_>,
@@ -58,6 +61,7 @@ pub(crate) fn number_field(
     }
 }
 
+#[inline(always)]
 #[tactic(auto, using(crate::proofs::Required::there, crate::proofs::Required::absent, crate::proofs::Required::flawed))]
 fn required_whole(object: &Value<'_>, name: &[u8], bounds: &Bounds) -> Result<i32, Flaw>
     requires forms { HasForms (tree_of object.now) }
@@ -70,9 +74,27 @@ fn required_whole(object: &Value<'_>, name: &[u8], bounds: &Bounds) -> Result<i3
     }
 }
 
+// A list of texts, which may be absent. Whether it is there is known, so one that is not is not looked up.
+#[inline(always)]
+pub(crate) fn texts_where(
+    there: bool,
+    alloc: Global,
+    object: &Value<'_>,
+    field: WhichField,
+) -> Result<List<Txt>, WhichFault>
+    requires { there ≡ is_some (present (member_name field) (tree_of object.now)) }
+    ensures { Answers WhichFault.Memory (texts_field field (tree_of object.now)) result }
+{
+    if !there {
+        return Ok(List::new(alloc));
+    }
+    texts_field(alloc, object, field)
+}
+
 // A list of texts, which may be absent.
+#[inline(always)]
 #[tactic(auto, using(json_fields::proofs::First::firsts_mapped), unfolding(crate::specs::Parts::texts_field))]
-pub(crate) fn texts_field(
+fn texts_field(
     alloc: Global,
     object: &Value<'_>,
     field: WhichField,

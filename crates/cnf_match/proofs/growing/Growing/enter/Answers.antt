@@ -1,18 +1,25 @@
-use Rattle.std.proofs.Common.{◌∙◌, ap, map}
-use Rattle.std.specs.Map.{keys_of}
-use Rattle.indexmap.specs.IndexMap.{keys}
-use Rattle.cnf_match.specs.Growing.{with_item}
-use Rattle.cnf_match.proofs.Entering.{distinct_keys, inserted_keys}
-use Rattle.cnf_match.proofs.KeyEq.{place_same}
+use Rattle.std.proofs.Common.{◌∙◌, [], ◌∷◌, List, ℕ, ap, refl, subst}
+use Rattle.std.specs.Vec.{with_items}
+use Rattle.cnf_match.specs.declared.growing.Growing.{Growing}
+use Rattle.cnf_match.specs.declared.index.Key.{Key}
+use Rattle.cnf_match.specs.Growing.{Enters, lists_of, with_item}
+use Rattle.cnf_match.proofs.Entering.{enters_one, enters_there, on_ok}
 use Rattle.cnf_match.proofs.growing.Growing.enter.Goals as goal
 
-pub returns-clause-added : goal.returns-clause-added
-returns-clause-added c = ap keys_of c.in_ok-place.ensures.entries ∙ inserted_keys c.args.self.now.keys.entries c.args.key tt
+pub returns-then-is_at : goal.returns-then-is_at
+returns-then-is_at c =
+    let key : Key = record { attr = c.args.attr; value = c.args.value.now } in
+    let old : Growing = c.args.self.now in
+    let new : Growing = record { keys = old.keys; lists = c.put.new.lists; seats = old.seats } in
+    on_ok c.put.result (enters_there key c.args.entry old new c.place_in-likely.result (c.is_at.ensures c.if-is_at.true) refl) c.put.ensures
 
-pub returns-clause-unique : goal.returns-clause-unique
-returns-clause-unique c = distinct_keys (keys c.insert_full.new.self) c.insert_full.ensures.unique
-
-pub returns-clause-lists : goal.returns-clause-lists
-returns-clause-lists c =
-    c.in_ok-put.ensures
-    ∙ ap (λ n. with_item (map (λ l. l.items) c.args.self.now.lists.items) n c.args.entry) (c.in_ok-place.ensures.index ∙ place_same c.args.key (keys c.args.self.now.keys))
+pub returns : goal.returns
+returns c =
+    let key : Key = record { attr = c.args.attr; value = c.in_ok-copy.field-0 } in
+    let old : Growing = c.args.self.now in
+    let new : Growing = record { keys = c.added.new.map; lists = c.put-2.new.lists; seats = with_items old.seats c.seat_at.new.seats } in
+    on_ok c.put-2.result
+    (λ put. subst (λ (v : List ℕ). Enters ((record { attr = c.args.attr; value = v }, c.args.entry) ∷ []) old new) c.in_ok-copy.ensures
+    (enters_one key c.args.entry old new c.in_ok-place.ensures.added c.in_ok-place.ensures.unique
+    (put ∙ ap (λ n. with_item (lists_of old) n c.args.entry) c.in_ok-place.ensures.place)))
+    c.put-2.ensures
