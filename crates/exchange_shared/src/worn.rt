@@ -12,15 +12,15 @@
 use std::sync::atomic::AtomicU64;
 use std::sync::atomic::Ordering::SeqCst;
 
-// How often a campaign is asked for each that is built into a version: some 60 nanoseconds each time, and some 4
-// microseconds.
-const ASKED_FOR_ONE: u64 = 64;
+// How often a campaign is asked for each that is built into a version: some 60 nanoseconds each time, and some 400 to
+// build it in.
+const ASKED_FOR_ONE: u64 = 8;
 
 // How many times as worn a version is where it is worn out.
 const WORN_OUT: u64 = 2;
 
 // A version of a table with fewer campaigns is worn no sooner than one with so many.
-const FEWEST: u64 = 64;
+const FEWEST: u64 = 512;
 
 /// How worn the present version is.
 #[derive(Drop)]

@@ -22,7 +22,7 @@ pub enum Look<D: Disk> {
     Durable,
     /// All are.
     Written,
-    /// Another worker has it.
+    /// Another worker has it, or others were waited for. It is worth another look.
     Out,
     Errand(Errand<D>),
 }
@@ -100,6 +100,11 @@ impl<D: Disk> Exchange<D> {
         if turn.value.durable() >= upto {
             return (self.lock.leave(seat, turn), Look::Durable);
         }
+        if let Some(hold) = self.landings.hold() {
+            let held = self.lock.leave(seat, turn);
+            self.landings.wait(rt, hold);
+            return (held, Look::Out);
+        }
         match turn.value.take_journal() {
             Taken::Out => {
                 let landing = self.landings.watch(upto);
@@ -132,9 +137,9 @@ impl<D: Disk> Exchange<D> {
         let mut errand = errand;
         let written = write(&mut errand);
         let (seat, turn) = self.lock.enter(rt, seat);
-        let block = self.landings.land();
+        let landed = self.landings.land();
         let seat = leave_put::<D, Brand>(&self.lock, seat, turn, errand, written);
-        self.landings.wake(block);
+        self.landings.wake(landed);
         if written {
             Ok(seat)
         } else {

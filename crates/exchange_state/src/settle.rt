@@ -111,6 +111,10 @@ impl<D: Disk> ExchangeState<D> {
     }
 
     // Carries out a command for which this is found.
+    //
+    // A draft has half a kilobyte. What hands it on is compiled into its caller, so that it is moved once, and not at
+    // each call.
+    #[inline(always)]
     fn enter(
         &mut self,
         command: &Command,
@@ -131,6 +135,7 @@ impl<D: Disk> ExchangeState<D> {
     }
 
     // Prepares a command for which this is found. Only rooms change.
+    #[inline(always)]
     fn draft(
         &mut self,
         command: &Command,
@@ -177,6 +182,7 @@ impl<D: Disk> ExchangeState<D> {
     }
 
     // Carries out what was prepared. Its effect is at hand before that.
+    #[inline(always)]
     fn place(&mut self, draft: Draft) -> Result<Settled, AllocError>
         requires ready { IsReady draft self.old.core }
         requires plain { HasPlain draft.effect }
@@ -196,6 +202,7 @@ impl<D: Disk> ExchangeState<D> {
     }
 
     // Appends the bytes of the draft's effect to those that are pending, where it has one.
+    #[inline(always)]
     fn write_effect(&mut self, draft: &Draft) -> Result<Placing, AllocError>
         requires plain { HasPlain draft.now.effect }
         ensures placing { IfOk result (placed_as (length self.old.core.state.campaigns) draft.now.effect) }
@@ -214,6 +221,7 @@ impl<D: Disk> ExchangeState<D> {
     }
 
     // Carries the draft out, and remembers the edit.
+    #[inline(always)]
     fn commit(&mut self, draft: Draft, placing: Placing) -> Settled
         requires ready { IsReady draft self.old.core }
         requires room { 1 ≤ self.old.recent.spare }
@@ -232,6 +240,7 @@ impl<D: Disk> ExchangeState<D> {
     }
 
     // Remembers what was placed.
+    #[inline(always)]
     fn note(&mut self, placing: Placing)
         requires room { 1 ≤ self.old.recent.spare }
         requires placed { self.old.placed < 2 ^ 63 }
@@ -249,6 +258,7 @@ impl<D: Disk> ExchangeState<D> {
 }
 
 // Carries out what was prepared: it makes just the edits of the draft's effect.
+#[inline(always)]
 fn commit_exactly(core: &mut Core, draft: Draft) -> Reply
     requires ready { IsReady draft core.old }
     requires few { core.old.edits < 2 ^ 63 }
