@@ -31,6 +31,9 @@ fn put_damaged(writer: &mut Writer, at: u64) -> Result<(), AllocError>
     Ok(())
 }
 
+// Mostly enough bytes for a report.
+const REPORT: usize = 256;
+
 /// The report of campaign `n`, behind so many effects.
 pub(crate) fn report_answer(
     alloc: Global,
@@ -40,7 +43,7 @@ pub(crate) fn report_answer(
 ) -> Result<Answer, AllocError>
     ensures { IfOk result (λ a. a ≡ object_answer 200 (followed_members n report.now effects)) }
 {
-    let mut writer = Writer::new(alloc);
+    let mut writer = Writer::with_room(alloc, REPORT);
     let done = put_followed(&mut writer, n, report, effects);
     closed(200, writer, done)
 }
