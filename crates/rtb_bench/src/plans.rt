@@ -3,7 +3,7 @@ ghost use Rattle.std.specs.Prelude.{◌≡◌, ◌≤◌, ◌<◌, length};
 
 use bumpalo::Bump;
 use cnf_match::CnfIndex;
-use exact_json::{Doc, read};
+use exact_json::{Doc, read, room_for};
 use rtb_base::Steps;
 use rtb_num::{Txt, write_decimal};
 use std::alloc::{AllocError, Global};
@@ -20,6 +20,8 @@ pub enum Plan {
     Answer,
     /// It is read once, and what is true is found in its index.
     Find,
+    /// Its text is read, in room that is made for it, as an answer begins.
+    Read,
 }
 
 impl Plan {
@@ -31,6 +33,9 @@ impl Plan {
         if word == b"which_find".as_slice() {
             return Some(Plan::Find);
         }
+        if word == b"which_read".as_slice() {
+            return Some(Plan::Read);
+        }
         None
     }
 }
@@ -40,6 +45,7 @@ pub fn line(alloc: Global, plan: Plan, times: u32, bytes: &[u8]) -> Result<Txt, 
     let sum = match plan {
         Plan::Answer => answers(alloc, times, bytes),
         Plan::Find => finds(alloc, times, bytes),
+        Plan::Read => readings(alloc, times, bytes),
     };
     sum_line(alloc, sum?)
 }
@@ -65,6 +71,30 @@ fn answer_size(alloc: Global, bytes: &[u8]) -> Result<u64, AllocError> {
     let size = reply.text.len() as u64;
     drop(reply);
     Ok(size)
+}
+
+// How many readings found a JSON text.
+fn readings(alloc: Global, times: u32, bytes: &[u8]) -> Result<u64, AllocError> {
+    let mut sum: u64 = 0;
+    for _ in 0..times {
+        sum = sum.wrapping_add(reading(alloc, bytes)?);
+    }
+    Ok(sum)
+}
+
+// One reading: 1 where it found a JSON text. The room is that of an answer, and is let go behind it.
+fn reading(alloc: Global, bytes: &[u8]) -> Result<u64, AllocError> {
+    let arena = Bump::try_with_capacity(alloc, room_for(bytes.len()))?;
+    let found = is_text(alloc, &arena, bytes);
+    drop(arena);
+    if found { Ok(1) } else { Ok(0) }
+}
+
+fn is_text(alloc: Global, arena: &Bump, bytes: &[u8]) -> bool {
+    match read(alloc, arena, bytes) {
+        Ok(_) => true,
+        Err(_) => false,
+    }
 }
 
 // The sum of the numbers that were found.

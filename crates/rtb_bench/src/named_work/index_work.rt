@@ -89,11 +89,11 @@ pub(crate) fn index_of<L: Ledger>(
 }
 
 // A builder with the campaigns.
-fn with_all<L: Ledger>(
+fn with_all<'a, L: Ledger>(
     alloc: Global,
-    campaigns: &[(u32, Expr)],
+    campaigns: &'a [(u32, Expr)],
     steps: &mut Steps<L>,
-) -> Result<Builder, AllocError>
+) -> Result<Builder<'a>, AllocError>
     requires rising { DoRise campaigns.now }
     requires few { conjunctions_in campaigns.now ≤ 1000000 }
     ensures { IfOk result (λ builder. builder ≡ campaigns.now) }
