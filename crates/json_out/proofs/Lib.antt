@@ -1,4 +1,6 @@
+mod Digits
 mod Escapes
 mod Innermost
+mod Plain
 mod Read
 pub mod Objects

@@ -4,6 +4,7 @@
 //! appends and what may stand next.
 #![tactic(auto)]
 
+mod lanes;
 mod members;
 mod places;
 mod strings;

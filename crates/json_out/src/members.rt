@@ -1,7 +1,7 @@
 //! Members of an object written, a call each.
 #![tactic(auto, using(crate::proofs::Objects::name_next))]
 
-ghost use Rattle.std.specs.Prelude.{◌≡◌, ◌∷◌, [], decimal, map, IsTrue, IfOk, OnOk};
+ghost use Rattle.std.specs.Prelude.{◌≡◌, ◌∷◌, ◌++◌, [], decimal, map, IsTrue, OnOk};
 ghost use Rattle.std.specs.Fmt.{signed_decimal};
 ghost use Rattle.rtb_num.specs.Amounts.{micros_text, nanos_text};
 ghost use Rattle.json_out.specs.Inside.{put_member};
@@ -10,8 +10,8 @@ ghost use Rattle.json_out.specs.Texts.{array_text};
 ghost use Rattle.json_out.specs.Writer.{put_value, takes_name, takes_value};
 
 use crate::writer::Writer;
-use rtb_num::{Micros, Nanos, Txt, write_decimal};
-use std::alloc::{AllocError, Global};
+use rtb_num::{Micros, Nanos, Txt};
+use std::alloc::AllocError;
 
 /// Members of an object (RFC 8259, section 4), a call each. Where memory is refused, the name may stay.
 impl Writer {
@@ -27,13 +27,31 @@ impl Writer {
     }
 
     /// Writes a member whose value is the string of a number's digits.
-    pub fn put_digits(&mut self, alloc: Global, name: &[u8], n: u64) -> Result<(), AllocError>
+    pub fn put_digits(&mut self, name: &[u8], n: u64) -> Result<(), AllocError>
         requires { IsTrue (takes_name self.old) }
         ensures ok { OnOk result (self.new ≡ put_member self.old (name.now, string_text (decimal n))) }
         ensures next { OnOk result (IsTrue (takes_name self.new)) }
     {
-        let digits = digits(alloc, n)?;
-        self.put_text(name, digits.as_bytes())?;
+        self.name(name)?;
+        self.digits(n)?;
+        Ok(())
+    }
+
+    /// Writes a member whose value is the string of two texts and a number's digits, one behind the other, as in
+    /// `"http://ads.example/bill/17"`. It takes no memory beside the text's own.
+    pub fn put_numbered(
+        &mut self,
+        name: &[u8],
+        text: &[u8],
+        path: &[u8],
+        n: u64,
+    ) -> Result<(), AllocError>
+        requires { IsTrue (takes_name self.old) }
+        ensures ok { OnOk result (self.new ≡ put_member self.old (name.now, string_text (text.now ++ path.now ++ decimal n))) }
+        ensures next { OnOk result (IsTrue (takes_name self.new)) }
+    {
+        self.name(name)?;
+        self.numbered(text, path, n)?;
         Ok(())
     }
 
@@ -141,12 +159,4 @@ impl Writer {
         self.end()?;
         Ok(())
     }
-}
-
-fn digits(alloc: Global, n: u64) -> Result<Txt, AllocError>
-    ensures { IfOk result (λ t. t ≡ decimal n) }
-{
-    let mut text = Txt::new(alloc);
-    write_decimal(n, &mut text)?;
-    Ok(text)
 }

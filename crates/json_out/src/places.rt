@@ -1,5 +1,5 @@
 //! Which arrays and objects are open, and what stands in each.
-ghost use Rattle.std.specs.Prelude.{◌≡◌, ◌∷◌, [], drop, IsTrue, OnOk, OnErr};
+ghost use Rattle.std.specs.Prelude.{◌≡◌, ◌∷◌, [], cond, drop, IsTrue, OnOk, OnErr};
 ghost use Rattle.std.specs.List.{slice_get};
 ghost use Rattle.json_out.specs.Writer.{beginning, ending, fill as fill_in, is_open, name_in, separator, wants_name, wants_value};
 
@@ -16,12 +16,14 @@ pub enum Place {
 }
 
 impl Place {
-    pub(crate) fn beginning(self) -> &'static [u8]
-        ensures { result.now ≡ beginning self }
+    // The byte that begins it.
+    #[inline(always)]
+    pub(crate) fn opening(self) -> u8
+        ensures { result ∷ [] ≡ beginning self }
     {
         match self {
-            Place::Array { .. } => b"[",
-            Place::Object { .. } => b"{",
+            Place::Array { .. } => b'[',
+            Place::Object { .. } => b'{',
         }
     }
 }
@@ -63,6 +65,7 @@ impl Places {
         }
     }
 
+    #[inline(always)]
     fn innermost(&self) -> Option<Place>
         ensures { result ≡ slice_get self.now 0 }
     {
@@ -83,6 +86,7 @@ impl Places {
         self.items.pop();
     }
 
+    #[inline(always)]
     fn replace(&mut self, place: Place)
         requires { IsTrue (is_open self.old) }
         ensures { self.new ≡ place ∷ drop 1 self.old }
@@ -115,34 +119,38 @@ impl Places {
         }
     }
 
-    // What stands before the next element or member.
-    pub(crate) fn separator(&self) -> &'static [u8]
-        ensures { result.now ≡ separator self.now }
+    // Whether a comma stands before the next element or member.
+    #[inline(always)]
+    pub(crate) fn has_one(&self) -> bool
+        ensures { cond result (44 ∷ []) [] ≡ separator self.now }
     {
         match self.innermost() {
-            Some(Place::Array { filled: true }) => b",",
+            Some(Place::Array { filled: true }) => true,
             Some(
                 Place::Object {
                     filled: true,
                     named: false,
                 },
-            ) => b",",
-            _ => b"",
+            ) => true,
+            _ => false,
         }
     }
 
-    // What ends the innermost.
-    pub(crate) fn ending(&self) -> &'static [u8]
-        ensures { result.now ≡ ending self.now }
+    // The byte that ends the innermost.
+    #[inline(always)]
+    pub(crate) fn closing(&self) -> u8
+        requires { IsTrue (is_open self.now) }
+        ensures { result ∷ [] ≡ ending self.now }
     {
         match self.innermost() {
-            Some(Place::Array { .. }) => b"]",
-            Some(Place::Object { .. }) => b"}",
-            None => b"",
+            Some(Place::Array { .. }) => b']',
+            Some(Place::Object { .. }) => b'}',
+            None => unreachable!(),
         }
     }
 
     // A value stands in the innermost.
+    #[inline(always)]
     pub(crate) fn fill(&mut self)
         ensures { self.new ≡ fill_in self.old }
     {
@@ -157,6 +165,7 @@ impl Places {
     }
 
     // The next member of the innermost has its name.
+    #[inline(always)]
     pub(crate) fn name(&mut self)
         ensures { self.new ≡ name_in self.old }
     {

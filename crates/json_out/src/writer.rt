@@ -7,7 +7,7 @@ ghost use Rattle.json_out.specs.Writer.{Written, begin, beginning, blank, can_en
 ghost use Rattle.json_out.specs.declared.places.Place.TheVariants.{Array, Object};
 
 use crate::places::{Place, Places};
-use crate::strings::{push_name, push_string};
+use crate::strings::{push_digits, push_name, push_numbered, push_string};
 use rtb_num::{Micros, Nanos, Txt, write_decimal, write_micros, write_nanos, write_signed};
 use std::alloc::{AllocError, Global};
 use std::marker::Model;
@@ -112,7 +112,7 @@ impl Writer {
         ensures ok { OnOk result (self.new ≡ end self.old) }
         ensures err { OnErr result (self.new ≡ self.old) }
     {
-        self.text.extend(self.places.ending())?;
+        self.text.push(self.places.closing())?;
         self.places.pop();
         self.places.fill();
         Ok(())
@@ -140,6 +140,32 @@ impl Writer {
     {
         let before = self.separate()?;
         let written = push_string(&mut self.text, text);
+        self.settle(before, written)?;
+        self.places.fill();
+        Ok(())
+    }
+
+    // Writes the string of a number's digits.
+    pub(crate) fn digits(&mut self, n: u64) -> Result<(), AllocError>
+        requires { IsTrue (takes_value self.old) }
+        ensures ok { OnOk result (self.new ≡ put_value self.old (string_text (decimal n))) }
+        ensures err { OnErr result (self.new ≡ self.old) }
+    {
+        let before = self.separate()?;
+        let written = push_digits(&mut self.text, n);
+        self.settle(before, written)?;
+        self.places.fill();
+        Ok(())
+    }
+
+    // Writes the string of two texts and a number's digits.
+    pub(crate) fn numbered(&mut self, text: &[u8], path: &[u8], n: u64) -> Result<(), AllocError>
+        requires { IsTrue (takes_value self.old) }
+        ensures ok { OnOk result (self.new ≡ put_value self.old (string_text (text.now ++ path.now ++ decimal n))) }
+        ensures err { OnErr result (self.new ≡ self.old) }
+    {
+        let before = self.separate()?;
+        let written = push_numbered(&mut self.text, text, path, n);
         self.settle(before, written)?;
         self.places.fill();
         Ok(())
@@ -217,23 +243,28 @@ impl Writer {
     }
 
     // Writes the comma, if one is due. Answers how long the text was before.
+    #[inline(always)]
     fn separate(&mut self) -> Result<usize, AllocError>
         ensures len { IfOk result (λ n. n ≡ length self.old.text) }
         ensures ok { OnOk result (self.new ≡ record { text = self.old.text ++ separator self.old.places; places = self.old.places }) }
         ensures err { OnErr result (self.new ≡ self.old) }
     {
         let before = self.text.len();
-        self.text.extend(self.places.separator())?;
+        push_comma(&mut self.text, &self.places)?;
         Ok(before)
     }
 
     // Takes back what was written, where the rest was refused memory.
+    #[inline(always)]
     fn settle(&mut self, before: usize, written: Result<(), AllocError>) -> Result<(), AllocError>
         ensures same { result ≡ written }
         ensures ok { OnOk result (self.new ≡ self.old) }
         ensures err { OnErr result (self.new ≡ record { text = take before self.old.text; places = self.old.places }) }
     {
-        self.text.settle(before, written)
+        if written.is_err() {
+            self.text.truncate(before);
+        }
+        written
     }
 }
 
@@ -247,6 +278,19 @@ fn text_with_room(alloc: Global, bytes: usize) -> Txt
     }
 }
 
+// Writes the comma, if one is due.
+#[inline(always)]
+fn push_comma(text: &mut Txt, places: &Places) -> Result<(), AllocError>
+    ensures ok { OnOk result (text.new ≡ text.old ++ separator places.now) }
+    ensures err { OnErr result (text.new ≡ text.old) }
+{
+    if places.has_one() {
+        text.push(b',')
+    } else {
+        Ok(())
+    }
+}
+
 // Opens an array or an object; where memory is refused, its bracket may stay.
 fn push_place(text: &mut Txt, places: &mut Places, place: Place) -> Result<(), AllocError>
     ensures text { OnOk result (text.new ≡ text.old ++ beginning place) }
@@ -254,6 +298,6 @@ fn push_place(text: &mut Txt, places: &mut Places, place: Place) -> Result<(), A
     ensures front { (more : List ℕ) × (text.new ≡ text.old ++ more) }
     ensures err { OnErr result (places.new ≡ places.old) }
 {
-    text.extend(place.beginning())?;
+    text.push(place.opening())?;
     places.push(place)
 }

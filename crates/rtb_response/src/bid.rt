@@ -31,9 +31,9 @@ pub(crate) fn put_bid(
 {
     let facts = &sale.record.record().facts;
     writer.obj()?;
-    put_sale(alloc, writer, request, sale)?;
+    put_sale(writer, request, sale)?;
     put_text_if_some(writer, b"adid", facts.adid())?;
-    put_notices(alloc, writer, sale.sale, public)?;
+    put_notices(writer, sale.sale, public)?;
     put_ad(alloc, writer, request, sale)?;
     put_further(writer, facts, sale.deal.as_ref())?;
     writer.end()?;
@@ -41,17 +41,12 @@ pub(crate) fn put_bid(
 }
 
 // Writes what was sold, and the price in US dollars.
-fn put_sale(
-    alloc: Global,
-    writer: &mut Writer,
-    request: &BidRequest,
-    sale: &Sold,
-) -> Result<(), AllocError>
+fn put_sale(writer: &mut Writer, request: &BidRequest, sale: &Sold) -> Result<(), AllocError>
     requires { IsTrue (takes_name writer.old) }
     ensures ok { OnOk result (writer.new ≡ put_members writer.old (sale_members request.now sale.now)) }
     ensures next { OnOk result (IsTrue (takes_name writer.new)) }
 {
-    writer.put_digits(alloc, b"id", sale.sale)?;
+    writer.put_digits(b"id", sale.sale)?;
     writer.put_text(b"impid", imp_id(request, sale))?;
     writer.put_micros(b"price", sale.price)?;
     Ok(())
@@ -80,75 +75,25 @@ fn put_text_if_some(writer: &mut Writer, name: &[u8], text: Option<&Txt>) -> Res
 }
 
 // Writes the addresses of the notices, where it is known with what they begin.
-fn put_notices(
-    alloc: Global,
-    writer: &mut Writer,
-    sale: u64,
-    public: Option<&Txt>,
-) -> Result<(), AllocError>
+fn put_notices(writer: &mut Writer, sale: u64, public: Option<&Txt>) -> Result<(), AllocError>
     requires { IsTrue (takes_name writer.old) }
     ensures ok { OnOk result (writer.new ≡ put_members writer.old (notice_members (option_copied public.entry) sale)) }
     ensures next { OnOk result (IsTrue (takes_name writer.new)) }
 {
     match public {
-        Some(public) => put_addresses(alloc, writer, sale, public.as_bytes()),
+        Some(public) => put_addresses(writer, sale, public.as_bytes()),
         None => Ok(()),
     }
 }
 
-fn put_addresses(
-    alloc: Global,
-    writer: &mut Writer,
-    sale: u64,
-    public: &[u8],
-) -> Result<(), AllocError>
+fn put_addresses(writer: &mut Writer, sale: u64, public: &[u8]) -> Result<(), AllocError>
     requires { IsTrue (takes_name writer.old) }
     ensures ok { OnOk result (writer.new ≡ put_members writer.old ((codes "burl", string_text (public.now ++ codes "/bill/" ++ decimal sale)) ∷ (codes "lurl", string_text (public.now ++ codes "/lose/" ++ decimal sale)) ∷ [])) }
     ensures next { OnOk result (IsTrue (takes_name writer.new)) }
 {
-    put_address(alloc, writer, b"burl", public, b"/bill/", sale)?;
-    put_address(alloc, writer, b"lurl", public, b"/lose/", sale)?;
+    writer.put_numbered(b"burl", public, b"/bill/", sale)?;
+    writer.put_numbered(b"lurl", public, b"/lose/", sale)?;
     Ok(())
-}
-
-fn put_address(
-    alloc: Global,
-    writer: &mut Writer,
-    name: &[u8],
-    public: &[u8],
-    path: &[u8],
-    sale: u64,
-) -> Result<(), AllocError>
-    requires { IsTrue (takes_name writer.old) }
-    ensures ok { OnOk result (writer.new ≡ put_member writer.old (text_member name.now (public.now ++ path.now ++ decimal sale))) }
-    ensures next { OnOk result (IsTrue (takes_name writer.new)) }
-{
-    let text = address(alloc, public, path, sale)?;
-    let done = writer.put_text(name, text.as_bytes());
-    drop(text);
-    done
-}
-
-fn address(alloc: Global, public: &[u8], path: &[u8], sale: u64) -> Result<Txt, AllocError>
-    ensures { IfOk result (λ t. t ≡ public.now ++ path.now ++ decimal sale) }
-{
-    let mut text = Txt::new(alloc);
-    text.reserve(room_for(public, path))?;
-    text.extend(public)?;
-    text.extend(path)?;
-    write_decimal(sale, &mut text)?;
-    Ok(text)
-}
-
-// No number of 64 bits has more digits.
-const MOST_DIGITS: usize = 20;
-
-// Enough bytes for the address of a notice.
-fn room_for(public: &[u8], path: &[u8]) -> usize {
-    public
-        .len()
-        .saturating_add(path.len())
-        .saturating_add(MOST_DIGITS)
 }
 
 // Writes what is shown, and of whom.
@@ -165,7 +110,7 @@ fn put_ad(
     let facts = &sale.record.record().facts;
     put_markup(alloc, writer, request, sale)?;
     writer.put_one(b"adomain", facts.adomain().as_bytes())?;
-    writer.put_digits(alloc, b"cid", u64::from(sale.campaign))?;
+    writer.put_digits(b"cid", u64::from(sale.campaign))?;
     writer.put_text(b"crid", facts.crid().as_bytes())?;
     Ok(())
 }
