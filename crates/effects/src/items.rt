@@ -6,7 +6,7 @@ ghost use Rattle.effects.specs.Bodies.{IsItemRow, item_from};
 ghost use Rattle.effects.specs.Bytes.{AreItems, AreSome, IsItem, item_bytes, items_bytes};
 
 use crate::fields::get_triple;
-use byte_fields::{Found, get_byte, put_byte, put_eight, put_four};
+use byte_fields::{Found, get_byte, put_byte};
 use plain_exchange::SoldItem;
 use rtb_num::{List, Nanos, Txt};
 use std::alloc::{AllocError, Global};
@@ -35,10 +35,25 @@ fn put_item(item: &SoldItem, out: &mut Txt) -> Result<(), AllocError>
     ensures front { (more : List ℕ) × (out.new ≡ out.old ++ more) }
     ensures valid { OnOk result (IsItem item.now) }
 {
-    put_four(item.campaign, out)?;
-    put_eight(item.price.get(), out)?;
-    put_eight(item.due, out)?;
-    Ok(())
+    let bytes = bytes_of(item);
+    out.extend(&bytes)
+}
+
+// The bytes of one item.
+#[inline(always)]
+#[tactic(auto, unfolding(byte_fields::specs::Encodings::four_bytes, byte_fields::specs::Encodings::eight_bytes))]
+fn bytes_of(item: &SoldItem) -> [u8; ITEM_LENGTH]
+    ensures bytes { result ≡ item_bytes item.now }
+    ensures valid { IsItem item.now }
+{
+    let campaign = item.campaign;
+    let price = item.price.get();
+    let due = item.due;
+    let mut row = [0; ITEM_LENGTH];
+    row[..4].copy_from_slice(&campaign.to_be_bytes());
+    row[4..12].copy_from_slice(&price.to_be_bytes());
+    row[12..].copy_from_slice(&due.to_be_bytes());
+    row
 }
 
 // The sold items at the place: how many in a byte, 1 to 64, and then each.
