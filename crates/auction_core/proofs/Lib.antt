@@ -1,4 +1,5 @@
 pub mod Auctioning
+pub mod Below
 pub mod Fitting
 pub mod Keeping
 pub mod Payable

@@ -1,5 +1,5 @@
 //! Who wins the impressions of a request, each beside the sales of those before it.
-ghost use Rattle.std.specs.Prelude.{◌≡◌, ◌≤◌, ◌<◌, ◌-◌, ◌+◌, ◌^◌, ◌==◌, ◌++◌, if◌then◌else◌, IfOk, IfSome, IsTrue, OnOk, Option, Some, fold, length, map, option_map, slice_get, take};
+ghost use Rattle.std.specs.Prelude.{◌≡◌, ◌≤◌, ◌<◌, ◌-◌, ◌+◌, ◌^◌, ◌==◌, ◌++◌, ◌&&◌, if◌then◌else◌, IfOk, IfSome, IsTrue, OnOk, Option, Some, fold, length, map, nat_lt, option_map, slice_get, take};
 ghost use Rattle.std.specs.List.{flat_map, list_all};
 ghost use Rattle.std.specs.Option.{option_map_or, option_to_list};
 ghost use Rattle.auction_core.specs.Auctions.{beside, awards_cost, offering, reached, times};
@@ -15,11 +15,11 @@ ghost use Rattle.rtb_types.specs.declared.request.Imp.{Imp as Impression};
 
 use crate::exchange::Core;
 use crate::prepare_records::nanos;
-use campaign::Cap;
+use campaign::{Cap, Facts};
 use clearing::{Offer, Win, clear};
 use deal_rules::{offers, terms, user_of};
 use rtb_num::{List, Nanos};
-use rtb_types::BidRequest;
+use rtb_types::{BidRequest, Imp};
 use std::alloc::{AllocError, Global};
 
 impl Core {
@@ -105,6 +105,9 @@ impl Core {
         ensures fit { (i : Impression) → slice_get request.now.imps imp ≡ Some i → IfOk result (λ os. IsTrue (list_all (is_fit (terms_of request.now i)) os)) }
     {
         let facts = &self.entry(n).record().facts;
+        if bids_below(&request.imps.as_slice()[imp], facts) {
+            return Ok(List::new(alloc));
+        }
         let free = self.free_beside(n, moment, awards);
         let shown = self.count_shown_beside(n, facts.cap(), request, moment, awards);
         offers(alloc, request, imp, n, facts, free, shown)
@@ -162,6 +165,14 @@ impl Core {
     {
         self.book.shown(n, user, seconds, moment)
     }
+}
+
+// Whether the campaign that states this bids less than the floor of the impression, which has no deals. Then it has no
+// offer, whatever is free of its budget: of many campaigns that are found this is the one thing that is asked.
+fn bids_below(imp: &Imp, facts: &Facts) -> bool
+    ensures { result ≡ (nat_lt facts.now.bid imp.now.floor && (length imp.now.pmp.deals == 0)) }
+{
+    facts.bid() < imp.floor && imp.pmp.deals.as_slice().is_empty()
 }
 
 // What the awards take of the budget of campaign `n`.
