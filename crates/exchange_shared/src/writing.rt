@@ -100,7 +100,7 @@ impl<D: Disk> Exchange<D> {
         if turn.value.durable() >= upto {
             return (self.lock.leave(seat, turn), Look::Durable);
         }
-        if let Some(hold) = self.landings.hold() {
+        if let Some(hold) = self.landings.hold(upto) {
             let held = self.lock.leave(seat, turn);
             self.landings.wait(rt, hold);
             return (held, Look::Out);

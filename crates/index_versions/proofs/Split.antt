@@ -1,6 +1,6 @@
 -- A rising list is split at a number by filters.
-use Rattle.std.proofs.Common.{◌≡◌, ℕ, suc, ◌<◌, ◌≤◌, inl, inr, List, [], ◌∷◌, Bool, true, false, cond, eqb, filter, nat_le, nat_lt, refl, sym, ◌∙◌, ap, subst, arith}
-use Rattle.std.specs.List.{All, dedup, list_any}
+use Rattle.std.proofs.Common.{◌≡◌, ℕ, suc, ◌+◌, ◌<◌, ◌≤◌, inl, inr, List, [], ◌∷◌, Bool, true, false, cond, drop, eqb, filter, nat_le, nat_lt, take, refl, sym, ◌∙◌, ap, subst, arith}
+use Rattle.std.specs.List.{All, dedup, list_any, prefix_len}
 use Rattle.std.specs.List.Sorted.{IsPermutation}
 use Rattle.std.proofs.lemmas.Bool.{cases_Bool, cond-false, cond-true, false_from_ne_true, false≢true, le-leb, leb-false, leb-true, lt-leb}
 use Rattle.std.proofs.lemmas.List.Elements.{All-weaker, filter_passes}
@@ -25,6 +25,35 @@ all_above n xs least = filter_of_all (λ m. nat_lt n m) xs (λ z h. le-leb (suc 
 
 pub all_from : (n : ℕ) (xs : List ℕ) → ((z : ℕ) → Has z xs → n ≤ z) → filter (λ m. nat_le n m) xs ≡ xs
 all_from n xs least = filter_of_all (λ m. nat_le n m) xs (λ z h. le-leb n z (least z h))
+
+-- of what rises those below n stand in front, and the others behind them
+module _ (n : ℕ) where
+  pub front_below : (xs : List ℕ) → Up xs → take (prefix_len (λ m. nat_lt m n) xs) xs ≡ filter (λ m. nat_lt m n) xs
+  front_below [] up = refl
+  front_below (x ∷ xs) up = by (nat_lt x n) refl (front_below xs up.1)
+    where
+      by : (b : Bool) → nat_lt x n ≡ b → take (prefix_len (λ m. nat_lt m n) xs) xs ≡ filter (λ m. nat_lt m n) xs
+          → take (cond b (1 + prefix_len (λ m. nat_lt m n) xs) 0) (x ∷ xs) ≡ cond b (x ∷ filter (λ m. nat_lt m n) xs) (filter (λ m. nat_lt m n) xs)
+      by true e rest =
+          let next : 1 + prefix_len (λ m. nat_lt m n) xs ≡ suc (prefix_len (λ m. nat_lt m n) xs) = omega arith in
+          ap (λ k. take k (x ∷ xs)) next ∙ ap (λ l. x ∷ l) rest
+      by false e rest = sym (none_below n xs (λ z h. omega (arith, leb-false (suc x) n e, up.0 z h)))
+
+  pub back_from : (xs : List ℕ) → Up xs → drop (prefix_len (λ m. nat_lt m n) xs) xs ≡ filter (λ m. nat_le n m) xs
+  back_from [] up = refl
+  back_from (x ∷ xs) up = by (nat_lt x n) refl (back_from xs up.1)
+    where
+      by : (b : Bool) → nat_lt x n ≡ b → drop (prefix_len (λ m. nat_lt m n) xs) xs ≡ filter (λ m. nat_le n m) xs
+          → drop (cond b (1 + prefix_len (λ m. nat_lt m n) xs) 0) (x ∷ xs) ≡ filter (λ m. nat_le n m) (x ∷ xs)
+      by true e rest =
+          let next : 1 + prefix_len (λ m. nat_lt m n) xs ≡ suc (prefix_len (λ m. nat_lt m n) xs) = omega arith in
+          ap (λ k. drop k (x ∷ xs)) next ∙ rest
+          ∙ sym (cond-false (nat_le n x) (x ∷ filter (λ m. nat_le n m) xs) (filter (λ m. nat_le n m) xs) (lt-leb n x (omega (arith, leb-true (suc x) n e))))
+      by false e rest = sym (all_from n (x ∷ xs) least)
+        where
+          least : (z : ℕ) → Has z (x ∷ xs) → n ≤ z
+          least z (inl same) = omega (arith, leb-false (suc x) n e, same)
+          least z (inr h) = omega (arith, leb-false (suc x) n e, up.0 z h)
 
 -- where the first of what rises is not below n, none is
 pub first_is_least : (n x : ℕ) (xs others : List ℕ) → xs ≡ x ∷ others → n ≤ x → Up xs → (z : ℕ) → Has z xs → n ≤ z

@@ -1,6 +1,6 @@
 //! What an older version found, corrected by the edits since.
 ghost use Rattle.std.specs.Prelude.{◌≡◌, ◌<◌, ◌≤◌, ◌+◌, ◌∷◌, [], ◌++◌, ◌↔◌, ℕ, None, false, if◌then◌else◌, filter, length, nat_le, nat_lt, IfOk, IfSome, OnOk};
-ghost use Rattle.std.specs.List.{All};
+ghost use Rattle.std.specs.List.{All, prefix_len};
 ghost use Rattle.std.specs.List.Sorted.{IsStrictlyIncreasing};
 ghost use Rattle.std.specs.Option.{option_map_or};
 ghost use Rattle.campaign_store.specs.Table.{campaign_at};
@@ -76,28 +76,26 @@ fn fix<L: Ledger>(
     ensures numbers { IfOk result (λ numbers. numbers ≡ fixed assignment.now found.now touched.now table.now.campaigns) }
     ensures cost { steps.new ≤ steps.old + fix_cost touched.now table.now.campaigns }
 {
-    let mut numbers = List::with_capacity(alloc, found.len() + touched.len())?;
+    let mut numbers = Vec::with_capacity(alloc, found.len() + touched.len())?;
     let mut rest = found;
     for number in touched {
         rest = fix_one(&mut numbers, rest, *number, table, assignment, steps)?;
     }
     push_all(&mut numbers, rest)?;
-    Ok(numbers)
+    Ok(List::from_vec(numbers))
 }
 
 // Appends these numbers.
-fn push_all(numbers: &mut List<u32>, more: &[u32]) -> Result<(), AllocError>
-    ensures { OnOk result (numbers.new ≡ numbers.old ++ more.now) }
+fn push_all(numbers: &mut Vec<u32>, more: &[u32]) -> Result<(), AllocError>
+    ensures { OnOk result (numbers.new.items ≡ numbers.old.items ++ more.now) }
 {
-    for number in more {
-        numbers.push(*number)?;
-    }
+    numbers.extend_from_slice(more)?;
     Ok(())
 }
 
 // Appends what was found below campaign `n`, and `n` where it is true now. It gives what was found above `n`.
 fn fix_one<'a, L: Ledger>(
-    numbers: &mut List<u32>,
+    numbers: &mut Vec<u32>,
     found: &'a [u32],
     n: u32,
     table: &Table,
@@ -105,7 +103,7 @@ fn fix_one<'a, L: Ledger>(
     steps: &mut Steps<L>,
 ) -> Result<&'a [u32], AllocError>
     requires { IsStrictlyIncreasing found.now }
-    ensures numbers { OnOk result (numbers.new ≡ numbers.old ++ (filter (λ m. nat_lt m n) found.now ++ (if option_map_or (is_true assignment.now) (campaign_at table.now.campaigns n) false then n ∷ [] else []))) }
+    ensures numbers { OnOk result (numbers.new.items ≡ numbers.old.items ++ (filter (λ m. nat_lt m n) found.now ++ (if option_map_or (is_true assignment.now) (campaign_at table.now.campaigns n) false then n ∷ [] else []))) }
     ensures above { IfOk result (λ rest. rest.now ≡ filter (λ m. nat_lt n m) found.now) }
     ensures cost { steps.new ≤ steps.old + option_map_or (λ c. length c.entry.expr) (campaign_at table.now.campaigns n) 0 }
 {
@@ -118,23 +116,24 @@ fn fix_one<'a, L: Ledger>(
 
 // Appends those below the number, and gives the others.
 fn push_below<'a>(
-    numbers: &mut List<u32>,
+    numbers: &mut Vec<u32>,
     found: &'a [u32],
     number: u32,
 ) -> Result<&'a [u32], AllocError>
     requires { IsStrictlyIncreasing found.now }
-    ensures below { OnOk result (numbers.new ≡ numbers.old ++ filter (λ n. nat_lt n number) found.now) }
+    ensures below { OnOk result (numbers.new.items ≡ numbers.old.items ++ filter (λ n. nat_lt n number) found.now) }
     ensures rest { IfOk result (λ rest. rest.now ≡ filter (λ n. nat_le number n) found.now) }
 {
-    let mut rest = found;
-    while let Some((first, others)) = rest.split_first() {
-        if *first >= number {
-            return Ok(rest);
-        }
-        numbers.push(*first)?;
-        rest = others;
-    }
+    let (below, rest) = found.split_at(count_below(found, number));
+    push_all(numbers, below)?;
     Ok(rest)
+}
+
+// How many of them, from the first on, are below the number.
+fn count_below(found: &[u32], number: u32) -> usize
+    ensures { result ≡ prefix_len (λ n. nat_lt n number) found.now }
+{
+    found.iter().take_while(|n| **n < number).count()
 }
 
 // The numbers but for this one, where it is the first.

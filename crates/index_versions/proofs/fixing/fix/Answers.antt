@@ -8,7 +8,7 @@ use Rattle.index_versions.proofs.fixing.fix.Goals as goal
 
 pub loop-number-init : goal.loop-number-init
 loop-number-init g c = record {
-  numbers = ap (λ l. l ++ merged (true_now c.args.assignment.now c.args.table.now.campaigns) c.args.found.now c.args.touched.now) c.in_ok-numbers.ensures;
+  numbers = ap (λ l. l ++ merged (true_now c.args.assignment.now c.args.table.now.campaigns) c.args.found.now c.args.touched.now) c.in_ok-numbers.ensures.items;
   rising = found_rises c.args.assignment.now c.args.found.now c.args.touched.now c.args.table.now.campaigns c.requires.before;
   cost = omega arith;
 }
@@ -19,11 +19,11 @@ loop-number-preserved g c =
     let i = c.loop-number.number-index in
     let t = get_or touched i 0 in
     let f = true_now c.args.assignment.now c.args.table.now.campaigns in
-    let numbers = c.loop-number.numbers in
+    let numbers = c.loop-number.numbers.items in
     let rest = c.loop-number.rest.now in
     record {
       numbers =
-          merged_step f touched numbers c.fix_one.new.numbers rest c.in_ok-rest.rest.now i c.loop-number-test.true c.in_ok-rest.ensures.numbers c.in_ok-rest.ensures.above
+          merged_step f touched numbers c.fix_one.new.numbers.items rest c.in_ok-rest.rest.now i c.loop-number-test.true c.in_ok-rest.ensures.numbers c.in_ok-rest.ensures.above
           ∙ c.loop-number.invariant.numbers;
       rising = subst IsStrictlyIncreasing (sym c.in_ok-rest.ensures.above) (IsStrictlyIncreasing-filter (λ m. nat_lt t m) rest c.loop-number.invariant.rising);
       cost = cost_step (cost_of c.args.table.now.campaigns) touched i c.loop-number.steps c.fix_one.new.steps _ c.loop-number-test.true c.fix_one.ensures.cost c.loop-number.invariant.cost;
@@ -50,7 +50,8 @@ returns-clause-numbers g c =
     let a = c.args.assignment.now in
     let touched = c.args.touched.now in
     let now = c.args.table.now.campaigns in
-    merged_end (true_now a now) touched c.loop-number.numbers c.push_all.new.numbers c.loop-number.rest.now c.loop-number.number-index c.loop-number-test.false c.in_ok-push_all.ensures
+    c.from_vec.ensures
+    ∙ merged_end (true_now a now) touched c.loop-number.numbers.items c.push_all.new.numbers.items c.loop-number.rest.now c.loop-number.number-index c.loop-number-test.false c.in_ok-push_all.ensures
     ∙ c.loop-number.invariant.numbers ∙ merged_is_fixed a c.args.found.now touched now c.requires.before c.requires.touched
 
 pub returns-clause-cost : goal.returns-clause-cost
