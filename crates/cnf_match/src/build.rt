@@ -9,14 +9,14 @@ use crate::MOST_CLAUSES;
 use crate::expr::CnfExpr;
 use crate::growing::Growing;
 use crate::index::{CnfIndex, Entry, Key};
+use crate::pred::Pred;
 use indexmap::IndexMap;
 use rtb_num::List;
 use std::alloc::{AllocError, Global};
-use target_expr::Pred;
 
 impl CnfIndex {
     /// The index of these expressions, at most 4,096. It keeps none of them.
-    pub fn build(alloc: Global, exprs: &List<CnfExpr>) -> Result<CnfIndex, AllocError>
+    pub fn build(alloc: Global, exprs: &List<CnfExpr<'_>>) -> Result<CnfIndex, AllocError>
         requires { length exprs.now ≤ 4096 }
         ensures { IfOk result (IsIndexOf exprs.now) }
     {
@@ -48,7 +48,7 @@ fn made(
 }
 
 // The places of the expressions each clause of which has a negated predicate.
-fn zero_list(alloc: Global, exprs: &[CnfExpr]) -> Result<List<u32>, AllocError>
+fn zero_list(alloc: Global, exprs: &[CnfExpr<'_>]) -> Result<List<u32>, AllocError>
     requires { length exprs.now ≤ 4096 }
     ensures { IfOk result (λ zeros. zeros ≡ zero_list exprs.now) }
 {
@@ -62,20 +62,20 @@ fn zero_list(alloc: Global, exprs: &[CnfExpr]) -> Result<List<u32>, AllocError>
 }
 
 // Whether each clause has a negated predicate.
-fn needs_none(clauses: &[List<Pred>]) -> bool
+fn needs_none(clauses: &[List<Pred<'_>>]) -> bool
     ensures { result ≡ list_all (list_any (λ p. p.negated)) clauses.now }
 {
     clauses.iter().all(|clause| has_negated(clause.as_slice()))
 }
 
-fn has_negated(clause: &[Pred]) -> bool
+fn has_negated(clause: &[Pred<'_>]) -> bool
     ensures { result ≡ list_any (λ p. p.negated) clause.now }
 {
-    clause.iter().any(|pred| pred.negated)
+    clause.iter().any(|pred| pred.is_negated())
 }
 
 // How many predicates of each clause are negated, sixteen places an expression.
-fn all_negated(alloc: Global, exprs: &[CnfExpr]) -> Result<List<u8>, AllocError>
+fn all_negated(alloc: Global, exprs: &[CnfExpr<'_>]) -> Result<List<u8>, AllocError>
     ensures negated { IfOk result (λ negated. negated ≡ all_negated exprs.now) }
     ensures kept { IfOk result (λ _. AreKept exprs.now) }
 {
@@ -87,7 +87,7 @@ fn all_negated(alloc: Global, exprs: &[CnfExpr]) -> Result<List<u8>, AllocError>
 }
 
 // Appends how many predicates of each clause are negated, and then 1 up to the sixteenth place.
-fn push_negated(all: &mut List<u8>, clauses: &[List<Pred>]) -> Result<(), AllocError>
+fn push_negated(all: &mut List<u8>, clauses: &[List<Pred<'_>>]) -> Result<(), AllocError>
     requires { IsTrue (are_kept_clauses clauses.now) }
     ensures { OnOk result (all.new ≡ all.old ++ take 16 (map negated_in clauses.now ++ replicate 16 1)) }
 {
@@ -96,7 +96,7 @@ fn push_negated(all: &mut List<u8>, clauses: &[List<Pred>]) -> Result<(), AllocE
     Ok(())
 }
 
-fn push_counts(all: &mut List<u8>, clauses: &[List<Pred>]) -> Result<(), AllocError>
+fn push_counts(all: &mut List<u8>, clauses: &[List<Pred<'_>>]) -> Result<(), AllocError>
     requires { IsTrue (are_kept_clauses clauses.now) }
     ensures { OnOk result (all.new ≡ all.old ++ map negated_in clauses.now) }
 {
@@ -107,13 +107,13 @@ fn push_counts(all: &mut List<u8>, clauses: &[List<Pred>]) -> Result<(), AllocEr
 }
 
 // How many predicates of the clause are negated.
-fn negated_in(clause: &[Pred]) -> u8
+fn negated_in(clause: &[Pred<'_>]) -> u8
     requires { IsTrue (is_kept_clause clause.now) }
     ensures { result ≡ negated_in clause.now }
 {
     let mut count = 0;
     for pred in clause {
-        if pred.negated {
+        if pred.is_negated() {
             count += 1;
         }
     }
@@ -130,7 +130,7 @@ fn push_ones(all: &mut List<u8>, times: usize) -> Result<(), AllocError>
 }
 
 // The lists of the keys that the expressions name.
-fn grow(alloc: Global, exprs: &[CnfExpr]) -> Result<Growing, AllocError>
+fn grow(alloc: Global, exprs: &[CnfExpr<'_>]) -> Result<Growing, AllocError>
     requires { length exprs.now ≤ 4096 }
     ensures { IfOk result (IsGrown (pairs_of exprs.now)) }
 {
@@ -140,12 +140,12 @@ fn grow(alloc: Global, exprs: &[CnfExpr]) -> Result<Growing, AllocError>
 }
 
 // Enters the predicates of each expression.
-fn enter_all(alloc: Global, growing: &mut Growing, exprs: &[CnfExpr]) -> Result<(), AllocError>
+fn enter_all(alloc: Global, growing: &mut Growing, exprs: &[CnfExpr<'_>]) -> Result<(), AllocError>
     requires few { length exprs.now ≤ 4096 }
     ensures { OnOk result (Enters (pairs_of exprs.now) growing.old growing.new) }
 {
     for (n, expr) in exprs.iter().enumerate() {
-        enter_expression(alloc, growing, n as u32, expr.clauses())?;
+        enter_expression(alloc, growing, n as u16, expr.clauses())?;
     }
     Ok(())
 }
@@ -154,14 +154,14 @@ fn enter_all(alloc: Global, growing: &mut Growing, exprs: &[CnfExpr]) -> Result<
 fn enter_expression(
     alloc: Global,
     growing: &mut Growing,
-    n: u32,
-    clauses: &[List<Pred>],
+    n: u16,
+    clauses: &[List<Pred<'_>>],
 ) -> Result<(), AllocError>
     requires { length clauses.now ≤ 16 }
     ensures { OnOk result (Enters (clauses_pairs n clauses.now) growing.old growing.new) }
 {
     for (i, clause) in clauses.iter().enumerate() {
-        enter_clause(alloc, growing, n, i as u32, clause.as_slice())?;
+        enter_clause(alloc, growing, n, i as u8, clause.as_slice())?;
     }
     Ok(())
 }
@@ -170,9 +170,9 @@ fn enter_expression(
 fn enter_clause(
     alloc: Global,
     growing: &mut Growing,
-    n: u32,
-    i: u32,
-    clause: &[Pred],
+    n: u16,
+    i: u8,
+    clause: &[Pred<'_>],
 ) -> Result<(), AllocError>
     ensures { OnOk result (Enters (clause_pairs n (i, clause.now)) growing.old growing.new) }
 {
@@ -186,19 +186,20 @@ fn enter_clause(
 fn enter_pred(
     alloc: Global,
     growing: &mut Growing,
-    n: u32,
-    i: u32,
-    pred: &Pred,
+    n: u16,
+    i: u8,
+    pred: &Pred<'_>,
 ) -> Result<(), AllocError>
     ensures { OnOk result (Enters (pred_pairs n i pred.now) growing.old growing.new) }
 {
-    for value in pred.values.as_slice() {
+    let values = pred.values();
+    for place in 0..values.len() {
         let entry = Entry {
             expression: n,
             clause: i,
-            negated: pred.negated,
+            negated: pred.is_negated(),
         };
-        growing.enter(alloc, pred.attr, value, entry)?;
+        growing.enter(alloc, pred.attr(), values.get(place), entry)?;
     }
     Ok(())
 }

@@ -6,14 +6,17 @@ ghost use Rattle.target_expr.specs.Kept.{is_too_much};
 ghost use Rattle.cnf_match.specs.Making.{clause_faults, clauses_faults, end_of, faults, first_of, is_refused, is_wrong, mark_of, pred_faults, same_pair, weight_faults};
 
 use crate::fault::CnfFault;
-use crate::names::attr_of;
+use crate::name_view::NameView;
+use crate::names::are_same;
+use crate::pred::RawPred;
+use crate::values::Listed;
 use crate::weight::RawWeight;
 use crate::{GREATEST_WEIGHT, MOST_CLAUSES, MOST_WEIGHTS};
-use rtb_num::{List, Txt};
-use target_expr::{LONGEST_VALUE, MOST_PREDICATES, MOST_VALUES, RawPred};
+use rtb_num::List;
+use target_expr::{LONGEST_VALUE, MOST_PREDICATES, MOST_VALUES};
 
 // The first fault, in the order of reading.
-pub(crate) fn first_fault(raw: &[List<RawPred>], weights: &[RawWeight]) -> Option<CnfFault>
+pub(crate) fn first_fault(raw: &[List<RawPred<'_>>], weights: &[RawWeight<'_>]) -> Option<CnfFault>
     ensures { result ≡ first_of (faults raw.now weights.now) }
 {
     let fault = clauses_fault(raw);
@@ -24,7 +27,7 @@ pub(crate) fn first_fault(raw: &[List<RawPred>], weights: &[RawWeight]) -> Optio
 }
 
 // The first fault of the clauses.
-fn clauses_fault(raw: &[List<RawPred>]) -> Option<CnfFault>
+fn clauses_fault(raw: &[List<RawPred<'_>>]) -> Option<CnfFault>
     ensures { result ≡ first_of (clauses_faults raw.now) }
 {
     if raw.len() > MOST_CLAUSES {
@@ -43,7 +46,7 @@ fn clauses_fault(raw: &[List<RawPred>]) -> Option<CnfFault>
 }
 
 // The first fault of the clause at place `i`.
-fn clause_fault(i: usize, clause: &[RawPred]) -> Option<CnfFault>
+fn clause_fault(i: usize, clause: &[RawPred<'_>]) -> Option<CnfFault>
     ensures { result ≡ first_of (clause_faults (i, clause.now)) }
 {
     if clause.is_empty() {
@@ -66,10 +69,10 @@ fn clause_fault(i: usize, clause: &[RawPred]) -> Option<CnfFault>
 
 // The first fault of the predicate, at these places.
 #[tactic(auto, using(crate::proofs::Faults::three_faults))]
-fn pred_fault(i: usize, j: usize, pred: &RawPred) -> Option<CnfFault>
+fn pred_fault(i: usize, j: usize, pred: &RawPred<'_>) -> Option<CnfFault>
     ensures { result ≡ first_of (pred_faults i (j, pred.now)) }
 {
-    if is_unknown(&pred.attr) {
+    if is_unknown(pred.name()) {
         return Some(CnfFault::UnknownAttr {
             clause: i,
             predicate: j,
@@ -91,7 +94,7 @@ fn pred_fault(i: usize, j: usize, pred: &RawPred) -> Option<CnfFault>
 }
 
 // The first fault of the weights. Two of one pair have the same mark, so mostly no earlier one has to be looked at.
-fn weights_fault(weights: &[RawWeight]) -> Option<CnfFault>
+fn weights_fault(weights: &[RawWeight<'_>]) -> Option<CnfFault>
     ensures { result ≡ first_of (weight_faults weights.now) }
 {
     let mut seen = [false; MARKS];
@@ -108,7 +111,7 @@ fn weights_fault(weights: &[RawWeight]) -> Option<CnfFault>
 const MARKS: usize = 64;
 
 // The weight's mark, below 64.
-fn mark_of(weight: &RawWeight) -> usize
+fn mark_of(weight: &RawWeight<'_>) -> usize
     ensures value { result ≡ mark_of weight.now }
     ensures small { result < 64 }
 {
@@ -118,7 +121,7 @@ fn mark_of(weight: &RawWeight) -> usize
 }
 
 // Whether behind these the weight is one too many, or refused, or of a pair that was weighed before.
-fn is_wrong(earlier: &[RawWeight], weight: &RawWeight, seen: bool) -> bool
+fn is_wrong(earlier: &[RawWeight<'_>], weight: &RawWeight<'_>, seen: bool) -> bool
     requires { seen ≡ false → list_any (λ v. same_pair v weight.now) earlier.now ≡ false }
     ensures { result ≡ is_wrong earlier.now weight.now }
 {
@@ -127,7 +130,7 @@ fn is_wrong(earlier: &[RawWeight], weight: &RawWeight, seen: bool) -> bool
 
 // Whether one of the earlier weights is of the same pair, which only one whose mark was seen can be.
 #[tactic(auto, using(crate::proofs::Seen::where_seen))]
-fn is_twice(earlier: &[RawWeight], weight: &RawWeight, seen: bool) -> bool
+fn is_twice(earlier: &[RawWeight<'_>], weight: &RawWeight<'_>, seen: bool) -> bool
     requires { seen ≡ false → list_any (λ v. same_pair v weight.now) earlier.now ≡ false }
     ensures { result ≡ list_any (λ v. same_pair v weight.now) earlier.now }
 {
@@ -135,14 +138,14 @@ fn is_twice(earlier: &[RawWeight], weight: &RawWeight, seen: bool) -> bool
 }
 
 // Whether it names no attribute, or its value is too long, or it is too great.
-fn is_refused(weight: &RawWeight) -> bool
+fn is_refused(weight: &RawWeight<'_>) -> bool
     ensures { result ≡ is_refused weight.now }
 {
-    is_unknown(&weight.attr) || is_long(&weight.value) || weight.weight > GREATEST_WEIGHT
+    is_unknown(&weight.attr) || is_long(weight.value.as_bytes()) || weight.weight > GREATEST_WEIGHT
 }
 
 // Whether one of the earlier weights is of the same pair.
-fn stands_in(earlier: &[RawWeight], weight: &RawWeight) -> bool
+fn stands_in(earlier: &[RawWeight<'_>], weight: &RawWeight<'_>) -> bool
     ensures { result ≡ list_any (λ v. same_pair v weight.now) earlier.now }
 {
     earlier.iter().any(|other| is_of_pair(other, weight))
@@ -150,12 +153,12 @@ fn stands_in(earlier: &[RawWeight], weight: &RawWeight) -> bool
 
 // The ends of the values are looked at first: mostly they tell.
 #[tactic(auto, using(crate::proofs::Naming::ends_first))]
-fn is_of_pair(other: &RawWeight, weight: &RawWeight) -> bool
+fn is_of_pair(other: &RawWeight<'_>, weight: &RawWeight<'_>) -> bool
     ensures { result ≡ same_pair other.now weight.now }
 {
     end_of(other.value.as_bytes()) == end_of(weight.value.as_bytes())
-        && other.attr == weight.attr
-        && other.value == weight.value
+        && are_same(other.attr.as_bytes(), weight.attr.as_bytes())
+        && are_same(other.value.as_bytes(), weight.value.as_bytes())
 }
 
 // The last byte, or 0 where there is none.
@@ -170,34 +173,40 @@ fn end_of(text: &[u8]) -> u8
 }
 
 // Whether no attribute has the name.
-fn is_unknown(name: &Txt) -> bool
+fn is_unknown(name: &NameView<'_>) -> bool
     ensures { result ≡ is_none (attr_named name.now) }
 {
-    attr_of(name.as_bytes()).is_none()
+    name.attr().is_none()
 }
 
 // Whether it lists no value.
-fn has_no_values(pred: &RawPred) -> bool
+fn has_no_values(pred: &RawPred<'_>) -> bool
     ensures { result ≡ (length pred.now.values == 0) }
 {
-    pred.values.len() == 0
+    pred.values().len() == 0
 }
 
 // Whether it has too many values, or one that is too long.
-fn is_too_much(pred: &RawPred) -> bool
+fn is_too_much(pred: &RawPred<'_>) -> bool
     ensures { result ≡ is_too_much pred.now }
 {
-    pred.values.len() > MOST_VALUES || has_long(pred.values.as_slice())
+    pred.values().len() > MOST_VALUES || has_long(pred.values())
 }
 
 // Whether a value is too long.
-fn has_long(values: &[Txt]) -> bool
+#[tactic(auto, using(crate::proofs::Lists::none_passes_more))]
+fn has_long(values: &Listed<'_>) -> bool
     ensures { result ≡ list_any (λ v. nat_lt 255 (length v)) values.now }
 {
-    values.iter().any(|value| is_long(value))
+    for place in 0..values.len() {
+        if is_long(values.get(place)) {
+            return true;
+        }
+    }
+    false
 }
 
-fn is_long(value: &Txt) -> bool
+fn is_long(value: &[u8]) -> bool
     ensures { result ≡ nat_lt 255 (length value.now) }
 {
     value.len() > LONGEST_VALUE

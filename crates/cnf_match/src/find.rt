@@ -111,7 +111,7 @@ fn mark_list<L: Ledger>(left: &mut [u8], list: &[Entry], steps: &mut Steps<L>)
 fn mark(left: &mut [u8], entry: Entry)
     ensures { left.new ≡ mark left.old entry }
 {
-    let place = entry.expression as usize * MOST_CLAUSES + entry.clause as usize;
+    let place = usize::from(entry.expression) * MOST_CLAUSES + usize::from(entry.clause);
     if place < left.len() {
         left[place] = marked(entry.negated, left[place]);
     }
@@ -158,7 +158,7 @@ fn push_listed<L: Ledger>(
 {
     for entry in list {
         steps.tick();
-        push_some(numbers, number_left(left, entry.expression))?;
+        push_some(numbers, number_left(left, entry.expression as u32))?;
     }
     Ok(())
 }

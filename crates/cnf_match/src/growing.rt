@@ -40,23 +40,39 @@ impl Growing {
     }
 
     // Appends the entry to the list of the attribute and the value.
+    #[inline(always)]
     pub(crate) fn enter(
         &mut self,
         alloc: Global,
         attr: Attr,
-        value: &Txt,
+        value: &[u8],
         entry: Entry,
     ) -> Result<(), AllocError>
         ensures { OnOk result (Enters ((record { attr = attr; value = value.now }, entry) ∷ []) self.old self.new) }
     {
-        let seat = seat_of(attr, value.as_bytes());
+        let seat = seat_of(attr, value);
         let likely = place_in(self.seats.as_slice(), seat);
         if is_at(&self.keys, likely, attr, value) {
             return put(alloc, &mut self.lists, likely, entry);
         }
+        self.look_up(alloc, seat, attr, value, entry)
+    }
+
+    // The same where another key had the seat, or none.
+    #[cold]
+    fn look_up(
+        &mut self,
+        alloc: Global,
+        seat: usize,
+        attr: Attr,
+        value: &[u8],
+        entry: Entry,
+    ) -> Result<(), AllocError>
+        ensures { OnOk result (Enters ((record { attr = attr; value = value.now }, entry) ∷ []) self.old self.new) }
+    {
         let key = Key {
             attr,
-            value: value.copy()?,
+            value: Txt::from_slice(alloc, value)?,
         };
         let place = added(&mut self.keys, key)?;
         seat_at(&mut self.seats, seat, place);
@@ -65,6 +81,7 @@ impl Growing {
 }
 
 // The seat of an attribute and a value. Any would do: one that few share serves best.
+#[inline(always)]
 fn seat_of(attr: Attr, value: &[u8]) -> usize {
     let sum = value
         .iter()
@@ -72,10 +89,12 @@ fn seat_of(attr: Attr, value: &[u8]) -> usize {
     sum % SEATS
 }
 
+#[inline(always)]
 fn mixed(sum: usize, byte: u8) -> usize {
     sum.wrapping_mul(31).wrapping_add(usize::from(byte))
 }
 
+#[inline(always)]
 fn place_in(seats: &[usize], seat: usize) -> usize {
     seats.get(seat).copied().unwrap_or(0)
 }
@@ -87,7 +106,8 @@ fn seat_at(seats: &mut [usize], seat: usize, place: usize) {
 }
 
 // Whether the key at the place is of this attribute and this value.
-fn is_at(map: &IndexMap<Key, ()>, place: usize, attr: Attr, value: &Txt) -> bool
+#[inline(always)]
+fn is_at(map: &IndexMap<Key, ()>, place: usize, attr: Attr, value: &[u8]) -> bool
     ensures { IsTrue result → slice_get (keys map.now) place ≡ Some (record { attr = attr; value = value.now }) }
 {
     match map.get_index(place) {
@@ -96,10 +116,11 @@ fn is_at(map: &IndexMap<Key, ()>, place: usize, attr: Attr, value: &Txt) -> bool
     }
 }
 
-fn is_of(key: &Key, attr: Attr, value: &Txt) -> bool
+#[inline(always)]
+fn is_of(key: &Key, attr: Attr, value: &[u8]) -> bool
     ensures { result ≡ same_key key.now (record { attr = attr; value = value.now }) }
 {
-    key.attr.number() == attr.number() && are_same(key.value.as_bytes(), value.as_bytes())
+    key.attr.number() == attr.number() && are_same(key.value.as_bytes(), value)
 }
 
 // The place of the key, which is added where it is new.
@@ -113,6 +134,7 @@ fn added(map: &mut IndexMap<Key, ()>, key: Key) -> Result<usize, AllocError>
 }
 
 // Appends the entry to the list at the place, or begins a list with it past the end.
+#[inline(always)]
 fn put(
     alloc: Global,
     lists: &mut Vec<Vec<Entry>>,

@@ -14,9 +14,9 @@ pub struct Key {
 #[derive(Clone, Copy, Drop)]
 pub struct Entry {
     /// The place of its expression, counted from 0.
-    pub expression: u32,
+    pub expression: u16,
     /// The place of its clause in the expression, counted from 0.
-    pub clause: u32,
+    pub clause: u8,
     /// Whether it asks that the value is none of the listed ones.
     pub negated: bool,
 }

@@ -14,14 +14,22 @@ mod find;
 mod growing;
 mod index;
 mod make;
+mod name_view;
 mod names;
+mod pred;
 mod rising;
+mod text_view;
 mod truth;
+mod values;
 mod weight;
 
 pub use expr::CnfExpr;
 pub use fault::CnfFault;
 pub use index::{CnfIndex, Entry, Key};
+pub use name_view::NameView;
+pub use pred::{Pred, RawPred};
+pub use text_view::TextView;
+pub use values::Listed;
 pub use weight::{RawWeight, Weight};
 
 /// The most clauses of an expression.

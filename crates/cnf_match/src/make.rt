@@ -1,20 +1,18 @@
 //! An expression in conjunctive form made of what is written, with everything in order and once.
 ghost use Rattle.std.specs.Prelude.{◌≡◌, [], ◌∷◌, ◌++◌, map, IfOk, IfErr, OnOk};
 ghost use Rattle.std.specs.List.{filter_map};
-ghost use Rattle.target_expr.specs.Kept.{keep_pred};
 ghost use Rattle.cnf_match.specs.Making.{IsFirstUnlessMemory, both_of, faults, keep, keep_clause, kept_pred, kept_weight};
 
 use crate::check::first_fault;
 use crate::expr::CnfExpr;
 use crate::fault::CnfFault;
-use crate::names::attr_of;
-use crate::rising::do_rise;
+use crate::pred::{Pred, RawPred};
 use crate::weight::{RawWeight, Weight};
 use rtb_num::List;
 use std::alloc::{AllocError, Global};
-use target_expr::{Attr, Pred, RawPred, keep_pred};
+use target_expr::Attr;
 
-impl CnfExpr {
+impl<'a> CnfExpr<'a> {
     /// The expression of these clauses and weights, in their order. The values of a predicate are kept in byte order,
     /// each once, in the memory that they are in.
     ///
@@ -23,12 +21,12 @@ impl CnfExpr {
     /// No clause at all is no fault: such an expression is true.
     pub fn make(
         alloc: Global,
-        raw: List<List<RawPred>>,
-        weights: List<RawWeight>,
-    ) -> Result<CnfExpr, CnfFault>
-        ensures right { IfOk result (λ _. faults raw weights ≡ []) }
-        ensures value { IfOk result (λ e. e ≡ keep raw weights) }
-        ensures fault { IfErr result (IsFirstUnlessMemory (faults raw weights)) }
+        raw: List<List<RawPred<'a>>>,
+        weights: List<RawWeight<'a>>,
+    ) -> Result<CnfExpr<'a>, CnfFault>
+        ensures right { IfOk result (λ _. faults raw.entry weights.entry ≡ []) }
+        ensures value { IfOk result (λ e. e ≡ keep raw.entry weights.entry) }
+        ensures fault { IfErr result (IsFirstUnlessMemory (faults raw.entry weights.entry)) }
     {
         match first_fault(raw.as_slice(), weights.as_slice()) {
             Some(fault) => {
@@ -64,8 +62,11 @@ fn both<A: Drop, B: Drop>(
 }
 
 // The clauses as they are kept.
-fn keep_clauses(alloc: Global, raw: List<List<RawPred>>) -> Result<Vec<List<Pred>>, AllocError>
-    ensures { IfOk result (λ all. all.items ≡ map keep_clause raw) }
+fn keep_clauses<'a>(
+    alloc: Global,
+    raw: List<List<RawPred<'a>>>,
+) -> Result<Vec<List<Pred<'a>>>, AllocError>
+    ensures { IfOk result (λ all. all.items ≡ map keep_clause raw.entry) }
 {
     let mut all = Vec::with_capacity(alloc, raw.len())?;
     for clause in raw.into_vec() {
@@ -76,22 +77,26 @@ fn keep_clauses(alloc: Global, raw: List<List<RawPred>>) -> Result<Vec<List<Pred
 
 // The predicates of a clause that have an attribute.
 #[tactic(auto, using(crate::proofs::Lists::given_one_more))]
-fn keep_clause(alloc: Global, clause: List<RawPred>) -> Result<List<Pred>, AllocError>
-    ensures { IfOk result (λ preds. preds ≡ keep_clause clause) }
+fn keep_clause<'a>(alloc: Global, clause: List<RawPred<'a>>) -> Result<List<Pred<'a>>, AllocError>
+    ensures { IfOk result (λ preds. preds ≡ keep_clause clause.entry) }
 {
     let mut preds = List::with_capacity(alloc, clause.len())?;
     for pred in clause.into_vec() {
-        push_kept(pred, &mut preds)?;
+        push_kept(alloc, pred, &mut preds)?;
     }
     Ok(preds)
 }
 
 // Appends the predicate, where it has an attribute.
-fn push_kept(pred: RawPred, preds: &mut List<Pred>) -> Result<(), AllocError>
-    ensures { OnOk result (preds.new ≡ preds.old ++ filter_map kept_pred (pred ∷ [])) }
+fn push_kept<'a>(
+    alloc: Global,
+    pred: RawPred<'a>,
+    preds: &mut List<Pred<'a>>,
+) -> Result<(), AllocError>
+    ensures { OnOk result (preds.new ≡ preds.old ++ filter_map kept_pred (pred.entry ∷ [])) }
 {
-    match attr_of(pred.attr.as_bytes()) {
-        Some(attr) => preds.push(pred_of(attr, pred)),
+    match pred.name().attr() {
+        Some(attr) => preds.push(pred.kept(alloc, attr)?),
         None => {
             drop(pred);
             Ok(())
@@ -99,38 +104,13 @@ fn push_kept(pred: RawPred, preds: &mut List<Pred>) -> Result<(), AllocError>
     }
 }
 
-// The predicate of that attribute. Mostly its values are written in byte order, and stay as they are.
-#[tactic(auto, using(target_expr::proofs::ByteOrder::risen_in_order))]
-fn pred_of(attr: Attr, pred: RawPred) -> Pred
-    ensures { result ≡ keep_pred attr pred }
-{
-    if do_rise(pred.values.as_slice()) {
-        as_written(attr, pred)
-    } else {
-        keep_pred(attr, pred)
-    }
-}
-
-fn as_written(attr: Attr, pred: RawPred) -> Pred
-    ensures { result ≡ record { attr = attr; negated = pred.negated; values = pred.values } }
-{
-    let RawPred {
-        attr: name,
-        negated,
-        values,
-    } = pred;
-    drop(name);
-    Pred {
-        attr,
-        negated,
-        values,
-    }
-}
-
 // The weights that have an attribute.
 #[tactic(auto, using(crate::proofs::Lists::given_one_more))]
-fn keep_weights(alloc: Global, weights: List<RawWeight>) -> Result<List<Weight>, AllocError>
-    ensures { IfOk result (λ kept. kept ≡ filter_map kept_weight weights) }
+fn keep_weights<'a>(
+    alloc: Global,
+    weights: List<RawWeight<'a>>,
+) -> Result<List<Weight<'a>>, AllocError>
+    ensures { IfOk result (λ kept. kept ≡ filter_map kept_weight weights.entry) }
 {
     let mut kept = List::with_capacity(alloc, weights.len())?;
     for weight in weights.into_vec() {
@@ -140,10 +120,10 @@ fn keep_weights(alloc: Global, weights: List<RawWeight>) -> Result<List<Weight>,
 }
 
 // Appends the weight, where it has an attribute.
-fn push_weight(weight: RawWeight, kept: &mut List<Weight>) -> Result<(), AllocError>
-    ensures { OnOk result (kept.new ≡ kept.old ++ filter_map kept_weight (weight ∷ [])) }
+fn push_weight<'a>(weight: RawWeight<'a>, kept: &mut List<Weight<'a>>) -> Result<(), AllocError>
+    ensures { OnOk result (kept.new ≡ kept.old ++ filter_map kept_weight (weight.entry ∷ [])) }
 {
-    match attr_of(weight.attr.as_bytes()) {
+    match weight.attr.attr() {
         Some(attr) => kept.push(keep_weight(attr, weight)),
         None => {
             drop(weight);
@@ -153,8 +133,8 @@ fn push_weight(weight: RawWeight, kept: &mut List<Weight>) -> Result<(), AllocEr
 }
 
 // The weight of that attribute.
-fn keep_weight(attr: Attr, weight: RawWeight) -> Weight
-    ensures { result ≡ record { attr = attr; value = weight.value; weight = weight.weight } }
+fn keep_weight<'a>(attr: Attr, weight: RawWeight<'a>) -> Weight<'a>
+    ensures { result ≡ record { attr = attr; value = weight.entry.value; weight = weight.entry.weight } }
 {
     let RawWeight {
         attr: name,
@@ -164,7 +144,7 @@ fn keep_weight(attr: Attr, weight: RawWeight) -> Weight
     drop(name);
     Weight {
         attr,
-        value,
         weight,
+        value,
     }
 }

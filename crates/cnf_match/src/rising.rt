@@ -1,29 +1,9 @@
-//! Whether values are in byte order already.
+//! Which of two texts is below the other in byte order.
 ghost use Rattle.std.specs.Prelude.{◌≡◌};
-ghost use Rattle.target_expr.specs.Kept.{rise, text_below};
-
-use rtb_num::Txt;
-
-// Whether each is below the next.
-pub(crate) fn do_rise(values: &[Txt]) -> bool
-    ensures { result ≡ rise text_below values.now }
-{
-    for i in 1..values.len() {
-        if !text_below(&values[i - 1], &values[i]) {
-            return false;
-        }
-    }
-    true
-}
-
-fn text_below(a: &Txt, b: &Txt) -> bool
-    ensures { result ≡ text_below a.now b.now }
-{
-    is_below(a.as_bytes(), b.as_bytes())
-}
+ghost use Rattle.target_expr.specs.Kept.{text_below};
 
 // The first bytes that differ tell, or else the lengths. Of a few bytes it is quickest to compare one after the other.
-fn is_below(a: &[u8], b: &[u8]) -> bool
+pub(crate) fn is_below(a: &[u8], b: &[u8]) -> bool
     ensures { result ≡ text_below a.now b.now }
 {
     for i in 0..a.len().min(b.len()) {

@@ -1,20 +1,21 @@
 //! What a value of an attribute weighs.
-use rtb_num::Txt;
+use crate::name_view::NameView;
+use crate::text_view::TextView;
 use target_expr::Attr;
 
 /// What a value of an attribute weighs, as it is written.
 #[derive(Drop)]
-pub struct RawWeight {
+pub struct RawWeight<'a> {
     /// The attribute's name.
-    pub attr: Txt,
-    pub value: Txt,
+    pub attr: NameView<'a>,
+    pub value: TextView<'a>,
     pub weight: u32,
 }
 
 /// What a value of an attribute weighs: up to 1,000,000.
 #[derive(Drop)]
-pub struct Weight {
+pub struct Weight<'a> {
     pub attr: Attr,
-    pub value: Txt,
     pub weight: u32,
+    pub value: TextView<'a>,
 }

@@ -18,7 +18,7 @@ use target_expr::Assignment;
 /// all where there are fewer. `found` has the numbers of those that are true, as `CnfIndex::find` gives them.
 pub fn top(
     alloc: Global,
-    exprs: &List<CnfExpr>,
+    exprs: &List<CnfExpr<'_>>,
     found: &List<u32>,
     assignment: &Assignment,
     n: u32,
@@ -35,7 +35,7 @@ pub fn top(
 // The ranks of the expressions that are found.
 fn ranks_of(
     alloc: Global,
-    exprs: &[CnfExpr],
+    exprs: &[CnfExpr<'_>],
     found: &[u32],
     assignment: &Assignment,
 ) -> Result<Vec<Rank>, AllocError>
@@ -49,7 +49,7 @@ fn ranks_of(
 }
 
 // The rank of the expression with the number.
-fn rank_at(exprs: &[CnfExpr], number: u32, assignment: &Assignment) -> Option<Rank>
+fn rank_at(exprs: &[CnfExpr<'_>], number: u32, assignment: &Assignment) -> Option<Rank>
     ensures { option_map scored_of result ≡ scored_at exprs.now assignment.now number }
 {
     let expr = expr_at(exprs, number)?;
@@ -60,7 +60,7 @@ fn rank_at(exprs: &[CnfExpr], number: u32, assignment: &Assignment) -> Option<Ra
 }
 
 // The expression with the number, counted from 1.
-pub(crate) fn expr_at(exprs: &[CnfExpr], number: u32) -> Option<&CnfExpr>
+pub(crate) fn expr_at<'a, 'b>(exprs: &'b [CnfExpr<'a>], number: u32) -> Option<&'b CnfExpr<'a>>
     ensures { option_copied result ≡ item_at exprs.now number }
 {
     if number == 0 {

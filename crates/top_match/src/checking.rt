@@ -18,7 +18,7 @@ use target_expr::Assignment;
 /// Whether these are the best `n` of the expressions that are true under the assignment, in order, and the marks those
 /// of all expressions. It looks at each expression, each mark and each chosen one once, and searches for nothing.
 pub fn check(
-    exprs: &List<CnfExpr>,
+    exprs: &List<CnfExpr<'_>>,
     assignment: &Assignment,
     n: u32,
     chosen: &List<Scored>,
@@ -36,7 +36,7 @@ pub fn check(
 }
 
 fn is_certified(
-    exprs: &[CnfExpr],
+    exprs: &[CnfExpr<'_>],
     assignment: &Assignment,
     n: usize,
     chosen: &[Scored],
@@ -72,7 +72,12 @@ fn is_before(one: Scored, other: Scored) -> bool
 }
 
 // Whether each chosen one is marked so, and has the score of its expression.
-fn are_shown(exprs: &[CnfExpr], assignment: &Assignment, chosen: &[Scored], marks: &[Mark]) -> bool
+fn are_shown(
+    exprs: &[CnfExpr<'_>],
+    assignment: &Assignment,
+    chosen: &[Scored],
+    marks: &[Mark],
+) -> bool
     ensures { result ≡ list_all (is_shown exprs.now assignment.now marks.now) chosen.now }
 {
     chosen
@@ -80,7 +85,7 @@ fn are_shown(exprs: &[CnfExpr], assignment: &Assignment, chosen: &[Scored], mark
         .all(|scored| is_shown(exprs, assignment, marks, scored))
 }
 
-fn is_shown(exprs: &[CnfExpr], assignment: &Assignment, marks: &[Mark], scored: &Scored) -> bool
+fn is_shown(exprs: &[CnfExpr<'_>], assignment: &Assignment, marks: &[Mark], scored: &Scored) -> bool
     ensures { result ≡ is_shown exprs.now assignment.now marks.now scored.now }
 {
     is_marked(marks, scored.number) && is_scored(exprs, assignment, scored)
@@ -109,7 +114,7 @@ fn says_chosen(mark: Mark) -> bool
 }
 
 // Whether there is such an expression, and its score is this.
-fn is_scored(exprs: &[CnfExpr], assignment: &Assignment, scored: &Scored) -> bool
+fn is_scored(exprs: &[CnfExpr<'_>], assignment: &Assignment, scored: &Scored) -> bool
     ensures { result ≡ option_map_or (λ e. scored.now.score == score_of assignment.now e.weights) (item_at exprs.now scored.now.number) false }
 {
     match expr_at(exprs, scored.number) {
@@ -127,7 +132,7 @@ fn last_of(chosen: &[Scored]) -> Option<Scored>
 
 // Whether each mark is right; more may be chosen where it is not full.
 fn are_right(
-    exprs: &[CnfExpr],
+    exprs: &[CnfExpr<'_>],
     assignment: &Assignment,
     full: bool,
     last: Option<Scored>,
@@ -144,7 +149,7 @@ fn are_right(
 }
 
 fn is_right_at(
-    exprs: &[CnfExpr],
+    exprs: &[CnfExpr<'_>],
     assignment: &Assignment,
     full: bool,
     last: Option<Scored>,
@@ -160,7 +165,7 @@ fn is_right_at(
 }
 
 fn is_right(
-    expr: &CnfExpr,
+    expr: &CnfExpr<'_>,
     assignment: &Assignment,
     full: bool,
     last: Option<Scored>,
@@ -179,7 +184,7 @@ fn is_right(
 }
 
 // Whether the clause at this place is the first that is false.
-fn is_first_false(expr: &CnfExpr, assignment: &Assignment, clause: u32) -> bool
+fn is_first_false(expr: &CnfExpr<'_>, assignment: &Assignment, clause: u32) -> bool
     ensures { result ≡ option_map_or (λ c. c == clause) (first_false assignment.now expr.now.clauses) false }
 {
     match expr.first_false(assignment) {
@@ -189,7 +194,7 @@ fn is_first_false(expr: &CnfExpr, assignment: &Assignment, clause: u32) -> bool
 }
 
 // Whether the expression is true and has this score.
-fn has_score(expr: &CnfExpr, assignment: &Assignment, score: u64) -> bool
+fn has_score(expr: &CnfExpr<'_>, assignment: &Assignment, score: u64) -> bool
     ensures { result ≡ has_score assignment.now expr.now score }
 {
     expr.first_false(assignment).is_none() && score == expr.score(assignment)

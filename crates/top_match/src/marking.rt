@@ -15,7 +15,7 @@ use target_expr::Assignment;
 #[tactic(auto, using(crate::proofs::Marked::marks_are))]
 pub fn certify(
     alloc: Global,
-    exprs: &List<CnfExpr>,
+    exprs: &List<CnfExpr<'_>>,
     assignment: &Assignment,
     chosen: &List<Scored>,
 ) -> Result<List<Mark>, AllocError>
@@ -27,7 +27,7 @@ pub fn certify(
 
 fn marked(
     alloc: Global,
-    exprs: &[CnfExpr],
+    exprs: &[CnfExpr<'_>],
     assignment: &Assignment,
     chosen: &[Scored],
 ) -> Result<Vec<Mark>, AllocError>
@@ -41,7 +41,7 @@ fn marked(
 // The mark of each expression, were none chosen.
 fn reasons(
     alloc: Global,
-    exprs: &[CnfExpr],
+    exprs: &[CnfExpr<'_>],
     assignment: &Assignment,
 ) -> Result<Vec<Mark>, AllocError>
     ensures { IfOk result (λ marks. marks.items ≡ map (reason assignment.now) exprs.now) }
@@ -53,7 +53,7 @@ fn reasons(
     Ok(marks)
 }
 
-fn reason(expr: &CnfExpr, assignment: &Assignment) -> Mark
+fn reason(expr: &CnfExpr<'_>, assignment: &Assignment) -> Mark
     ensures { result ≡ reason assignment.now expr.now }
 {
     match expr.first_false(assignment) {

@@ -4,4 +4,5 @@ pub mod Made
 pub mod Making
 pub mod Required
 pub mod Singles
+pub mod Texts
 pub mod Whole

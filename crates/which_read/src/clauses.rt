@@ -10,20 +10,20 @@ ghost use Rattle.which_read.specs.declared.field.WhichField.{WhichField};
 
 use crate::fault::WhichFault;
 use crate::field::WhichField;
-use crate::parts::{fault, filled, kept, push, text_field, texts_where};
+use crate::parts::{fault, filled, name_field, push, texts_where};
+use cnf_match::{Listed, RawPred};
 use exact_json::Value;
 use json_fields as fields;
-use rtb_num::{List, Txt};
+use rtb_num::List;
 use std::alloc::Global;
-use target_expr::RawPred;
 
 // The clauses of the expression at place `i`.
 #[tactic(auto, unfolding(crate::specs::Clauses::clauses_field, crate::specs::Parts::array_in))]
-pub(crate) fn clauses_field(
+pub(crate) fn clauses_field<'a>(
     alloc: Global,
     i: usize,
-    expression: &Value<'_>,
-) -> Result<List<List<RawPred>>, WhichFault>
+    expression: &Value<'a>,
+) -> Result<List<List<RawPred<'a>>>, WhichFault>
     ensures { Answers WhichFault.Memory (clauses_field i (tree_of expression.now)) result }
 {
     match fields::required_array(expression, WhichField::All(i).member()) {
@@ -32,11 +32,11 @@ pub(crate) fn clauses_field(
     }
 }
 
-fn all_clauses(
+fn all_clauses<'a>(
     alloc: Global,
     i: usize,
-    values: &[Value<'_>],
-) -> Result<List<List<RawPred>>, WhichFault>
+    values: &[Value<'a>],
+) -> Result<List<List<RawPred<'a>>>, WhichFault>
     ensures { Answers WhichFault.Memory (each_in (clause_at i) (map tree_of values.now)) result }
 {
     let mut clauses = Vec::with_capacity(alloc, values.len())?;
@@ -45,11 +45,11 @@ fn all_clauses(
 }
 
 // Appends them, where none was there.
-fn push_clauses(
+fn push_clauses<'a>(
     alloc: Global,
     i: usize,
-    values: &[Value<'_>],
-    clauses: &mut Vec<List<RawPred>>,
+    values: &[Value<'a>],
+    clauses: &mut Vec<List<RawPred<'a>>>,
 ) -> Result<(), WhichFault>
     requires none { clauses.old.items ≡ [] }
     ensures { Answers WhichFault.Memory (each_in (clause_at i) (map tree_of values.now)) (map_ok (λ _. clauses.new.items) result) }
@@ -61,12 +61,12 @@ fn push_clauses(
 }
 
 #[tactic(auto, unfolding(crate::specs::Clauses::clause_at))]
-fn clause_entry(
+fn clause_entry<'a>(
     alloc: Global,
     i: usize,
     j: usize,
-    value: &Value<'_>,
-) -> Result<List<RawPred>, WhichFault>
+    value: &Value<'a>,
+) -> Result<List<RawPred<'a>>, WhichFault>
     ensures { Answers WhichFault.Memory (clause_at i j (tree_of value.now)) result }
 {
     match fields::array_in(value) {
@@ -76,105 +76,69 @@ fn clause_entry(
 }
 
 // The predicates of the clause at place `j`.
-fn all_preds(
+fn all_preds<'a>(
     alloc: Global,
     i: usize,
     j: usize,
-    values: &[Value<'_>],
-) -> Result<List<RawPred>, WhichFault>
+    values: &[Value<'a>],
+) -> Result<List<RawPred<'a>>, WhichFault>
     ensures { Answers WhichFault.Memory (each_in (pred_at i j) (map tree_of values.now)) result }
 {
     let mut preds = Vec::with_capacity(alloc, values.len())?;
-    let read = push_preds(alloc, i, j, values, &mut preds);
+    let read = push_preds(i, j, values, &mut preds);
     filled(preds, read)
 }
 
 // Appends them, where none was there.
-fn push_preds(
-    alloc: Global,
+fn push_preds<'a>(
     i: usize,
     j: usize,
-    values: &[Value<'_>],
-    preds: &mut Vec<RawPred>,
+    values: &[Value<'a>],
+    preds: &mut Vec<RawPred<'a>>,
 ) -> Result<(), WhichFault>
     requires none { preds.old.items ≡ [] }
     ensures { Answers WhichFault.Memory (each_in (pred_at i j) (map tree_of values.now)) (map_ok (λ _. preds.new.items) result) }
 {
     for (k, value) in values.iter().enumerate() {
-        push(preds, pred_entry(alloc, i, j, k, value)?)?;
+        push(preds, pred_entry(i, j, k, value)?)?;
     }
     Ok(())
 }
 
-fn pred_entry(
-    alloc: Global,
+fn pred_entry<'a>(
     i: usize,
     j: usize,
     k: usize,
-    value: &Value<'_>,
-) -> Result<RawPred, WhichFault>
+    value: &Value<'a>,
+) -> Result<RawPred<'a>, WhichFault>
     ensures { Answers WhichFault.Memory (pred_at i j k (tree_of value.now)) result }
 {
     match fields::object_in(value) {
-        Ok(pred) => pred_in(alloc, i, j, k, pred),
+        Ok(pred) => pred_in(i, j, k, pred),
         Err(flaw) => Err(fault(WhichField::Predicate(i, j, k), flaw)),
     }
 }
 
-fn pred_in(
-    alloc: Global,
-    i: usize,
-    j: usize,
-    k: usize,
-    value: &Value<'_>,
-) -> Result<RawPred, WhichFault>
-    ensures { Answers WhichFault.Memory (pred_in i j k (tree_of value.now)) result }
-{
-    let mut pred = blank_pred(alloc);
-    let filled = fill_pred(alloc, i, j, k, value, &mut pred);
-    kept(pred, filled)
-}
-
-// A predicate of which nothing is known.
-fn blank_pred(alloc: Global) -> RawPred {
-    RawPred {
-        attr: Txt::new(alloc),
-        negated: false,
-        values: List::new(alloc),
-    }
-}
-
-// Fills in each field.
 #[tactic(auto, using(json_fields::proofs::First::firsts), unfolding(crate::specs::Clauses::pred_in))]
-fn fill_pred(
-    alloc: Global,
-    i: usize,
-    j: usize,
-    k: usize,
-    value: &Value<'_>,
-    pred: &mut RawPred,
-) -> Result<(), WhichFault>
-    ensures { Answers WhichFault.Memory (pred_in i j k (tree_of value.now)) (map_ok (λ _. pred.new) result) }
+fn pred_in<'a>(i: usize, j: usize, k: usize, value: &Value<'a>) -> Result<RawPred<'a>, WhichFault>
+    ensures { Answers WhichFault.Memory (pred_in i j k (tree_of value.now)) result }
 {
     let admits = has_in(value);
     let excludes = has_not(value);
-    pred.attr = text_field(alloc, value, WhichField::PredicateAttr(i, j, k))?;
+    let attr = name_field(value, WhichField::PredicateAttr(i, j, k))?;
     some_list(i, j, k, admits, excludes)?;
-    pred.values = texts_where(admits, alloc, value, WhichField::In(i, j, k))?;
+    let admitted = texts_where(admits, value, WhichField::In(i, j, k))?;
     one_list(i, j, k, admits, excludes)?;
-    let excluded = texts_where(excludes, alloc, value, WhichField::Not(i, j, k))?;
-    choose(pred, excludes, excluded);
-    Ok(())
+    let excluded = texts_where(excludes, value, WhichField::Not(i, j, k))?;
+    Ok(RawPred::new(attr, excludes, chosen(excludes, admitted, excluded)))
 }
 
 // The values that it lists are those that it excludes, where it lists any of these.
-fn choose(pred: &mut RawPred, negated: bool, excluded: List<Txt>)
-    ensures { pred.new ≡ record pred.old { negated = negated; values = if negated then excluded else pred.old.values } }
+#[inline(always)]
+fn chosen<'a>(negated: bool, admitted: Listed<'a>, excluded: Listed<'a>) -> Listed<'a>
+    ensures { result ≡ (if negated then excluded.entry else admitted.entry) }
 {
-    pred.negated = negated;
-    if negated {
-        pred.values = excluded;
-    }
+    if negated { excluded } else { admitted }
 }
 
 // A predicate lists what it admits or what it excludes.

@@ -15,23 +15,22 @@ use crate::fault::WhichFault;
 use crate::field::WhichField;
 use crate::parts::{both, fault, push};
 use crate::weighed::weights_field;
-use cnf_match::{CnfExpr, CnfFault, MOST_EXPRESSIONS, RawWeight};
+use cnf_match::{CnfExpr, CnfFault, MOST_EXPRESSIONS, RawPred, RawWeight};
 use exact_json::Value;
 use json_fields as fields;
 use rtb_num::List;
 use std::alloc::Global;
-use target_expr::RawPred;
 
 // An expression as it is written: its clauses and its weights.
-type Written = (List<List<RawPred>>, List<RawWeight>);
+type Written<'a> = (List<List<RawPred<'a>>>, List<RawWeight<'a>>);
 
 // The expressions that are made, or why the first that cannot be made is none.
-pub(crate) type Made = Result<List<CnfExpr>, WhichFault>;
+pub(crate) type Made<'a> = Result<List<CnfExpr<'a>>, WhichFault>;
 
 // Expressions while they are read and made.
 #[derive(Drop)]
-pub(crate) struct Making {
-    pub(crate) made: Vec<CnfExpr>,
+pub(crate) struct Making<'a> {
+    pub(crate) made: Vec<CnfExpr<'a>>,
     // Why the first that could not be made is none. Those behind it are read and not made.
     pub(crate) fault: Option<WhichFault>,
 }
@@ -39,7 +38,7 @@ pub(crate) struct Making {
 // The expressions. Each is made as soon as it is read, and a fault of making one is kept until all are read, since a
 // fault of a later one's fields comes before it.
 #[tactic(auto, unfolding(crate::specs::Request::expressions_field, crate::specs::Parts::array_in))]
-pub(crate) fn expressions_field(alloc: Global, body: &Value<'_>) -> Result<Made, WhichFault>
+pub(crate) fn expressions_field<'a>(alloc: Global, body: &Value<'a>) -> Result<Made<'a>, WhichFault>
     requires forms { HasForms (tree_of body.now) }
     ensures { Answers WhichFault.Memory (map_value made_from (expressions_field (tree_of body.now))) result }
 {
@@ -51,7 +50,7 @@ pub(crate) fn expressions_field(alloc: Global, body: &Value<'_>) -> Result<Made,
 
 // At most 4,096 of them.
 #[tactic(auto, using(json_fields::proofs::First::firsts))]
-fn some_expressions(alloc: Global, values: &[Value<'_>]) -> Result<Made, WhichFault>
+fn some_expressions<'a>(alloc: Global, values: &[Value<'a>]) -> Result<Made<'a>, WhichFault>
     requires forms { All (λ v. HasForms (tree_of v)) values.now }
     ensures { Answers WhichFault.Memory (map_value made_from (written_in (map tree_of values.now))) result }
 {
@@ -63,7 +62,7 @@ fn some_expressions(alloc: Global, values: &[Value<'_>]) -> Result<Made, WhichFa
     all_expressions(alloc, values)
 }
 
-fn all_expressions(alloc: Global, values: &[Value<'_>]) -> Result<Made, WhichFault>
+fn all_expressions<'a>(alloc: Global, values: &[Value<'a>]) -> Result<Made<'a>, WhichFault>
     requires few { length values.now ≤ 4096 }
     requires forms { All (λ v. HasForms (tree_of v)) values.now }
     ensures { Answers WhichFault.Memory (map_value made_from (each_in expression_at (map tree_of values.now))) result }
@@ -77,8 +76,8 @@ fn all_expressions(alloc: Global, values: &[Value<'_>]) -> Result<Made, WhichFau
 }
 
 // The expressions that are made, unless one could not be read.
-fn when_read(making: Making, read: Result<(), WhichFault>) -> Result<Made, WhichFault>
-    ensures { result ≡ map_ok (λ _. made_in making) read }
+fn when_read<'a>(making: Making<'a>, read: Result<(), WhichFault>) -> Result<Made<'a>, WhichFault>
+    ensures { result ≡ map_ok (λ _. made_in making.entry) read }
 {
     match read {
         Ok(()) => Ok(made_in(making)),
@@ -86,8 +85,8 @@ fn when_read(making: Making, read: Result<(), WhichFault>) -> Result<Made, Which
     }
 }
 
-fn made_in(making: Making) -> Made
-    ensures { result ≡ made_in making }
+fn made_in<'a>(making: Making<'a>) -> Made<'a>
+    ensures { result ≡ made_in making.entry }
 {
     let Making { made, fault } = making;
     match fault {
@@ -97,7 +96,11 @@ fn made_in(making: Making) -> Made
 }
 
 // Reads and makes them, where none was.
-fn enter_all(alloc: Global, values: &[Value<'_>], making: &mut Making) -> Result<(), WhichFault>
+fn enter_all<'a>(
+    alloc: Global,
+    values: &[Value<'a>],
+    making: &mut Making<'a>,
+) -> Result<(), WhichFault>
     requires none { making.old.made.items ≡ [] }
     requires right { making.old.fault ≡ None }
     requires few { length values.now ≤ 4096 }
@@ -111,7 +114,12 @@ fn enter_all(alloc: Global, values: &[Value<'_>], making: &mut Making) -> Result
 }
 
 // Reads the expression at place `i`, and makes it where all before it could be made.
-fn enter(alloc: Global, i: usize, value: &Value<'_>, making: &mut Making) -> Result<(), WhichFault>
+fn enter<'a>(
+    alloc: Global,
+    i: usize,
+    value: &Value<'a>,
+    making: &mut Making<'a>,
+) -> Result<(), WhichFault>
     requires forms { HasForms (tree_of value.now) }
     requires place { i < 4096 }
     ensures { Answers WhichFault.Memory (map_value (λ written. with_next i written (made_in making.old)) (expression_at i (tree_of value.now))) (map_ok (λ _. made_in making.new) result) }
@@ -120,7 +128,11 @@ fn enter(alloc: Global, i: usize, value: &Value<'_>, making: &mut Making) -> Res
     add(alloc, i, written, making)
 }
 
-fn expression_entry(alloc: Global, i: usize, value: &Value<'_>) -> Result<Written, WhichFault>
+fn expression_entry<'a>(
+    alloc: Global,
+    i: usize,
+    value: &Value<'a>,
+) -> Result<Written<'a>, WhichFault>
     requires forms { HasForms (tree_of value.now) }
     ensures { Answers WhichFault.Memory (expression_at i (tree_of value.now)) result }
 {
@@ -131,7 +143,11 @@ fn expression_entry(alloc: Global, i: usize, value: &Value<'_>) -> Result<Writte
 }
 
 #[tactic(auto, unfolding(crate::specs::Request::expression_in))]
-fn expression_in(alloc: Global, i: usize, expression: &Value<'_>) -> Result<Written, WhichFault>
+fn expression_in<'a>(
+    alloc: Global,
+    i: usize,
+    expression: &Value<'a>,
+) -> Result<Written<'a>, WhichFault>
     requires forms { HasForms (tree_of expression.now) }
     ensures { Answers WhichFault.Memory (expression_in i (tree_of expression.now)) result }
 {
@@ -142,9 +158,14 @@ fn expression_in(alloc: Global, i: usize, expression: &Value<'_>) -> Result<Writ
 }
 
 // Makes the expression that is written so at place `i`, where all before it could be made.
-fn add(alloc: Global, i: usize, written: Written, making: &mut Making) -> Result<(), WhichFault>
+fn add<'a>(
+    alloc: Global,
+    i: usize,
+    written: Written<'a>,
+    making: &mut Making<'a>,
+) -> Result<(), WhichFault>
     requires place { i < 4096 }
-    ensures { Answers WhichFault.Memory (give (with_next i written (made_in making.old))) (map_ok (λ _. made_in making.new) result) }
+    ensures { Answers WhichFault.Memory (give (with_next i written.entry (made_in making.old))) (map_ok (λ _. made_in making.new) result) }
 {
     if making.fault.is_some() {
         drop(written);
@@ -154,9 +175,12 @@ fn add(alloc: Global, i: usize, written: Written, making: &mut Making) -> Result
 }
 
 // Keeps the expression, or why it is none. Want of memory alone is answered.
-fn keep(making: &mut Making, made: Result<CnfExpr, WhichFault>) -> Result<(), WhichFault>
+fn keep<'a>(
+    making: &mut Making<'a>,
+    made: Result<CnfExpr<'a>, WhichFault>,
+) -> Result<(), WhichFault>
     requires right { making.old.fault ≡ None }
-    ensures { (faults : List WhichFault) (e : Cnf) → Answers WhichFault.Memory (with_faults faults e) made → Answers WhichFault.Memory (give (unless_first faults (making.old.made.items ++ e ∷ []))) (map_ok (λ _. made_in making.new) result) }
+    ensures { (faults : List WhichFault) (e : Cnf) → Answers WhichFault.Memory (with_faults faults e) made.entry → Answers WhichFault.Memory (give (unless_first faults (making.old.made.items ++ e ∷ []))) (map_ok (λ _. made_in making.new) result) }
 {
     match made {
         Ok(expression) => Ok(push(&mut making.made, expression)?),
@@ -164,7 +188,7 @@ fn keep(making: &mut Making, made: Result<CnfExpr, WhichFault>) -> Result<(), Wh
     }
 }
 
-fn keep_fault(making: &mut Making, fault: WhichFault) -> Result<(), WhichFault>
+fn keep_fault<'a>(making: &mut Making<'a>, fault: WhichFault) -> Result<(), WhichFault>
     ensures ok { OnOk result (made_in making.new ≡ Err fault) }
     ensures other { OnOk result (fault ≢ WhichFault.Memory) }
     ensures memory { IfErr result (λ f. f ≡ WhichFault.Memory) }
@@ -177,8 +201,8 @@ fn keep_fault(making: &mut Making, fault: WhichFault) -> Result<(), WhichFault>
 }
 
 #[tactic(auto, unfolding(crate::specs::Request::making_faults, crate::specs::Request::made_of))]
-fn make(alloc: Global, number: usize, written: Written) -> Result<CnfExpr, WhichFault>
-    ensures { (place : ℕ) → number ≡ place + 1 → Answers WhichFault.Memory (with_faults (making_faults place written) (made_of written)) result }
+fn make<'a>(alloc: Global, number: usize, written: Written<'a>) -> Result<CnfExpr<'a>, WhichFault>
+    ensures { (place : ℕ) → number ≡ place + 1 → Answers WhichFault.Memory (with_faults (making_faults place written.entry) (made_of written.entry)) result }
 {
     let (raw, weights) = written;
     match CnfExpr::make(alloc, raw, weights) {

@@ -10,6 +10,7 @@ mod clauses;
 mod expressions;
 mod fault;
 mod field;
+mod lists;
 mod parts;
 mod path;
 mod request;

@@ -11,11 +11,13 @@ ghost use Rattle.which_read.specs.declared.fault.WhichFault.{WhichFault};
 
 use crate::fault::WhichFault;
 use crate::field::WhichField;
+use crate::lists::texts;
+use cnf_match::{Listed, NameView, TextView};
 use exact_json::Value;
 use json_fields as fields;
 use json_fields::{Bounds, Flaw, ListFlaw};
-use rtb_num::{List, Txt};
-use std::alloc::{AllocError, Global};
+use rtb_num::List;
+use std::alloc::AllocError;
 
 // The flaw of the field.
 pub(crate) fn fault(field: WhichField, flaw: Flaw) -> WhichFault
@@ -31,15 +33,29 @@ pub(crate) fn fault(field: WhichField, flaw: Flaw) -> WhichFault
 // A text that has to be there.
 #[inline(always)]
 #[tactic(auto, unfolding(crate::specs::Parts::text_field))]
-pub(crate) fn text_field(
-    alloc: Global,
-    object: &Value<'_>,
+pub(crate) fn text_field<'a>(
+    object: &Value<'a>,
     field: WhichField,
-) -> Result<Txt, WhichFault>
+) -> Result<TextView<'a>, WhichFault>
     ensures { Answers WhichFault.Memory (text_field field (tree_of object.now)) result }
 {
     match fields::required_text(object, field.member()) {
-        Ok(text) => Ok(Txt::from_slice(alloc, text)?),
+        Ok(text) => Ok(TextView::new(text)),
+        Err(flaw) => Err(fault(field, flaw)),
+    }
+}
+
+// The name of an attribute, which has to be there.
+#[inline(always)]
+#[tactic(auto, unfolding(crate::specs::Parts::text_field))]
+pub(crate) fn name_field<'a>(
+    object: &Value<'a>,
+    field: WhichField,
+) -> Result<NameView<'a>, WhichFault>
+    ensures { Answers WhichFault.Memory (text_field field (tree_of object.now)) result }
+{
+    match fields::required_text(object, field.member()) {
+        Ok(text) => Ok(NameView::new(text)),
         Err(flaw) => Err(fault(field, flaw)),
     }
 }
@@ -76,32 +92,27 @@ fn required_whole(object: &Value<'_>, name: &[u8], bounds: &Bounds) -> Result<i3
 
 // A list of texts, which may be absent. Whether it is there is known, so one that is not is not looked up.
 #[inline(always)]
-pub(crate) fn texts_where(
+pub(crate) fn texts_where<'a>(
     there: bool,
-    alloc: Global,
-    object: &Value<'_>,
+    object: &Value<'a>,
     field: WhichField,
-) -> Result<List<Txt>, WhichFault>
+) -> Result<Listed<'a>, WhichFault>
     requires { there ≡ is_some (present (member_name field) (tree_of object.now)) }
     ensures { Answers WhichFault.Memory (texts_field field (tree_of object.now)) result }
 {
     if !there {
-        return Ok(List::new(alloc));
+        return Ok(Listed::new(&[]));
     }
-    texts_field(alloc, object, field)
+    texts_field(object, field)
 }
 
 // A list of texts, which may be absent.
 #[inline(always)]
 #[tactic(auto, using(json_fields::proofs::First::firsts_mapped), unfolding(crate::specs::Parts::texts_field))]
-fn texts_field(
-    alloc: Global,
-    object: &Value<'_>,
-    field: WhichField,
-) -> Result<List<Txt>, WhichFault>
+fn texts_field<'a>(object: &Value<'a>, field: WhichField) -> Result<Listed<'a>, WhichFault>
     ensures { Answers WhichFault.Memory (texts_field field (tree_of object.now)) result }
 {
-    match fields::texts(alloc, object, field.member()) {
+    match texts(object, field.member()) {
         Ok(texts) => Ok(texts),
         Err(flaw) => Err(list_fault(field, flaw)),
     }
@@ -131,16 +142,6 @@ pub(crate) fn both<A: Drop, B: Drop>(
             Ok(second) => Ok((first, second)),
             Err(fault) => Err(fault),
         },
-        Err(fault) => Err(fault),
-    }
-}
-
-// The value, once all of it was filled in.
-pub(crate) fn kept<T: Drop>(value: T, filled: Result<(), WhichFault>) -> Result<T, WhichFault>
-    ensures { result ≡ map_ok (λ _. value) filled }
-{
-    match filled {
-        Ok(()) => Ok(value),
         Err(fault) => Err(fault),
     }
 }

@@ -22,19 +22,19 @@ use rtb_num::List;
 use std::alloc::Global;
 use target_expr::Assignment;
 
-/// What is asked: the best expressions for an assignment.
+/// What is asked: the best expressions for an assignment. The texts of the expressions stand where they were read.
 #[derive(Drop)]
-pub struct Request {
+pub struct Request<'a> {
     /// How many are wanted at most: 1 to 4,096.
     pub n: u32,
     pub assignment: Assignment,
     /// Up to 4,096, in the order in which they are written.
-    pub expressions: List<CnfExpr>,
+    pub expressions: List<CnfExpr<'a>>,
 }
 
 /// The request in a JSON text, or the first of its faults in the order in which the fields are read; behind all of
 /// them come the faults of the expressions, in their order.
-pub fn read_request(alloc: Global, doc: &Doc<'_>) -> Result<Request, WhichFault>
+pub fn read_request<'a>(alloc: Global, doc: &Doc<'a>) -> Result<Request<'a>, WhichFault>
     ensures answer { Answers WhichFault.Memory (which_request (doc_tree doc.now)) result }
     ensures few { IfOk result (λ r. length r.expressions ≤ 4096) }
 {
@@ -51,7 +51,7 @@ const N: Bounds = Bounds {
 };
 
 #[tactic(auto, using(json_fields::proofs::First::firsts), unfolding(crate::specs::Request::fields_in))]
-fn request_in(alloc: Global, body: &Value<'_>) -> Result<Request, WhichFault>
+fn request_in<'a>(alloc: Global, body: &Value<'a>) -> Result<Request<'a>, WhichFault>
     requires forms { HasForms (tree_of body.now) }
     ensures { Answers WhichFault.Memory (fields_in (tree_of body.now)) result }
 {
@@ -67,8 +67,8 @@ fn request_in(alloc: Global, body: &Value<'_>) -> Result<Request, WhichFault>
 }
 
 // The request of these parts, where the expressions could be made.
-fn request_of(n: u32, assignment: Assignment, made: Made) -> Result<Request, WhichFault>
-    ensures { result ≡ map_ok (λ es. record { n = n; assignment = assignment; expressions = es }) made }
+fn request_of<'a>(n: u32, assignment: Assignment, made: Made<'a>) -> Result<Request<'a>, WhichFault>
+    ensures { result ≡ map_ok (λ es. record { n = n; assignment = assignment; expressions = es }) made.entry }
 {
     match made {
         Ok(expressions) => Ok(Request {

@@ -10,21 +10,21 @@ ghost use Rattle.which_read.specs.declared.fault.WhichFault.{WhichFault};
 
 use crate::fault::WhichFault;
 use crate::field::WhichField;
-use crate::parts::{fault, filled, kept, number_field, push, text_field};
+use crate::parts::{fault, filled, name_field, number_field, push, text_field};
 use cnf_match::RawWeight;
 use exact_json::Value;
 use json_fields as fields;
 use json_fields::Bounds;
-use rtb_num::{List, Txt};
+use rtb_num::List;
 use std::alloc::Global;
 
 // The weights of the expression at place `i`, which may be absent.
 #[tactic(auto, unfolding(crate::specs::Weighed::weights_field))]
-pub(crate) fn weights_field(
+pub(crate) fn weights_field<'a>(
     alloc: Global,
     i: usize,
-    expression: &Value<'_>,
-) -> Result<List<RawWeight>, WhichFault>
+    expression: &Value<'a>,
+) -> Result<List<RawWeight<'a>>, WhichFault>
     requires forms { HasForms (tree_of expression.now) }
     ensures { Answers WhichFault.Memory (weights_field i (tree_of expression.now)) result }
 {
@@ -35,43 +35,41 @@ pub(crate) fn weights_field(
     }
 }
 
-fn all_weights(alloc: Global, i: usize, values: &[Value<'_>]) -> Result<List<RawWeight>, WhichFault>
+fn all_weights<'a>(
+    alloc: Global,
+    i: usize,
+    values: &[Value<'a>],
+) -> Result<List<RawWeight<'a>>, WhichFault>
     requires forms { All (λ v. HasForms (tree_of v)) values.now }
     ensures { Answers WhichFault.Memory (each_in (weight_at i) (map tree_of values.now)) result }
 {
     let mut weights = Vec::with_capacity(alloc, values.len())?;
-    let read = push_weights(alloc, i, values, &mut weights);
+    let read = push_weights(i, values, &mut weights);
     filled(weights, read)
 }
 
 // Appends them, where none was there.
-fn push_weights(
-    alloc: Global,
+fn push_weights<'a>(
     i: usize,
-    values: &[Value<'_>],
-    weights: &mut Vec<RawWeight>,
+    values: &[Value<'a>],
+    weights: &mut Vec<RawWeight<'a>>,
 ) -> Result<(), WhichFault>
     requires none { weights.old.items ≡ [] }
     requires forms { All (λ v. HasForms (tree_of v)) values.now }
     ensures { Answers WhichFault.Memory (each_in (weight_at i) (map tree_of values.now)) (map_ok (λ _. weights.new.items) result) }
 {
     for (j, value) in values.iter().enumerate() {
-        push(weights, weight_entry(alloc, i, j, value)?)?;
+        push(weights, weight_entry(i, j, value)?)?;
     }
     Ok(())
 }
 
-fn weight_entry(
-    alloc: Global,
-    i: usize,
-    j: usize,
-    value: &Value<'_>,
-) -> Result<RawWeight, WhichFault>
+fn weight_entry<'a>(i: usize, j: usize, value: &Value<'a>) -> Result<RawWeight<'a>, WhichFault>
     requires forms { HasForms (tree_of value.now) }
     ensures { Answers WhichFault.Memory (weight_at i j (tree_of value.now)) result }
 {
     match fields::object_in(value) {
-        Ok(weight) => weight_in(alloc, i, j, weight),
+        Ok(weight) => weight_in(i, j, weight),
         Err(flaw) => Err(fault(WhichField::Weight(i, j), flaw)),
     }
 }
@@ -82,38 +80,17 @@ const WEIGHT: Bounds = Bounds {
     greatest: i32::MAX,
 };
 
-fn weight_in(alloc: Global, i: usize, j: usize, value: &Value<'_>) -> Result<RawWeight, WhichFault>
+#[tactic(auto, using(json_fields::proofs::First::firsts), unfolding(crate::specs::Weighed::weight_in))]
+fn weight_in<'a>(i: usize, j: usize, value: &Value<'a>) -> Result<RawWeight<'a>, WhichFault>
     requires forms { HasForms (tree_of value.now) }
     ensures { Answers WhichFault.Memory (weight_in i j (tree_of value.now)) result }
 {
-    let mut weight = blank_weight(alloc);
-    let filled = fill_weight(alloc, i, j, value, &mut weight);
-    kept(weight, filled)
-}
-
-// A weight of which nothing is known.
-fn blank_weight(alloc: Global) -> RawWeight {
-    RawWeight {
-        attr: Txt::new(alloc),
-        value: Txt::new(alloc),
-        weight: 0,
-    }
-}
-
-// Fills in each field.
-#[tactic(auto, using(json_fields::proofs::First::firsts), unfolding(crate::specs::Weighed::weight_in))]
-fn fill_weight(
-    alloc: Global,
-    i: usize,
-    j: usize,
-    value: &Value<'_>,
-    weight: &mut RawWeight,
-) -> Result<(), WhichFault>
-    requires forms { HasForms (tree_of value.now) }
-    ensures { Answers WhichFault.Memory (weight_in i j (tree_of value.now)) (map_ok (λ _. weight.new) result) }
-{
-    weight.attr = text_field(alloc, value, WhichField::WeightAttr(i, j))?;
-    weight.value = text_field(alloc, value, WhichField::WeightValue(i, j))?;
-    weight.weight = number_field(value, WhichField::WeightNumber(i, j), &WEIGHT)?;
-    Ok(())
+    let attr = name_field(value, WhichField::WeightAttr(i, j))?;
+    let text = text_field(value, WhichField::WeightValue(i, j))?;
+    let weight = number_field(value, WhichField::WeightNumber(i, j), &WEIGHT)?;
+    Ok(RawWeight {
+        attr,
+        value: text,
+        weight,
+    })
 }

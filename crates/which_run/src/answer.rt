@@ -14,7 +14,7 @@ use top_match::{Mark, Scored, certify, top};
 use which_read::Request;
 
 // The best expressions, and the mark of each expression.
-pub(crate) fn answer_text(alloc: Global, request: &Request) -> Result<Txt, AllocError>
+pub(crate) fn answer_text(alloc: Global, request: &Request<'_>) -> Result<Txt, AllocError>
     requires few { length request.now.expressions ≤ 4096 }
     ensures { IfOk result (λ t. t ≡ best_text (top_list request.now.expressions request.now.assignment request.now.n) (marks_of request.now.expressions request.now.assignment (top_list request.now.expressions request.now.assignment request.now.n))) }
 {
@@ -23,7 +23,7 @@ pub(crate) fn answer_text(alloc: Global, request: &Request) -> Result<Txt, Alloc
     best_text(alloc, best.as_slice(), marks.as_slice())
 }
 
-fn best_of(alloc: Global, request: &Request) -> Result<List<Scored>, AllocError>
+fn best_of(alloc: Global, request: &Request<'_>) -> Result<List<Scored>, AllocError>
     requires few { length request.now.expressions ≤ 4096 }
     ensures { IfOk result (λ best. best ≡ top_list request.now.expressions request.now.assignment request.now.n) }
 {

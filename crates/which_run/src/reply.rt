@@ -91,7 +91,7 @@ fn doc_reply(alloc: Global, doc: &Doc<'_>) -> Result<Reply, AllocError>
     }
 }
 
-fn request_reply(alloc: Global, request: &Request) -> Result<Reply, AllocError>
+fn request_reply(alloc: Global, request: &Request<'_>) -> Result<Reply, AllocError>
     requires few { length request.now.expressions ≤ 4096 }
     ensures { IfOk result (λ r. r ≡ answer_to request.now) }
 {

@@ -13,7 +13,7 @@ use target_expr::Assignment;
 // The numbers of the expressions that are true, counted from 1. The steps of the index are not counted.
 pub(crate) fn true_numbers(
     alloc: Global,
-    expressions: &List<CnfExpr>,
+    expressions: &List<CnfExpr<'_>>,
     assignment: &Assignment,
 ) -> Result<List<u32>, AllocError>
     requires few { length expressions.now ≤ 4096 }
@@ -24,7 +24,7 @@ pub(crate) fn true_numbers(
 
 fn find<L: Ledger>(
     alloc: Global,
-    expressions: &List<CnfExpr>,
+    expressions: &List<CnfExpr<'_>>,
     assignment: &Assignment,
     blank: Blank,
 ) -> Result<List<u32>, AllocError>

@@ -1,9 +1,7 @@
-use Rattle.std.proofs.Common.{◌∙◌, [], ◌∷◌, List, ℕ, ap, refl, subst}
-use Rattle.std.specs.Vec.{with_items}
+use Rattle.std.proofs.Common.{refl}
 use Rattle.cnf_match.specs.declared.growing.Growing.{Growing}
 use Rattle.cnf_match.specs.declared.index.Key.{Key}
-use Rattle.cnf_match.specs.Growing.{Enters, lists_of, with_item}
-use Rattle.cnf_match.proofs.Entering.{enters_one, enters_there, on_ok}
+use Rattle.cnf_match.proofs.Entering.{enters_there, on_ok}
 use Rattle.cnf_match.proofs.growing.Growing.enter.Goals as goal
 
 pub returns-then-is_at : goal.returns-then-is_at
@@ -12,14 +10,3 @@ returns-then-is_at c =
     let old : Growing = c.args.self.now in
     let new : Growing = record { keys = old.keys; lists = c.put.new.lists; seats = old.seats } in
     on_ok c.put.result (enters_there key c.args.entry old new c.place_in-likely.result (c.is_at.ensures c.if-is_at.true) refl) c.put.ensures
-
-pub returns : goal.returns
-returns c =
-    let key : Key = record { attr = c.args.attr; value = c.in_ok-copy.field-0 } in
-    let old : Growing = c.args.self.now in
-    let new : Growing = record { keys = c.added.new.map; lists = c.put-2.new.lists; seats = with_items old.seats c.seat_at.new.seats } in
-    on_ok c.put-2.result
-    (λ put. subst (λ (v : List ℕ). Enters ((record { attr = c.args.attr; value = v }, c.args.entry) ∷ []) old new) c.in_ok-copy.ensures
-    (enters_one key c.args.entry old new c.in_ok-place.ensures.added c.in_ok-place.ensures.unique
-    (put ∙ ap (λ n. with_item (lists_of old) n c.args.entry) c.in_ok-place.ensures.place)))
-    c.put-2.ensures
