@@ -7,4 +7,4 @@ mod index;
 mod reached;
 
 pub use index::index_of_live;
-pub use reached::find_by_index;
+pub use reached::{find_by_index, find_by_index_with};

@@ -8,7 +8,7 @@ ghost use Rattle.plain_exchange.specs.State.{State};
 ghost use Rattle.rtb_types.specs.declared.request.Imp.{Imp as Impression};
 
 use assign::assignment;
-use conj_index::Index;
+use conj_index::{Index, Scratch};
 use plain_exchange::Command;
 use rtb_base::Steps;
 use rtb_num::List;
@@ -30,8 +30,23 @@ pub fn find_by_index<L: Ledger>(
     ensures answer { IfOk result (λ found. (s : State) → IsIndexOf (live_expressions (listed s)) index.now → found.items ≡ found_of s command.now) }
     ensures cost { steps.new ≤ steps.old + reach_cost index.now command.now }
 {
+    let mut scratch = Scratch::new(alloc);
+    find_by_index_with(alloc, &mut scratch, index, command, steps)
+}
+
+/// The same, in room that is kept from find to find.
+pub fn find_by_index_with<L: Ledger>(
+    alloc: Global,
+    scratch: &mut Scratch,
+    index: &Index,
+    command: &Command,
+    steps: &mut Steps<L>,
+) -> Result<Vec<List<u32>>, AllocError>
+    ensures answer { IfOk result (λ found. (s : State) → IsIndexOf (live_expressions (listed s)) index.now → found.items ≡ found_of s command.now) }
+    ensures cost { steps.new ≤ steps.old + reach_cost index.now command.now }
+{
     match command {
-        Command::Auction(request) => find_for_imps(alloc, index, request, steps),
+        Command::Auction(request) => find_for_imps(alloc, scratch, index, request, steps),
         _ => Ok(Vec::new(alloc)),
     }
 }
@@ -39,6 +54,7 @@ pub fn find_by_index<L: Ledger>(
 // The numbers for each impression.
 fn find_for_imps<L: Ledger>(
     alloc: Global,
+    scratch: &mut Scratch,
     index: &Index,
     request: &BidRequest,
     steps: &mut Steps<L>,
@@ -48,7 +64,7 @@ fn find_for_imps<L: Ledger>(
 {
     let mut found = Vec::with_capacity(alloc, request.imps.len())?;
     for imp in 0..request.imps.len() {
-        let numbers = find_for_imp(alloc, index, request, imp, steps)?;
+        let numbers = find_for_imp(alloc, scratch, index, request, imp, steps)?;
         found.push(numbers)?;
     }
     Ok(found)
@@ -57,6 +73,7 @@ fn find_for_imps<L: Ledger>(
 // The numbers for the impression at the place.
 fn find_for_imp<L: Ledger>(
     alloc: Global,
+    scratch: &mut Scratch,
     index: &Index,
     request: &BidRequest,
     imp: usize,
@@ -67,6 +84,6 @@ fn find_for_imp<L: Ledger>(
     ensures cost { (i : Impression) → slice_get request.now.imps imp ≡ Some i → steps.new ≤ steps.old + imp_cost index.now request.now i }
 {
     let assignment = assignment(alloc, request, imp)?;
-    let numbers = index.find(alloc, &assignment, steps)?;
+    let numbers = index.find_with(alloc, scratch, &assignment, steps)?;
     Ok(numbers)
 }

@@ -14,6 +14,9 @@ pub(crate) struct RequestDraws {
     pub system: Option<u32>,
 }
 
+// A body has fewer bytes than this, so its memory is taken once.
+const ROOM: usize = 128;
+
 pub(crate) fn write_request(
     alloc: Global,
     number: u32,
@@ -21,7 +24,7 @@ pub(crate) fn write_request(
 ) -> Result<Txt, AllocError>
     ensures { IfOk result (λ body. body ≡ request_text number draws) }
 {
-    let mut body = Txt::new(alloc);
+    let mut body = Txt::from_vec(Vec::with_capacity(alloc, ROOM)?);
     put_number(b"{\"id\":\"r", number, b"\",", &mut body)?;
     put_price(
         b"\"imp\":[{\"id\":\"1\",\"bidfloor\":",

@@ -1,3 +1,4 @@
+pub mod Drawn
 pub mod Held
 pub mod Keeping
 pub mod Lines

@@ -98,6 +98,10 @@ pub record IsMade (start n : ℕ) (made : Made) : Type 0 where
   pub no_bid_is : made.no_bid ≡ with_status 204 entries
   pub reserved_is : made.reserved ≡ reserved_in behind.sales
 
+-- the same of a run whose trace is not wanted, which is left out
+abbrev pub IsCounted : ℕ → ℕ → Made → Type 0
+IsCounted start n made = (whole : Made) × IsMade start n whole × (made ≡ record whole { trace = [] })
+
 -- a number behind a text
 unfoldable pub numbered : List ℕ → ℕ → List ℕ
 numbered before n = before ++ decimal n

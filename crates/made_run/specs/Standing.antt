@@ -1,11 +1,12 @@
 -- A run as far as it was gathered. Only private clauses cite this file.
-use Rattle.std.specs.Prelude.{◌≡◌, ℕ, List, Option, None, Some, ⊤}
+use Rattle.std.specs.Prelude.{◌≡◌, ℕ, IfSome, List, [], ◌∷◌, Option, None, Some, ⊤}
 use Rattle.auction_core.specs.Core.{listed}
 use Rattle.conj_index.specs.Content.{IsIndexOf}
 use Rattle.conj_index.specs.declared.index.Index.{Index}
 use Rattle.http_wire.specs.declared.message.Message.{Message}
 use Rattle.live_index.specs.Reached.{live_expressions}
-use Rattle.made_run.specs.Runs.{IsRunOf, header, trace_text, with_status}
+use Rattle.loadgen.specs.Draws.{behind_request}
+use Rattle.made_run.specs.Runs.{IsRunOf, header, request_post, trace_text, with_status}
 use Rattle.made_run.specs.declared.gathering.Gathering.{Gathering}
 use Rattle.plain_exchange.specs.State.{State}
 use Rattle.trace.specs.declared.entry.Entry.{Entry}
@@ -19,9 +20,15 @@ pub record IsReady (g : Gathering) : Type 0 where
 pub record IsSoFar (posts : List (ℕ × Message)) (g : Gathering) : Type 0 where
   pub entries : List Entry
   pub run : IsRunOf posts entries g.core.state
-  pub trace_is : g.trace ≡ trace_text entries
+  -- where it is kept
+  pub trace_is : IfSome g.trace (λ t. t ≡ trace_text entries)
   pub sold_is : g.sold ≡ with_status 200 entries
   pub no_bid_is : g.no_bid ≡ with_status 204 entries
+
+-- requests that are drawn from the state x on, one behind the other, each with its number, and the state behind them
+abbrev pub AreAhead : ℕ → List (ℕ × Message) → ℕ → Type 0
+AreAhead x [] y = y ≡ x
+AreAhead x (p ∷ ps) y = (p.1 ≡ request_post p.0 x) × AreAhead (behind_request x) ps y
 
 -- an index, where there is one, has the campaigns of the state
 abbrev pub Fits : Option Index → State → Type 0

@@ -1,7 +1,20 @@
 //! The answers that were sent, one behind the other. What is read of them is compared with what has to be answered, so
 //! no contract speaks of it here.
+use crate::ahead::Request;
 use rtb_num::Txt;
 use std::alloc::{AllocError, Global};
+
+/// Where the answers of a run come from, in the order of its messages.
+pub(crate) trait Tells {
+    /// Posts the campaigns of the start.
+    fn post_campaigns(&mut self, alloc: Global, start: u64) -> Result<(), AllocError>;
+
+    /// Posts these requests, the first of which stands last, once all answers to the messages before were taken.
+    fn post(&mut self, alloc: Global, requests: &[Request]) -> Result<(), AllocError>;
+
+    /// The next answer.
+    fn next_told(&mut self, alloc: Global) -> Result<Told, AllocError>;
+}
 
 /// An answer as a client reads it.
 #[derive(Drop)]

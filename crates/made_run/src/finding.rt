@@ -11,15 +11,31 @@ ghost use Rattle.plain_exchange.specs.State.{State};
 
 use auction_core::{Command, Core};
 use audit::{account, account_found};
-use command_read::{CommandFault, read_command};
-use conj_index::Index;
-use live_index::{find_by_index, index_of_live};
+use command_read::{CommandFault, Rooms, read_command_in};
+use conj_index::{Index, Scratch};
+use live_index::{find_by_index_with, index_of_live};
 use rtb_base::Steps;
 use rtb_num::List;
 use std::alloc::{AllocError, Global};
 use std::marker::Brand;
 use std::sync::ledger::{Blank, Ledger};
 use trace::{Entry, Header};
+
+/// The room in which bodies are read, and that in which campaigns are found, which are kept from message to message.
+#[derive(Drop)]
+pub(crate) struct Room {
+    rooms: Rooms,
+    scratch: Scratch,
+}
+
+impl Room {
+    pub(crate) fn new(alloc: Global) -> Room {
+        Room {
+            rooms: Rooms::new(alloc),
+            scratch: Scratch::new(alloc),
+        }
+    }
+}
 
 /// The index of the exchange's campaigns.
 pub(crate) fn index_of(alloc: Global, core: &Core) -> Result<Index, AllocError>
@@ -43,6 +59,7 @@ fn index_counted<L: Ledger>(alloc: Global, core: &Core, blank: Blank) -> Result<
 /// a request: there is no answer for any other.
 pub(crate) fn accounts_for(
     alloc: Global,
+    room: &mut Room,
     core: &mut Core,
     index: Option<&Index>,
     header: &Header,
@@ -56,14 +73,30 @@ pub(crate) fn accounts_for(
     ensures fits { IfOk result (λ accounts. accounts ≡ true → Fits (option_copied index.entry) core.new.state) }
 {
     match index {
-        Some(index) => accounts_by(alloc, core, index, header, entry),
-        None => account(alloc, core, header, entry),
+        Some(index) => accounts_by(alloc, room, core, index, header, entry),
+        None => accounts_by_look(alloc, core, header, entry),
     }
+}
+
+// The same by a look at each campaign. It is rare, and has no room in what takes a request's answer.
+#[inline(never)]
+fn accounts_by_look(
+    alloc: Global,
+    core: &mut Core,
+    header: &Header,
+    entry: &Entry,
+) -> Result<bool, AllocError>
+    requires ttl { core.old.ttl ≡ header.now.ttl }
+    ensures leads { IfOk result (λ accounts. LeadsTo header.now core.old.state entry.now (if accounts then Some core.new.state else None)) }
+    ensures ttl { core.new.ttl ≡ core.old.ttl }
+{
+    account(alloc, core, header, entry)
 }
 
 // Whether the entry of a request accounts for its answer, by the index.
 fn accounts_by(
     alloc: Global,
+    room: &mut Room,
     core: &mut Core,
     index: &Index,
     header: &Header,
@@ -76,9 +109,10 @@ fn accounts_by(
     ensures ttl { core.new.ttl ≡ core.old.ttl }
     ensures listed { IfOk result (λ accounts. accounts ≡ true → listed core.new.state ≡ listed core.old.state) }
 {
-    match read_command(alloc, &entry.message) {
+    match read_command_in(alloc, &mut room.rooms, &entry.message) {
         Ok(command) => {
-            let accounts = accounts_command(alloc, core, index, header, entry, &command);
+            let scratch = &mut room.scratch;
+            let accounts = accounts_command(alloc, scratch, core, index, header, entry, &command);
             drop(command);
             accounts
         }
@@ -93,6 +127,7 @@ fn accounts_by(
 // The same, where its message is the command.
 fn accounts_command(
     alloc: Global,
+    scratch: &mut Scratch,
     core: &mut Core,
     index: &Index,
     header: &Header,
@@ -109,7 +144,7 @@ fn accounts_command(
     let Command::Auction(_) = command else {
         return Err(AllocError);
     };
-    let found = found_by::<Brand>(alloc, index, command, Blank::new(1))?;
+    let found = found_by::<Brand>(alloc, scratch, index, command, Blank::new(1))?;
     let accounts = account_found(alloc, core, header, entry, command, found.as_slice());
     drop(found);
     accounts
@@ -118,6 +153,7 @@ fn accounts_command(
 // The campaigns that the command's impressions reach. The steps are not counted.
 fn found_by<L: Ledger>(
     alloc: Global,
+    scratch: &mut Scratch,
     index: &Index,
     command: &Command,
     blank: Blank,
@@ -128,5 +164,5 @@ fn found_by<L: Ledger>(
     ensures { IfOk result (λ found. (s : State) → IsIndexOf (live_expressions (listed s)) index.now → found.items ≡ found_of s command.now) }
 {
     let mut steps = Steps::<L>::new(blank);
-    find_by_index(alloc, index, command, &mut steps)
+    find_by_index_with(alloc, scratch, index, command, &mut steps)
 }

@@ -1,22 +1,22 @@
-//! The trace of a run, from what was sent on its links.
-ghost use Rattle.std.specs.Prelude.{◌≡◌, ◌↔◌, ◌+◌, ◌++◌, ◌∷◌, [], ℕ, IfOk, IsTrue, List as AList, OnOk, Some, false, if◌then◌else◌};
-ghost use Rattle.std.specs.Option.{option_copied};
+//! The trace of a run, from its answers.
+ghost use Rattle.std.specs.Prelude.{◌≡◌, ◌↔◌, ◌+◌, ◌++◌, ◌∷◌, [], ℕ, IfOk, IfSome, IsTrue, List as AList, OnOk, Some, false, reverse, if◌then◌else◌};
+ghost use Rattle.std.specs.Option.{option_copied, option_map};
 ghost use Rattle.auction_core.specs.Core.{listed};
 ghost use Rattle.audit.specs.Accounts.{LeadsTo, passes};
 ghost use Rattle.byte_fields.specs.Encodings.{IsShort};
 ghost use Rattle.conj_index.specs.Content.{IsIndexOf};
 ghost use Rattle.http_wire.specs.declared.message.Message.{Message as AMessage};
 ghost use Rattle.live_index.specs.Reached.{live_expressions};
-ghost use Rattle.made_run.specs.Runs.{IsMade, behind_campaigns, campaigns_from, has_status, post_of, posted, requests_from, reserved_in};
-ghost use Rattle.made_run.specs.Standing.{Fits, IsReady, IsSoFar};
+ghost use Rattle.made_run.specs.Runs.{IsCounted, IsMade, behind_campaigns, campaigns_from, has_status, post_of, posted, requests_from, reserved_in};
+ghost use Rattle.made_run.specs.Standing.{AreAhead, Fits, IsReady, IsSoFar};
 ghost use Rattle.trace.specs.Traces.{entry_bytes, header_bytes};
 
-use crate::answers::{Told, told_at};
-use crate::finding::{accounts_for, index_of};
-use crate::posting::{CAMPAIGNS, next_campaign, next_request};
+use crate::ahead::{Request, draw_ahead, take_first};
+use crate::answers::{Tells, Told};
+use crate::finding::{Room, accounts_for, index_of};
+use crate::posting::{CAMPAIGNS, next_campaign};
 use crate::reserving::{plus, reserved_in};
-use crate::run::Made;
-use crate::serving::{PUBLIC, TTL};
+use crate::run::{Made, PUBLIC, TTL};
 use auction_core::Core;
 use audit::passes;
 use conj_index::Index;
@@ -24,46 +24,74 @@ use http_wire::Message;
 use loadgen::Gen;
 use rtb_num::{Nanos, Txt};
 use std::alloc::{AllocError, Global};
+use std::mem;
 use trace::{Entry, Header, put_entry, put_header};
 
-/// The trace so far, the exchange of one thread behind it, and how many requests were sold and how many were not.
+/// The trace so far where it is kept, the exchange of one thread behind it, and how many requests were sold and how many were not.
 #[derive(Drop)]
 pub(crate) struct Gathering {
     core: Core,
+    room: Room,
     header: Header,
-    trace: Txt,
+    trace: Option<Txt>,
     sold: u64,
     no_bid: u64,
 }
 
-/// Makes a run of what was sent.
-pub(crate) fn gather(
+/// Makes a run of the answers to its messages.
+pub(crate) fn gather<A: Tells>(
     alloc: Global,
     start: u64,
     requests: u32,
-    sent: &[u8],
+    answers: &mut A,
 ) -> Result<Made, AllocError>
     ensures { IfOk result (λ made. IsMade start requests made) }
 {
-    let mut gathering = begin(alloc)?;
-    let reserved = gathering.run(alloc, start, requests, sent);
+    let mut gathering = begin(alloc, true)?;
+    let reserved = gathering.run(alloc, start, requests, answers);
     made_of(gathering, reserved)
 }
 
+/// The same without its trace.
+pub(crate) fn count<A: Tells>(
+    alloc: Global,
+    start: u64,
+    requests: u32,
+    answers: &mut A,
+) -> Result<Made, AllocError>
+    ensures { IfOk result (λ made. IsCounted start requests made) }
+{
+    let mut gathering = begin(alloc, false)?;
+    let reserved = gathering.run(alloc, start, requests, answers);
+    counted_of(alloc, gathering, reserved)
+}
+
 // Nothing was gathered yet.
-fn begin(alloc: Global) -> Result<Gathering, AllocError>
+fn begin(alloc: Global, keeps: bool) -> Result<Gathering, AllocError>
     ensures ready { IfOk result (λ g. IsReady g) }
     ensures none { IfOk result (λ g. IsSoFar [] g) }
 {
     let public = Txt::from_slice(alloc, PUBLIC)?;
-    let trace = begin_trace(alloc, &public)?;
+    let trace = begin_kept(alloc, keeps, &public)?;
     Ok(Gathering {
         core: Core::new(alloc, TTL),
+        room: Room::new(alloc),
         header: Header { ttl: TTL, public },
         trace,
         sold: 0,
         no_bid: 0,
     })
+}
+
+fn begin_kept(alloc: Global, keeps: bool, public: &Txt) -> Result<Option<Txt>, AllocError>
+    requires { IsShort public.now }
+    ensures { IfOk result (λ kept. IfSome kept (λ trace. trace ≡ header_bytes (record { ttl = 300000; public = public.now }))) }
+{
+    if !keeps {
+        return Ok(None);
+    }
+    let trace = begin_trace(alloc, public)?;
+    Ok(Some(trace))
 }
 
 fn begin_trace(alloc: Global, public: &Txt) -> Result<Txt, AllocError>
@@ -81,20 +109,17 @@ fn made_of(gathering: Gathering, reserved: Result<Nanos, AllocError>) -> Result<
 {
     let Gathering {
         core,
+        room,
         header,
         trace,
         sold,
         no_bid,
     } = gathering;
     drop(core);
+    drop(room);
     drop(header);
     match reserved {
-        Ok(reserved) => Ok(Made {
-            trace,
-            sold,
-            no_bid,
-            reserved,
-        }),
+        Ok(reserved) => with_trace(trace, sold, no_bid, reserved),
         Err(AllocError) => {
             drop(trace);
             Err(AllocError)
@@ -102,111 +127,153 @@ fn made_of(gathering: Gathering, reserved: Result<Nanos, AllocError>) -> Result<
     }
 }
 
+// What was made, where its trace was kept.
+fn with_trace(
+    trace: Option<Txt>,
+    sold: u64,
+    no_bid: u64,
+    reserved: Nanos,
+) -> Result<Made, AllocError>
+    ensures { IfOk result (λ made. (trace ≡ Some made.trace) × (made.sold ≡ sold) × (made.no_bid ≡ no_bid) × (made.reserved ≡ reserved)) }
+{
+    match trace {
+        Some(trace) => Ok(Made {
+            trace,
+            sold,
+            no_bid,
+            reserved,
+        }),
+        None => Err(AllocError),
+    }
+}
+
+// The same without its trace.
+fn counted_of(
+    alloc: Global,
+    gathering: Gathering,
+    reserved: Result<Nanos, AllocError>,
+) -> Result<Made, AllocError>
+    ensures { (start n : ℕ) → IfOk reserved (λ r. IsSoFar (posted start n) gathering × (r ≡ reserved_in gathering.core.state.sales)) → IfOk result (λ made. IsCounted start n made) }
+{
+    let sold = gathering.sold;
+    let no_bid = gathering.no_bid;
+    drop(gathering);
+    match reserved {
+        Ok(reserved) => Ok(Made {
+            trace: Txt::new(alloc),
+            sold,
+            no_bid,
+            reserved,
+        }),
+        Err(AllocError) => Err(AllocError),
+    }
+}
+
 impl Gathering {
     // Gathers the answers to all messages. What is reserved behind them.
-    fn run(
+    fn run<A: Tells>(
         &mut self,
         alloc: Global,
         start: u64,
         requests: u32,
-        sent: &[u8],
+        answers: &mut A,
     ) -> Result<Nanos, AllocError>
         requires ready { IsReady self.old }
         requires none { IsSoFar [] self.old }
         ensures { IfOk result (λ r. IsSoFar (posted start requests) self.new × (r ≡ reserved_in self.new.core.state.sales)) }
     {
         let mut drawn = Gen::new(start);
-        let place = self.campaigns(alloc, &mut drawn, sent)?;
-        self.requests(alloc, &mut drawn, requests, sent, place)?;
+        answers.post_campaigns(alloc, start)?;
+        self.campaigns(alloc, &mut drawn, answers)?;
+        self.requests(alloc, &mut drawn, requests, answers)?;
         reserved_in(self.core.book())
     }
 
-    // Gathers the answers to the campaigns. The place behind them.
-    fn campaigns(
+    // Gathers the answers to the campaigns.
+    fn campaigns<A: Tells>(
         &mut self,
         alloc: Global,
         drawn: &mut Gen,
-        sent: &[u8],
-    ) -> Result<usize, AllocError>
+        answers: &mut A,
+    ) -> Result<(), AllocError>
         requires ready { IsReady self.old }
         requires none { IsSoFar [] self.old }
         ensures ready { IsReady self.new }
         ensures gathered { OnOk result (IsSoFar (campaigns_from drawn.old 100) self.new) }
         ensures drawn { OnOk result (drawn.new ≡ behind_campaigns drawn.old 100) }
     {
-        let mut place = 0;
         for _ in 0..CAMPAIGNS {
             let message = next_campaign(alloc, drawn)?;
-            place = self.take(alloc, None, 0, message, sent, place)?;
+            self.take(alloc, None, 0, message, answers)?;
         }
-        Ok(place)
+        Ok(())
     }
 
-    // Gathers the answers to so many requests, from the place on.
-    fn requests(
+    // Gathers the answers to so many requests.
+    fn requests<A: Tells>(
         &mut self,
         alloc: Global,
         drawn: &mut Gen,
         requests: u32,
-        sent: &[u8],
-        place: usize,
+        answers: &mut A,
     ) -> Result<(), AllocError>
         requires ready { IsReady self.old }
         ensures gathered { OnOk result ((posts : AList (ℕ × AMessage)) → IsSoFar posts self.old → IsSoFar (posts ++ requests_from drawn.old 1 requests) self.new) }
     {
         let index = index_of(alloc, &self.core)?;
-        let gathered = self.requests_by(alloc, &index, drawn, requests, sent, place);
+        let mut ahead = Vec::new(alloc);
+        let gathered = self.requests_by(alloc, &index, drawn, &mut ahead, requests, answers);
+        drop(ahead);
         drop(index);
         gathered
     }
 
     // The same, by the index of the campaigns.
-    fn requests_by(
+    fn requests_by<A: Tells>(
         &mut self,
         alloc: Global,
         index: &Index,
         drawn: &mut Gen,
+        ahead: &mut Vec<Request>,
         requests: u32,
-        sent: &[u8],
-        place: usize,
+        answers: &mut A,
     ) -> Result<(), AllocError>
         requires ready { IsReady self.old }
+        requires none { ahead.old.items ≡ [] }
         requires index { IsIndexOf (live_expressions (listed self.old.core.state)) index.now }
         ensures gathered { OnOk result ((posts : AList (ℕ × AMessage)) → IsSoFar posts self.old → IsSoFar (posts ++ requests_from drawn.old 1 requests) self.new) }
     {
-        let mut place = place;
         for done in 0..requests {
+            post_ahead(alloc, drawn, ahead, done, requests, answers)?;
             let number = done + 1;
-            let message = next_request(alloc, drawn, number)?;
+            let message = take_first(ahead, number)?;
             let moment = u64::from(number);
-            place = self.take(alloc, Some(index), moment, message, sent, place)?;
+            self.take(alloc, Some(index), moment, message, answers)?;
         }
         Ok(())
     }
 
-    // Gathers the answer at the place to the message, which is a request where there is an index. The place behind it.
-    fn take(
+    // Gathers the next answer, which is to the message. That is a request where there is an index.
+    fn take<A: Tells>(
         &mut self,
         alloc: Global,
         index: Option<&Index>,
         moment: u64,
         message: Message,
-        sent: &[u8],
-        place: usize,
-    ) -> Result<usize, AllocError>
+        answers: &mut A,
+    ) -> Result<(), AllocError>
         requires ready { IsReady self.old }
         requires fits { Fits (option_copied index) self.old.core.state }
         ensures ready { IsReady self.new }
         ensures fits { OnOk result (Fits (option_copied index.entry) self.new.core.state) }
         ensures one { OnOk result ((posts : AList (ℕ × AMessage)) → IsSoFar posts self.old → IsSoFar (posts ++ (moment, message) ∷ []) self.new) }
     {
-        match told_at(alloc, sent, place) {
-            Ok((told, next)) => {
+        match answers.next_told(alloc) {
+            Ok(told) => {
                 let entry = entry_of(moment, message, told);
                 let put = self.put(alloc, index, &entry);
                 drop(entry);
-                put?;
-                Ok(next)
+                put
             }
             Err(AllocError) => {
                 drop(message);
@@ -223,11 +290,41 @@ impl Gathering {
         ensures fits { OnOk result (Fits (option_copied index.entry) self.new.core.state) }
         ensures one { OnOk result ((posts : AList (ℕ × AMessage)) → IsSoFar posts self.old → IsSoFar (posts ++ post_of entry.now ∷ []) self.new) }
     {
-        judge(alloc, &mut self.core, index, &self.header, entry)?;
+        judge(
+            alloc,
+            &mut self.room,
+            &mut self.core,
+            index,
+            &self.header,
+            entry,
+        )?;
         self.sold = counted(self.sold, has_status(entry, 200))?;
         self.no_bid = counted(self.no_bid, has_status(entry, 204))?;
-        put(entry, &mut self.trace)
+        keep(entry, &mut self.trace)
     }
+}
+
+// The most requests that are posted together.
+const MOST_MESSAGES: u32 = 1_000;
+
+// Draws the next requests behind so many, and posts them, where those that were drawn before are taken.
+fn post_ahead<A: Tells>(
+    alloc: Global,
+    drawn: &mut Gen,
+    ahead: &mut Vec<Request>,
+    done: u32,
+    requests: u32,
+    answers: &mut A,
+) -> Result<(), AllocError>
+    ensures { OnOk result ((x : ℕ) → AreAhead x (reverse ahead.old.items) drawn.old → AreAhead x (reverse ahead.new.items) drawn.new) }
+{
+    if !ahead.is_empty() {
+        return Ok(());
+    }
+    let until = requests.min(done.saturating_add(MOST_MESSAGES));
+    let next = draw_ahead(alloc, drawn, done, until)?;
+    drop(mem::replace(ahead, next));
+    answers.post(alloc, ahead.as_slice())
 }
 
 fn entry_of(moment: u64, message: Message, told: Told) -> Entry
@@ -246,6 +343,7 @@ fn entry_of(moment: u64, message: Message, told: Told) -> Entry
 // none of a run.
 fn judge(
     alloc: Global,
+    room: &mut Room,
     core: &mut Core,
     index: Option<&Index>,
     header: &Header,
@@ -261,7 +359,7 @@ fn judge(
     if passes(entry) {
         return Err(AllocError);
     }
-    let accounts = accounts_for(alloc, core, index, header, entry)?;
+    let accounts = accounts_for(alloc, room, core, index, header, entry)?;
     if !accounts {
         return Err(AllocError);
     }
@@ -280,6 +378,16 @@ fn counted(count: u64, holds: bool) -> Result<u64, AllocError>
     ensures { IfOk result (λ n. n ≡ count + (if holds then 1 else 0)) }
 {
     plus(count, u64::from(holds))
+}
+
+// Appends the entry to a trace that is kept.
+fn keep(entry: &Entry, trace: &mut Option<Txt>) -> Result<(), AllocError>
+    ensures { OnOk result (trace.new ≡ option_map (λ t. t ++ entry_bytes entry.now) trace.old) }
+{
+    match trace {
+        Some(trace) => put(entry, trace),
+        None => Ok(()),
+    }
 }
 
 // Appends the entry, whose texts are short.

@@ -6,7 +6,9 @@
 //! what is told of it.
 #![tactic(auto)]
 
+mod ahead;
 mod answers;
+mod disk;
 mod finding;
 mod gathering;
 mod posting;
@@ -14,4 +16,4 @@ mod reserving;
 mod run;
 mod serving;
 
-pub use run::{Made, make_run, put_counts};
+pub use run::{Made, count_run, make_run, put_counts};

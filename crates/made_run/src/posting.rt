@@ -5,7 +5,7 @@ ghost use Rattle.made_run.specs.Runs.{campaign_post, post, request_post};
 
 use http_wire::Message;
 use loadgen::Gen;
-use rtb_num::{Txt, write_decimal};
+use rtb_num::Txt;
 use std::alloc::{AllocError, Global};
 
 /// How many campaigns there are.
@@ -46,16 +46,4 @@ fn post(alloc: Global, target: &[u8], body: Txt) -> Result<Message, AllocError>
         body,
         closes: false,
     })
-}
-
-/// Appends the message as a client sends it (RFC 9112, section 2.1).
-pub(crate) fn put_message(message: &Message, out: &mut Txt) -> Result<(), AllocError> {
-    out.extend(message.method.as_bytes())?;
-    out.extend(b" ")?;
-    out.extend(message.target.as_bytes())?;
-    out.extend(b" HTTP/1.1\r\nHost: make.example\r\nContent-Length: ")?;
-    write_decimal(message.body.len() as u64, out)?;
-    out.extend(b"\r\n\r\n")?;
-    out.extend(message.body.as_bytes())?;
-    Ok(())
 }

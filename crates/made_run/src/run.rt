@@ -1,17 +1,32 @@
 //! The run of a start, with its trace and its counts.
-ghost use Rattle.std.specs.Prelude.{◌≡◌, ◌++◌, IfOk, OnOk};
-ghost use Rattle.made_run.specs.Runs.{IsMade, counts_line, numbered, reserved_text};
+ghost use Rattle.std.specs.Prelude.{◌≡◌, ◌<◌, ◌++◌, IfOk, OnOk, false, true};
+ghost use Rattle.exchange_shared.specs.Seats.{MayCall, lock_of};
+ghost use Rattle.hist_lock.specs.Views.{first_seat};
+ghost use Rattle.made_run.specs.Runs.{IsCounted, IsMade, counts_line, numbered, reserved_text};
 
-use crate::gathering::gather;
-use crate::serving::serve_run;
+use crate::answers::Tells;
+use crate::disk::RunDisk;
+use crate::gathering::{count, gather};
+use crate::serving::Server;
+use exchange_shared::{Exchange, Seat};
+use rtb_base::Steps;
+use rtb_disk::Disk;
 use rtb_num::{Nanos, Txt, write_decimal, write_nanos};
 use std::alloc::{AllocError, Global};
+use std::marker::Brand;
 use std::sync::Wait;
+use std::sync::ledger::{Blank, Ledger};
+
+/// For how many milliseconds a sale is held.
+pub(crate) const TTL: u64 = 300_000;
+
+/// What the addresses of notices begin with.
+pub(crate) const PUBLIC: &[u8] = b"http://make.example";
 
 /// What a run comes to.
 #[derive(Drop)]
 pub struct Made {
-    /// Its trace (`docs/FORMATS.md`).
+    /// Its trace (`docs/FORMATS.md`), empty where it was counted alone.
     pub trace: Txt,
     /// How many requests were sold.
     pub sold: u64,
@@ -21,7 +36,7 @@ pub struct Made {
     pub reserved: Nanos,
 }
 
-/// Makes the run of the start, with so many requests: 0 to 100,000. More have no room on the links, and there is no run.
+/// Makes the run of the start, with so many requests.
 ///
 /// An answer that is not the one of an exchange of one thread was given for want of memory, and so there is no run then.
 pub fn make_run<R: Wait>(
@@ -32,8 +47,115 @@ pub fn make_run<R: Wait>(
 ) -> Result<Made, AllocError>
     ensures made { IfOk result (λ made. IsMade start requests made) }
 {
-    let sent = serve_run(alloc, rt, start, requests)?;
-    gather(alloc, start, requests, sent.as_bytes())
+    make(alloc, rt, start, requests, true)
+}
+
+/// The same without its trace, which is not kept in memory then.
+pub fn count_run<R: Wait>(
+    alloc: Global,
+    rt: &R,
+    start: u64,
+    requests: u32,
+) -> Result<Made, AllocError>
+    ensures counted { IfOk result (λ made. IsCounted start requests made) }
+{
+    make(alloc, rt, start, requests, false)
+}
+
+// Makes the run, and keeps its trace or not.
+fn make<R: Wait>(
+    alloc: Global,
+    rt: &R,
+    start: u64,
+    requests: u32,
+    keeps: bool,
+) -> Result<Made, AllocError>
+    ensures made { keeps ≡ true → IfOk result (λ made. IsMade start requests made) }
+    ensures counted { keeps ≡ false → IfOk result (λ made. IsCounted start requests made) }
+{
+    let public = Txt::from_slice(alloc, PUBLIC)?;
+    let disk = RunDisk::new(alloc);
+    make_on::<RunDisk, Brand, R>(
+        alloc,
+        rt,
+        start,
+        requests,
+        keeps,
+        &public,
+        disk,
+        Blank::new(1),
+    )
+}
+
+// Opens an exchange on the disk, and makes the run over it. The steps are not counted.
+fn make_on<D: Disk + Drop, L: Ledger, R: Wait>(
+    alloc: Global,
+    rt: &R,
+    start: u64,
+    requests: u32,
+    keeps: bool,
+    public: &Txt,
+    disk: D,
+    blank: Blank,
+) -> Result<Made, AllocError>
+    requires name { blank.name ≡ L.name }
+    requires parts { blank.parts ≡ L.parts }
+    requires some { 0 < blank.parts }
+    ensures made { keeps ≡ true → IfOk result (λ made. IsMade start requests made) }
+    ensures counted { keeps ≡ false → IfOk result (λ made. IsCounted start requests made) }
+{
+    let mut steps = Steps::<L>::new(blank);
+    match Exchange::start(alloc, disk, TTL, &mut steps) {
+        Ok((exchange, seat)) => {
+            let made = make_with(alloc, rt, start, requests, keeps, public, &exchange, seat);
+            drop(exchange);
+            made
+        }
+        Err((disk, _)) => {
+            drop(disk);
+            Err(AllocError)
+        }
+    }
+}
+
+// The same, over an exchange that was opened. It and its disk are of no use then.
+fn make_with<D: Disk + Drop, R: Wait>(
+    alloc: Global,
+    rt: &R,
+    start: u64,
+    requests: u32,
+    keeps: bool,
+    public: &Txt,
+    exchange: &Exchange<D>,
+    seat: Seat<D>,
+) -> Result<Made, AllocError>
+    requires seat { MayCall (lock_of exchange.now) seat }
+    requires first { seat ≡ first_seat (lock_of exchange.now) seat.origin }
+    ensures made { keeps ≡ true → IfOk result (λ made. IsMade start requests made) }
+    ensures counted { keeps ≡ false → IfOk result (λ made. IsCounted start requests made) }
+{
+    let mut server = Server::new(rt, exchange, seat, public);
+    let made = made_by(alloc, start, requests, keeps, &mut server);
+    drop(server);
+    made
+}
+
+// The run that these answers make.
+fn made_by<A: Tells>(
+    alloc: Global,
+    start: u64,
+    requests: u32,
+    keeps: bool,
+    answers: &mut A,
+) -> Result<Made, AllocError>
+    ensures made { keeps ≡ true → IfOk result (λ made. IsMade start requests made) }
+    ensures counted { keeps ≡ false → IfOk result (λ made. IsCounted start requests made) }
+{
+    if keeps {
+        gather(alloc, start, requests, answers)
+    } else {
+        count(alloc, start, requests, answers)
+    }
 }
 
 /// Appends the line that tells the counts.

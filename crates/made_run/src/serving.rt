@@ -1,179 +1,236 @@
-//! The messages of a run served over links in memory, by one worker of an exchange whose journal is in memory.
-ghost use Rattle.std.specs.Prelude.{◌≡◌, ◌≢◌, ◌<◌, [], IfOk, length};
+//! The messages of a run served over links in memory, one link after the other, by one worker of an exchange whose journal
+//! is in memory. A link is made when all answers of the one before are taken, which is let go then.
+ghost use Rattle.std.specs.Prelude.{◌≡◌, ◌≢◌, [], IfOk};
 ghost use Rattle.exchange_shared.specs.Seats.{MayCall, lock_of};
-ghost use Rattle.hist_lock.specs.Views.{first_seat};
 
-use crate::posting::{CAMPAIGNS, next_campaign, next_request, put_message};
+use crate::ahead::Request;
+use crate::answers::{Tells, Told, told_at};
+use crate::posting::CAMPAIGNS;
 use door_worker::{DoorEnd, serve_door};
 use exchange_shared::{Exchange, Seat};
 use link_door::{Door, MemDoor, MemLink, NoPause};
 use loadgen::Gen;
-use rtb_base::Steps;
-use rtb_disk::{Disk, MemDisk};
-use rtb_num::{List, Txt};
+use rtb_disk::Disk;
+use rtb_num::{List, Txt, write_decimal};
 use std::alloc::{AllocError, Global};
-use std::marker::Brand;
+use std::marker::Model;
+use std::mem;
 use std::sync::Wait;
-use std::sync::ledger::{Blank, Ledger};
 
-/// For how many milliseconds a sale is held.
-pub(crate) const TTL: u64 = 300_000;
-
-/// What the addresses of notices begin with.
-pub(crate) const PUBLIC: &[u8] = b"http://make.example";
-
-// The most messages of a link.
-const MOST_MESSAGES: u32 = 1_000;
-
-/// Serves so many requests behind the campaigns of this start, 100,000 at most. All that was sent, link after link.
-pub(crate) fn serve_run<R: Wait>(
-    alloc: Global,
-    rt: &R,
-    start: u64,
-    requests: u32,
-) -> Result<Txt, AllocError> {
-    let public = Txt::from_slice(alloc, PUBLIC)?;
-    let mut door = make_door(alloc, start, requests)?;
-    let disk = MemDisk::new(alloc, Txt::new(alloc), List::new(alloc));
-    let served = serve_on::<MemDisk, MemDoor, Brand, R>(
-        alloc,
-        rt,
-        &public,
-        disk,
-        Blank::new(1),
-        &mut door,
-    );
-    let sent = sent_on(alloc, &door);
-    drop(door);
-    served?;
-    sent
+/// A worker that serves a run, one link after the other, and tells its answers.
+#[derive(Drop)]
+pub(crate) struct Server<'e, D: Disk, R: Wait> {
+    rt: &'e R,
+    public: &'e Txt,
+    clerk: Clerk<'e, D>,
+    // The link that was served last.
+    door: Option<MemDoor>,
+    // Where the next answer stands in what was sent on it.
+    place: usize,
 }
 
-// Opens an exchange on the disk, and serves the door to its end.
-fn serve_on<D: Disk + Drop, G: Door, L: Ledger, R: Wait>(
-    alloc: Global,
-    rt: &R,
-    public: &Txt,
-    disk: D,
-    blank: Blank,
-    door: &mut G,
-) -> Result<(), AllocError>
-    requires name { blank.name ≡ L.name }
-    requires parts { blank.parts ≡ L.parts }
-    requires some { 0 < blank.parts }
-{
-    // They are not counted.
-    let mut steps = Steps::<L>::new(blank);
-    match Exchange::start(alloc, disk, TTL, &mut steps) {
-        Ok((exchange, seat)) => serve_with(alloc, rt, public, exchange, seat, door),
-        Err((disk, _)) => {
-            drop(disk);
-            Err(AllocError)
+impl<'e, D: Disk, R: Wait> Server<'e, D, R> {
+    /// Nothing was served yet. `public` is what the addresses of notices begin with.
+    pub(crate) fn new(
+        rt: &'e R,
+        exchange: &'e Exchange<D>,
+        seat: Seat<D>,
+        public: &'e Txt,
+    ) -> Server<'e, D, R>
+        requires seat { MayCall (lock_of exchange.now) seat }
+        requires first { seat.worker ≡ 0 }
+    {
+        Server {
+            rt,
+            public,
+            clerk: Clerk {
+                exchange,
+                seat: Some(seat),
+            },
+            door: None,
+            place: 0,
+        }
+    }
+
+    // Serves the link of the door, and lets the one before go. A link is rare, and what is made for it has no room in
+    // what takes an answer.
+    #[inline(never)]
+    fn serve(&mut self, alloc: Global, door: MemDoor) -> Result<(), AllocError> {
+        let mut door = door;
+        let end = self.clerk.serve(alloc, self.rt, self.public, &mut door);
+        drop(mem::replace(&mut self.door, Some(door)));
+        self.place = 0;
+        match end {
+            DoorEnd::Served => Ok(()),
+            DoorEnd::Failed => Err(AllocError),
         }
     }
 }
 
-// The same, over an exchange that was opened. It and its disk are of no use then.
-fn serve_with<D: Disk + Drop, G: Door, R: Wait>(
-    alloc: Global,
+impl<'e, D: Disk, R: Wait> Tells for Server<'e, D, R> {
+    fn post_campaigns(&mut self, alloc: Global, start: u64) -> Result<(), AllocError> {
+        let door = campaigns_door(alloc, start)?;
+        self.serve(alloc, door)
+    }
+
+    fn post(&mut self, alloc: Global, requests: &[Request]) -> Result<(), AllocError> {
+        let door = requests_door(alloc, requests)?;
+        self.serve(alloc, door)
+    }
+
+    fn next_told(&mut self, alloc: Global) -> Result<Told, AllocError> {
+        let Some(door) = &self.door else {
+            return Err(AllocError);
+        };
+        let (told, next) = told_at(alloc, sent_on(door), self.place)?;
+        self.place = next;
+        Ok(told)
+    }
+}
+
+// An exchange, and the seat of its one worker.
+#[derive(Drop)]
+struct Clerk<'e, D: Disk> {
+    exchange: &'e Exchange<D>,
+    // None while a call has it.
+    seat: Option<Seat<D>>,
+}
+
+impl<'e, D: Disk> Model for Clerk<'e, D> {
+    ghost use Rattle.std.specs.Prelude.{◌≡◌, IfSome};
+    ghost use Rattle.atomic_table.specs.Seated.{TableId};
+    ghost use Rattle.exchange_shared.specs.Seats.{MayCall, lock_of};
+
+    ghost Value = { TableId };
+
+    ghost view = { λ c. lock_of c.exchange.now };
+
+    ghost invariant = { λ c. IfSome c.seat (λ s. MayCall (lock_of c.exchange.now) s × (s.worker ≡ 0)) };
+}
+
+impl<'e, D: Disk> Clerk<'e, D> {
+    // Serves the links of the door.
+    fn serve<R: Wait>(
+        &mut self,
+        alloc: Global,
+        rt: &R,
+        public: &Txt,
+        door: &mut MemDoor,
+    ) -> DoorEnd {
+        let Some(seat) = self.seat.take() else {
+            return DoorEnd::Failed;
+        };
+        let (seat, end) = serve_with(self.exchange, rt, alloc, public, seat, door);
+        match mem::replace(&mut self.seat, Some(seat)) {
+            None => end,
+            Some(_) => unreachable!(),
+        }
+    }
+}
+
+// Serves the links of the door with the seat.
+fn serve_with<D: Disk, R: Wait>(
+    exchange: &Exchange<D>,
     rt: &R,
+    alloc: Global,
     public: &Txt,
-    exchange: Exchange<D>,
     seat: Seat<D>,
-    door: &mut G,
-) -> Result<(), AllocError>
-    requires seat { MayCall (lock_of exchange) seat }
-    requires first { seat ≡ first_seat (lock_of exchange) seat.origin }
+    door: &mut MemDoor,
+) -> (Seat<D>, DoorEnd)
+    requires seat { MayCall (lock_of exchange.now) seat }
+    requires first { seat.worker ≡ 0 }
+    ensures seat { MayCall (lock_of exchange.now) result.0 }
+    ensures first { result.0.worker ≡ 0 }
 {
-    let (seat, end) = serve_door(&exchange, rt, alloc, 0, &NoPause, public, seat, door);
-    drop(seat);
-    drop(exchange);
-    match end {
-        DoorEnd::Served => Ok(()),
-        DoorEnd::Failed => Err(AllocError),
+    serve_door(exchange, rt, alloc, 0, &NoPause, public, seat, door)
+}
+
+// What was sent on the one link of the door.
+fn sent_on(door: &MemDoor) -> &[u8] {
+    match door.served().as_slice().first() {
+        Some(link) => link.sent().as_bytes(),
+        None => b"",
     }
 }
 
-// All that was sent on the links of the door, one after the other.
-fn sent_on(alloc: Global, door: &MemDoor) -> Result<Txt, AllocError> {
-    let mut sent = Txt::new(alloc);
-    for link in door.served().as_slice() {
-        sent.extend(link.sent().as_bytes())?;
-    }
-    Ok(sent)
+// All campaigns come at moment 0.
+fn campaigns_door(alloc: Global, start: u64) -> Result<MemDoor, AllocError> {
+    let text = campaigns_text(alloc, start)?;
+    let moments = with_moment(List::new(alloc), 0)?;
+    door_with(alloc, text, moments)
 }
 
-// A door with the campaigns on its first link, and the requests on those behind it.
-fn make_door(alloc: Global, start: u64, requests: u32) -> Result<MemDoor, AllocError> {
-    let links = make_links(alloc, start, requests)?;
-    let moments = make_moments(alloc, requests)?;
+// A door with these requests, the first of which stands last, each at the moment that is its number.
+fn requests_door(alloc: Global, requests: &[Request]) -> Result<MemDoor, AllocError> {
+    let text = requests_text(alloc, requests)?;
+    let moments = request_moments(alloc, requests)?;
+    door_with(alloc, text, moments)
+}
+
+fn door_with(alloc: Global, text: Txt, moments: List<u64>) -> Result<MemDoor, AllocError>
+    requires some { moments ≢ [] }
+{
+    let mut links = List::new(alloc);
+    links.push(MemLink::new(alloc, text, List::new(alloc)))?;
     MemDoor::new(alloc, links, moments, List::new(alloc))
 }
 
-// The campaigns come at moment 0, and each request at the moment that is its number.
-fn make_moments(alloc: Global, requests: u32) -> Result<List<u64>, AllocError>
-    ensures { IfOk result (λ moments. moments ≢ []) }
+// The moments of these requests, and one behind them.
+fn request_moments(alloc: Global, requests: &[Request]) -> Result<List<u64>, AllocError>
+    ensures some { IfOk result (λ moments. moments ≢ []) }
 {
-    let mut moments = campaign_moments(alloc)?;
-    for done in 0..requests {
-        moments.push(u64::from(done) + 1)?;
+    let mut moments = List::with_capacity(alloc, requests.len().saturating_add(1))?;
+    for request in requests.iter().rev() {
+        moments.push(u64::from(request.0))?;
     }
+    with_moment(moments, 0)
+}
+
+fn with_moment(moments: List<u64>, moment: u64) -> Result<List<u64>, AllocError>
+    ensures some { IfOk result (λ all. all ≢ []) }
+{
+    let mut moments = moments;
+    moments.push(moment)?;
     Ok(moments)
 }
 
-fn campaign_moments(alloc: Global) -> Result<List<u64>, AllocError>
-    ensures { IfOk result (λ moments. length moments ≡ 100) }
-{
-    let mut moments = List::new(alloc);
-    for _ in 0..CAMPAIGNS {
-        moments.push(0)?;
-    }
-    Ok(moments)
-}
+// A message has about so many bytes.
+const ROOM: usize = 256;
 
-// The most links with requests.
-const MOST_LINKS: u32 = 100;
+// What a client sends before the length of a body (RFC 9112, section 2.1).
+const CAMPAIGN_HEAD: &[u8] = b"POST /campaign HTTP/1.1\r\nHost: make.example\r\nContent-Length: ";
 
-fn make_links(alloc: Global, start: u64, requests: u32) -> Result<List<MemLink>, AllocError> {
+const REQUEST_HEAD: &[u8] =
+    b"POST /openrtb2/auction HTTP/1.1\r\nHost: make.example\r\nContent-Length: ";
+
+fn campaigns_text(alloc: Global, start: u64) -> Result<Txt, AllocError> {
     let mut drawn = Gen::new(start);
-    let mut links = List::new(alloc);
-    let campaigns = campaigns_link(alloc, &mut drawn)?;
-    links.push(campaigns)?;
-    for place in 0..MOST_LINKS {
-        let done = place * MOST_MESSAGES;
-        if done < requests {
-            let until = requests.min(done + MOST_MESSAGES);
-            let link = requests_link(alloc, &mut drawn, done, until)?;
-            links.push(link)?;
-        }
-    }
-    Ok(links)
-}
-
-fn campaigns_link(alloc: Global, drawn: &mut Gen) -> Result<MemLink, AllocError> {
-    let mut text = Txt::new(alloc);
+    let mut text = text_with_room(alloc, CAMPAIGNS as usize)?;
     for _ in 0..CAMPAIGNS {
-        let message = next_campaign(alloc, drawn)?;
-        let put = put_message(&message, &mut text);
-        drop(message);
-        put?;
+        let body = drawn.campaign(alloc)?;
+        put_message(CAMPAIGN_HEAD, &body, &mut text)?;
     }
-    Ok(MemLink::new(alloc, text, List::new(alloc)))
+    Ok(text)
 }
 
-// A link with the requests behind so many, up to so many.
-fn requests_link(
-    alloc: Global,
-    drawn: &mut Gen,
-    done: u32,
-    until: u32,
-) -> Result<MemLink, AllocError> {
-    let mut text = Txt::new(alloc);
-    for before in done..until {
-        let message = next_request(alloc, drawn, before + 1)?;
-        let put = put_message(&message, &mut text);
-        drop(message);
-        put?;
+fn requests_text(alloc: Global, requests: &[Request]) -> Result<Txt, AllocError> {
+    let mut text = text_with_room(alloc, requests.len())?;
+    for request in requests.iter().rev() {
+        put_message(REQUEST_HEAD, &request.1.body, &mut text)?;
     }
-    Ok(MemLink::new(alloc, text, List::new(alloc)))
+    Ok(text)
+}
+
+// An empty text with room for so many messages.
+fn text_with_room(alloc: Global, messages: usize) -> Result<Txt, AllocError> {
+    let bytes = Vec::with_capacity(alloc, messages.saturating_mul(ROOM))?;
+    Ok(Txt::from_vec(bytes))
+}
+
+// Appends the message with this head.
+fn put_message(head: &[u8], body: &Txt, out: &mut Txt) -> Result<(), AllocError> {
+    out.extend(head)?;
+    write_decimal(body.len() as u64, out)?;
+    out.extend(b"\r\n\r\n")?;
+    out.extend(body.as_bytes())
 }

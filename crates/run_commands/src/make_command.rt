@@ -1,14 +1,14 @@
 //! The command `make`: a run that anybody can repeat, or its trace.
-ghost use Rattle.std.specs.Prelude.{◌≡◌, IfOk};
+ghost use Rattle.std.specs.Prelude.{◌≡◌, IfOk, false, true};
 ghost use Rattle.rtb_base.specs.Faults.{RisesOnlyWhere};
 ghost use Rattle.rtb_io.specs.Statuses.{code_of};
 ghost use Rattle.rtb_io.specs.declared.status.Status.TheVariants.{Done, NotWritten};
-ghost use Rattle.made_run.specs.Runs.{IsMade, counts_line};
+ghost use Rattle.made_run.specs.Runs.{IsCounted, IsMade, counts_line};
 ghost use Rattle.run_commands.specs.Audit.{EndsNumbered};
 ghost use Rattle.run_commands.specs.Make.{RunsMake, text_of};
 
 use crate::status_lines::{end_with, tell};
-use made_run::{Made, make_run, put_counts};
+use made_run::{Made, count_run, make_run, put_counts};
 use rtb_io::Status;
 use rtb_num::{Sink, Txt};
 use run_words::MakeOptions;
@@ -33,13 +33,18 @@ pub fn make<K: Sink, R: Wait>(alloc: Global, options: &MakeOptions, sink: &mut K
     }
 }
 
-// The words give 100,000 requests at most.
+// The words give 100,000 requests at most. A trace that is not wanted is not kept.
 fn made<R: Wait>(alloc: Global, options: &MakeOptions, rt: &R) -> Result<Made, AllocError>
-    ensures { IfOk result (λ made. IsMade options.now.start options.now.requests made) }
+    ensures traced { options.now.trace ≡ true → IfOk result (λ made. IsMade options.now.start options.now.requests made) }
+    ensures counted { options.now.trace ≡ false → IfOk result (λ made. IsCounted options.now.start options.now.requests made) }
 {
-    match u32::try_from(options.requests) {
-        Ok(requests) => make_run(alloc, rt, options.start, requests),
-        Err(_) => Err(AllocError),
+    let Ok(requests) = u32::try_from(options.requests) else {
+        return Err(AllocError);
+    };
+    if options.trace {
+        make_run(alloc, rt, options.start, requests)
+    } else {
+        count_run(alloc, rt, options.start, requests)
     }
 }
 

@@ -8,4 +8,4 @@ returns-clause-one c =
     let sold = c.in_ok-self.ensures ∙ ap (λ (b : Bool). c.args.self.now.sold + (if b then 1 else 0)) c.has_status.ensures in
     let no_bid = c.in_ok-self-2.ensures ∙ ap (λ (b : Bool). c.args.self.now.no_bid + (if b then 1 else 0)) c.has_status-2.ensures in
     let judged = c.in_ok-judge.ensures in
-    on_ok c.put.result _ _ c.put.ensures (λ trace. one_more c.args.self.now _ c.args.entry.now c.requires.ready judged.leads judged.answered trace sold no_bid)
+    on_ok c.keep.result _ _ c.keep.ensures (λ trace. one_more c.args.self.now _ c.args.entry.now c.requires.ready judged.leads judged.answered trace sold no_bid)
