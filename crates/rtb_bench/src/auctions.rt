@@ -5,14 +5,20 @@
 //! the campaigns, the auction is prepared and carried out, and the answer is written. There is an auction each
 //! millisecond, and sales are held for a second.
 //!
-//! The exchange is that of one worker and its index, or it is the state that workers share, which has both.
+//! The exchange is that of one worker and its index, or it is the state that workers share, which has both. Instead of
+//! these campaigns it may have those that `rtbx make` draws, and be asked what `rtbx make` posts (`drawn.rt`).
 mod campaigns;
+mod drawn;
 mod shop;
 mod state_shop;
 
+ghost use Rattle.std.specs.Prelude.{IfOk, IfSome};
+ghost use Rattle.http_wire.specs.Answers.{IsWritable};
+
 use campaigns::message_of;
-pub use campaigns::{TTL, campaign_command};
-use http_wire::Message;
+pub use campaigns::{SiteCampaigns, TTL, campaign_command};
+pub use drawn::{DRAWN_CAMPAIGNS, DRAWN_TTL, DrawnShop};
+use http_wire::{Answer, Message};
 use rtb_num::Txt;
 pub use shop::Shop;
 pub use state_shop::StateShop;
@@ -20,8 +26,9 @@ use std::alloc::{AllocError, Global};
 
 /// An exchange that is asked.
 pub trait Asked {
-    /// The status of the answer to the message, or 0 where it asks for something else than an auction.
-    fn ask(&mut self, alloc: Global, message: &Message) -> Result<u16, AllocError>;
+    /// The answer to the message, or none where it asks for something else than an auction.
+    fn ask(&mut self, alloc: Global, message: &Message) -> Result<Option<Answer>, AllocError>
+        ensures writable { IfOk result (λ answer. IfSome answer IsWritable) };
 }
 
 /// Asks the request so many times. The status of the last answer, or 0 where there was none.
@@ -35,7 +42,19 @@ pub fn ask_times<S: Asked>(
     let message = message_of(alloc, b"/openrtb2/auction", body)?;
     let mut status = 0;
     for _ in 0..times {
-        status = shop.ask(alloc, &message)?;
+        status = status_of(shop.ask(alloc, &message)?);
     }
     Ok(status)
+}
+
+// The status of an answer, or 0 where there is none.
+fn status_of(answer: Option<Answer>) -> u16 {
+    match answer {
+        Some(answer) => {
+            let status = answer.status;
+            drop(answer);
+            status
+        }
+        None => 0,
+    }
 }

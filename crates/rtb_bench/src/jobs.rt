@@ -1,12 +1,15 @@
 //! The jobs. Each answers how it ended.
 use crate::appends::{Outcome, append_blocks};
-use crate::auctions::{Asked, Shop, StateShop, ask_times};
+use crate::auctions::{
+    Asked, DRAWN_CAMPAIGNS, DRAWN_TTL, DrawnShop, Shop, SiteCampaigns, StateShop, TTL, ask_times,
+};
 use crate::changes::{SlowDisk, change_all};
 use crate::messages::Piece;
 use crate::named_work::bench_run;
 use crate::plans::Plan;
 use crate::{book, cases, messages, plans, turns};
 use case_lines::run_cases;
+use loadgen::Gen;
 use rtb_disk::FileDisk;
 use rtb_io::{ReadFault, Status, read_all};
 use rtb_num::{Sink, StdSink, StdSource, Txt};
@@ -64,6 +67,12 @@ fn run<T: Threads + Wait + Clock + Sync>(
     }
     if name == b"settle".as_slice() {
         return run_settle(rt, words);
+    }
+    if name == b"drawn".as_slice() {
+        return run_drawn(rt, words);
+    }
+    if name == b"drawn_settle".as_slice() {
+        return run_drawn_settle(rt, words);
     }
     if let Some(piece) = Piece::from_word(name) {
         return run_messages(rt, piece, words);
@@ -266,7 +275,7 @@ fn run_auctions(rt: &HostRuntime, words: &[Txt]) -> io::Result<Status> {
     let Some((campaigns, count)) = two_numbers(words) else {
         return Ok(Status::Usage);
     };
-    match Shop::open(rt.alloc(), campaigns) {
+    match Shop::open(rt.alloc(), TTL, &mut SiteCampaigns::new(), campaigns) {
         Ok(mut shop) => {
             let told = ask_all(rt, &mut shop, count);
             drop(shop);
@@ -280,7 +289,7 @@ fn run_settle(rt: &HostRuntime, words: &[Txt]) -> io::Result<Status> {
     let Some((campaigns, count)) = two_numbers(words) else {
         return Ok(Status::Usage);
     };
-    match StateShop::open(rt.alloc(), campaigns) {
+    match StateShop::open(rt.alloc(), TTL, &mut SiteCampaigns::new(), campaigns) {
         Ok(mut shop) => {
             let told = ask_all(rt, &mut shop, count);
             drop(shop);
@@ -301,6 +310,57 @@ fn ask_all<S: Asked>(rt: &HostRuntime, shop: &mut S, count: u32) -> io::Result<S
             return Ok(Status::Memory);
         };
         println!(rt; "{status} {count}")?;
+    }
+    Ok(Status::Done)
+}
+
+// ---- what a run draws
+
+fn run_drawn(rt: &HostRuntime, words: &[Txt]) -> io::Result<Status> {
+    let Some((start, each)) = two_numbers(words) else {
+        return Ok(Status::Usage);
+    };
+    let mut drawn = Gen::new(u64::from(start));
+    match Shop::open(rt.alloc(), DRAWN_TTL, &mut drawn, DRAWN_CAMPAIGNS) {
+        Ok(shop) => take_drawn(rt, shop, drawn, each),
+        Err(AllocError) => Ok(Status::Memory),
+    }
+}
+
+fn run_drawn_settle(rt: &HostRuntime, words: &[Txt]) -> io::Result<Status> {
+    let Some((start, each)) = two_numbers(words) else {
+        return Ok(Status::Usage);
+    };
+    let mut drawn = Gen::new(u64::from(start));
+    match StateShop::open(rt.alloc(), DRAWN_TTL, &mut drawn, DRAWN_CAMPAIGNS) {
+        Ok(shop) => take_drawn(rt, shop, drawn, each),
+        Err(AllocError) => Ok(Status::Memory),
+    }
+}
+
+fn take_drawn<S: Asked + Drop>(
+    rt: &HostRuntime,
+    shop: S,
+    drawn: Gen,
+    each: u32,
+) -> io::Result<Status> {
+    let mut shop = DrawnShop::new(rt.alloc(), shop, drawn, each);
+    let told = take_drawn_steps(rt, &mut shop);
+    drop(shop);
+    told
+}
+
+// Takes the step of each line, and prints it and how many requests it reached.
+fn take_drawn_steps<S: Asked>(rt: &HostRuntime, shop: &mut DrawnShop<S>) -> io::Result<Status> {
+    for line in rt.lines(rt.alloc()) {
+        let line = line?;
+        if line.is_empty() {
+            return Ok(Status::Done);
+        }
+        let Ok(reached) = shop.take_step(rt.alloc(), line.as_str()) else {
+            return Ok(Status::Memory);
+        };
+        println!(rt; "{line} {reached}")?;
     }
     Ok(Status::Done)
 }

@@ -19,6 +19,9 @@
 //!   request that is asked so many times (`auctions.rt`), up to an empty line;
 //! - `settle CAMPAIGNS COUNT`: the same with the state that workers share, by one worker: a look at the version, a
 //!   find, and a sale of what was found;
+//! - `drawn START EACH`: the exchange has the campaigns that `rtbx make START ..` draws, and each line of standard input
+//!   is a step with so many of its requests (`auctions/drawn.rt`), up to an empty line; `drawn_settle` with the same
+//!   words: the same with the state that workers share;
 //! - `message N SIZE`, and `head`, `link` and `command` with the same words: work on a message, so many bytes of
 //!   standard input, done so many times (`messages.rt`);
 //! - `which N`, `which_read N` and `which_find N`: what is left of standard input is a request for the best

@@ -117,7 +117,7 @@ fn finds_of(alloc: Global, times: u32, doc: &Doc<'_>) -> Result<u64, AllocError>
     }
 }
 
-fn finds_in(alloc: Global, times: u32, request: &Request) -> Result<u64, AllocError>
+fn finds_in(alloc: Global, times: u32, request: &Request<'_>) -> Result<u64, AllocError>
     requires few { length request.now.expressions ≤ 4096 }
 {
     let index = CnfIndex::build(alloc, &request.expressions)?;

@@ -1,10 +1,11 @@
-//! The exchange with its campaigns.
+//! The exchange with its campaigns, and where these come from.
 ghost use Rattle.std.specs.Prelude.{◌≡◌, ◌<◌, ◌^◌, IsTrue};
 ghost use Rattle.auction_core.specs.Draft.{is_simple};
 
 use auction_core::{Command, Core};
 use command_read::read_command;
 use http_wire::Message;
+use loadgen::Gen;
 use rtb_num::Txt;
 use std::alloc::{AllocError, Global};
 
@@ -17,10 +18,48 @@ const MOST_EDITS: u64 = 9_223_372_036_854_775_808;
 // How many sites there are.
 const SITES: u32 = 100;
 
-/// An exchange with so many campaigns.
-pub fn exchange_of(alloc: Global, campaigns: u32) -> Result<Core, AllocError> {
-    let mut core = Core::new(alloc, TTL);
-    match post_all(alloc, &mut core, campaigns) {
+/// Campaigns, one after the other.
+pub trait Campaigns {
+    /// The body of the message that adds the next one.
+    fn next_body(&mut self, alloc: Global) -> Result<Txt, AllocError>;
+}
+
+/// Campaigns of which every hundredth wants the same site.
+#[derive(Drop)]
+pub struct SiteCampaigns {
+    next: u32,
+}
+
+impl SiteCampaigns {
+    /// From the first one on.
+    pub fn new() -> SiteCampaigns {
+        SiteCampaigns { next: 0 }
+    }
+}
+
+impl Campaigns for SiteCampaigns {
+    fn next_body(&mut self, alloc: Global) -> Result<Txt, AllocError> {
+        let i = self.next;
+        self.next = i.wrapping_add(1);
+        site_body(alloc, i)
+    }
+}
+
+impl Campaigns for Gen {
+    fn next_body(&mut self, alloc: Global) -> Result<Txt, AllocError> {
+        self.campaign(alloc)
+    }
+}
+
+/// An exchange with so many of the campaigns, which holds a sale for so many milliseconds.
+pub fn exchange_of<C: Campaigns>(
+    alloc: Global,
+    ttl: u64,
+    from: &mut C,
+    campaigns: u32,
+) -> Result<Core, AllocError> {
+    let mut core = Core::new(alloc, ttl);
+    match post_all(alloc, &mut core, from, campaigns) {
         Ok(()) => Ok(core),
         Err(refused) => {
             drop(core);
@@ -29,9 +68,14 @@ pub fn exchange_of(alloc: Global, campaigns: u32) -> Result<Core, AllocError> {
     }
 }
 
-fn post_all(alloc: Global, core: &mut Core, campaigns: u32) -> Result<(), AllocError> {
-    for i in 0..campaigns {
-        let command = campaign_command(alloc, i)?;
+fn post_all<C: Campaigns>(
+    alloc: Global,
+    core: &mut Core,
+    from: &mut C,
+    campaigns: u32,
+) -> Result<(), AllocError> {
+    for _ in 0..campaigns {
+        let command = next_command(alloc, from)?;
         let carried = carry_out(alloc, core, &command);
         drop(command);
         carried?;
@@ -39,9 +83,21 @@ fn post_all(alloc: Global, core: &mut Core, campaigns: u32) -> Result<(), AllocE
     Ok(())
 }
 
-/// The command that adds campaign i.
+/// The command that adds the next campaign.
+pub fn next_command<C: Campaigns>(alloc: Global, from: &mut C) -> Result<Command, AllocError> {
+    let body = from.next_body(alloc)?;
+    command_of(alloc, body)
+}
+
+/// The command that adds campaign i of those that want a site.
 pub fn campaign_command(alloc: Global, i: u32) -> Result<Command, AllocError> {
-    let message = campaign_message(alloc, i)?;
+    let body = site_body(alloc, i)?;
+    command_of(alloc, body)
+}
+
+// The command that adds the campaign of the body.
+fn command_of(alloc: Global, body: Txt) -> Result<Command, AllocError> {
+    let message = message_of(alloc, b"/campaign", body)?;
     let command = read_command(alloc, &message);
     drop(message);
     command.ok().ok_or(AllocError)
@@ -59,13 +115,13 @@ pub fn message_of(alloc: Global, target: &[u8], body: Txt) -> Result<Message, Al
     })
 }
 
-fn campaign_message(alloc: Global, i: u32) -> Result<Message, AllocError> {
+fn site_body(alloc: Global, i: u32) -> Result<Txt, AllocError> {
     let site = i % SITES;
     let cents = i % 90 + 10;
     let body = format!(in alloc;
         "{{\"seat\":\"s{i}\",\"adomain\":\"ad{i}.example\",\"secure\":1,\"bid\":0.{cents},\"budget\":1000000,\"adm\":\"ad {i}\",\"crid\":\"cr{i}\",\"target\":[[{{\"attr\":\"domain\",\"in\":[\"site{site}.example\"]}}]]}}"
     )?;
-    message_of(alloc, b"/campaign", Txt::from_vec(body.into_bytes()))
+    Ok(Txt::from_vec(body.into_bytes()))
 }
 
 fn carry_out(alloc: Global, core: &mut Core, command: &Command) -> Result<(), AllocError> {

@@ -1,19 +1,21 @@
 //! An exchange and the index of its campaigns.
-ghost use Rattle.std.specs.Prelude.{◌≡◌, ◌<◌, IfOk, IsTrue};
+ghost use Rattle.std.specs.Prelude.{◌≡◌, ◌<◌, IfOk, IfSome, IsTrue};
 ghost use Rattle.auction_core.specs.Core.{listed};
 ghost use Rattle.auction_core.specs.Draft.{found_of, is_valid_command};
+ghost use Rattle.command_read.specs.Memory.{IfRefused};
 ghost use Rattle.conj_index.specs.Content.{IsIndexOf};
+ghost use Rattle.http_wire.specs.Answers.{IsWritable};
 ghost use Rattle.live_index.specs.Reached.{live_expressions};
 ghost use Rattle.plain_exchange.specs.State.{State};
 ghost use Rattle.plain_exchange.specs.declared.commands.Command.TheVariants as asked;
 ghost use Rattle.rtb_types.specs.declared.request.BidRequest.{BidRequest as Asked};
 
 use super::Asked;
-use super::campaigns::{exchange_of, has_few_edits};
+use super::campaigns::{Campaigns, exchange_of, has_few_edits};
 use auction_core::{Command, Core, Reply};
 use command_read::{CommandFault, read_command};
 use conj_index::Index;
-use http_wire::Message;
+use http_wire::{Answer, Message};
 use live_index::{find_by_index, index_of_live};
 use rtb_base::Steps;
 use rtb_num::{List, Txt};
@@ -50,26 +52,27 @@ impl Model for Shop {
 
 impl Asked for Shop {
     #[tactic(auto, using(crate::proofs::Valid::valid_as_read))]
-    fn ask(&mut self, alloc: Global, message: &Message) -> Result<u16, AllocError> {
+    fn ask(&mut self, alloc: Global, message: &Message) -> Result<Option<Answer>, AllocError> {
         match read_command(alloc, message) {
             Ok(command) => {
-                let status = self.answer(alloc, &command);
+                let answer = self.answer(alloc, &command);
                 drop(command);
-                status
+                answer
             }
-            Err(fault) => {
-                let status = status_of(&fault);
-                drop(fault);
-                status
-            }
+            Err(fault) => refusal_in(fault),
         }
     }
 }
 
 impl Shop {
-    /// The exchange with so many campaigns.
-    pub fn open(alloc: Global, campaigns: u32) -> Result<Shop, AllocError> {
-        let core = exchange_of(alloc, campaigns)?;
+    /// The exchange with so many of the campaigns, which holds a sale for so many milliseconds.
+    pub fn open<C: Campaigns>(
+        alloc: Global,
+        ttl: u64,
+        from: &mut C,
+        campaigns: u32,
+    ) -> Result<Shop, AllocError> {
+        let core = exchange_of(alloc, ttl, from, campaigns)?;
         let index = index_of::<Brand>(alloc, &core, Blank::new(1))?;
         let public = Txt::from_slice(alloc, PUBLIC)?;
         Ok(Shop {
@@ -80,12 +83,16 @@ impl Shop {
         })
     }
 
-    fn answer(&mut self, alloc: Global, command: &Command) -> Result<u16, AllocError>
+    fn answer(&mut self, alloc: Global, command: &Command) -> Result<Option<Answer>, AllocError>
         requires valid { IsTrue (is_valid_command command.now) }
+        ensures writable { IfOk result (λ answer. IfSome answer IsWritable) }
     {
         match command {
-            Command::Auction(request) => self.sell_for(alloc, command, request),
-            _ => Ok(0),
+            Command::Auction(request) => {
+                let answer = self.sell_for(alloc, command, request)?;
+                Ok(Some(answer))
+            }
+            _ => Ok(None),
         }
     }
 
@@ -94,14 +101,15 @@ impl Shop {
         alloc: Global,
         command: &Command,
         request: &BidRequest,
-    ) -> Result<u16, AllocError>
+    ) -> Result<Answer, AllocError>
         requires auction { command.now ≡ asked.Auction request.now }
         requires valid { IsTrue (is_valid_command command.now) }
+        ensures writable { IfOk result IsWritable }
     {
         let reply = self.sell(alloc, command)?;
         let answer = write_reply(alloc, Some(request), &reply, Some(&self.public));
         drop(reply);
-        Ok(answer?.status)
+        answer
     }
 
     fn sell(&mut self, alloc: Global, command: &Command) -> Result<Reply, AllocError>
@@ -120,10 +128,13 @@ impl Shop {
     }
 }
 
-/// The status of a message that no command is read of.
-pub fn status_of(fault: &CommandFault) -> Result<u16, AllocError> {
+/// The answer to a message that no command is read of.
+pub fn refusal_in(fault: CommandFault) -> Result<Option<Answer>, AllocError>
+    requires writable { IfRefused IsWritable fault }
+    ensures writable { IfOk result (λ answer. IfSome answer IsWritable) }
+{
     match fault {
-        CommandFault::Refused { refusal } => Ok(refusal.status),
+        CommandFault::Refused { refusal } => Ok(Some(refusal)),
         CommandFault::Memory => Err(AllocError),
     }
 }

@@ -1,17 +1,18 @@
 //! The same exchange as the state that workers share, by one worker.
-ghost use Rattle.std.specs.Prelude.{◌≡◌, ◌<◌, ◌+◌, ℕ, IfOk, IsTrue};
+ghost use Rattle.std.specs.Prelude.{◌≡◌, ◌<◌, ◌+◌, ℕ, IfOk, IfSome, IsTrue};
 ghost use Rattle.auction_core.specs.Draft.{is_simple, is_valid_command};
 ghost use Rattle.exchange_state.specs.Settling.{IsStanding};
+ghost use Rattle.http_wire.specs.Answers.{IsWritable};
 ghost use Rattle.plain_exchange.specs.declared.commands.Command.TheVariants as asked;
 ghost use Rattle.rtb_bench.specs.States.{StandsWithin};
 
 use super::Asked;
-use super::campaigns::{TTL, campaign_command};
-use super::shop::{PUBLIC, status_of};
+use super::campaigns::{Campaigns, next_command};
+use super::shop::{PUBLIC, refusal_in};
 use auction_core::{Command, Reply};
 use command_read::read_command;
 use exchange_state::{Errand, ExchangeState, Taken};
-use http_wire::Message;
+use http_wire::{Answer, Message};
 use journal_file::Reading;
 use rtb_base::Steps;
 use rtb_disk::MemDisk;
@@ -49,27 +50,28 @@ impl Model for StateShop {
 
 impl Asked for StateShop {
     #[tactic(auto, using(crate::proofs::Valid::valid_as_read))]
-    fn ask(&mut self, alloc: Global, message: &Message) -> Result<u16, AllocError> {
+    fn ask(&mut self, alloc: Global, message: &Message) -> Result<Option<Answer>, AllocError> {
         match read_command(alloc, message) {
             Ok(command) => {
-                let status = self.answer(alloc, &command);
+                let answer = self.answer(alloc, &command);
                 drop(command);
-                status
+                answer
             }
-            Err(fault) => {
-                let status = status_of(&fault);
-                drop(fault);
-                status
-            }
+            Err(fault) => refusal_in(fault),
         }
     }
 }
 
 impl StateShop {
-    /// The state of a journal with so many campaigns.
-    pub fn open(alloc: Global, campaigns: u32) -> Result<StateShop, AllocError> {
-        let disk = disk_with(alloc, campaigns)?;
-        let state = open_state::<Brand>(alloc, disk, Blank::new(1))?;
+    /// The state of a journal with so many of the campaigns, which holds a sale for so many milliseconds.
+    pub fn open<C: Campaigns>(
+        alloc: Global,
+        ttl: u64,
+        from: &mut C,
+        campaigns: u32,
+    ) -> Result<StateShop, AllocError> {
+        let disk = disk_with(alloc, ttl, from, campaigns)?;
+        let state = open_state::<Brand>(alloc, ttl, disk, Blank::new(1))?;
         let public = Txt::from_slice(alloc, PUBLIC)?;
         Ok(StateShop {
             state,
@@ -79,18 +81,33 @@ impl StateShop {
         })
     }
 
-    fn answer(&mut self, alloc: Global, command: &Command) -> Result<u16, AllocError>
+    fn answer(&mut self, alloc: Global, command: &Command) -> Result<Option<Answer>, AllocError>
         requires valid { IsTrue (is_valid_command command.now) }
+        ensures writable { IfOk result (λ answer. IfSome answer IsWritable) }
     {
         match command {
             Command::Auction(request) => {
-                let reply = self.sell(alloc, command, request)?;
-                let answer = write_reply(alloc, Some(request), &reply, Some(&self.public));
-                drop(reply);
-                Ok(answer?.status)
+                let answer = self.sell_for(alloc, command, request)?;
+                Ok(Some(answer))
             }
-            _ => Ok(0),
+            _ => Ok(None),
         }
+    }
+
+    fn sell_for(
+        &mut self,
+        alloc: Global,
+        command: &Command,
+        request: &BidRequest,
+    ) -> Result<Answer, AllocError>
+        requires auction { command.now ≡ asked.Auction request.now }
+        requires valid { IsTrue (is_valid_command command.now) }
+        ensures writable { IfOk result IsWritable }
+    {
+        let reply = self.sell(alloc, command, request)?;
+        let answer = write_reply(alloc, Some(request), &reply, Some(&self.public));
+        drop(reply);
+        answer
     }
 
     #[tactic(auto, using(crate::proofs::States::standing))]
@@ -140,11 +157,16 @@ fn sell_once<L: Ledger>(
     Ok(settled?.reply)
 }
 
-// A disk with a journal of so many campaigns.
-fn disk_with(alloc: Global, campaigns: u32) -> Result<MemDisk, AllocError> {
+// A disk with a journal of so many of the campaigns.
+fn disk_with<C: Campaigns>(
+    alloc: Global,
+    ttl: u64,
+    from: &mut C,
+    campaigns: u32,
+) -> Result<MemDisk, AllocError> {
     let disk = MemDisk::new(alloc, Txt::new(alloc), List::new(alloc));
-    let mut state = open_state::<Brand>(alloc, disk, Blank::new(1))?;
-    add_all(alloc, &mut state, campaigns)?;
+    let mut state = open_state::<Brand>(alloc, ttl, disk, Blank::new(1))?;
+    add_all(alloc, &mut state, from, campaigns)?;
     let taken = state.take_journal();
     drop(state);
     match taken {
@@ -153,15 +175,16 @@ fn disk_with(alloc: Global, campaigns: u32) -> Result<MemDisk, AllocError> {
     }
 }
 
-fn add_all(
+fn add_all<C: Campaigns>(
     alloc: Global,
     state: &mut ExchangeState<MemDisk>,
+    from: &mut C,
     campaigns: u32,
 ) -> Result<(), AllocError>
     requires { StandsWithin 0 state.old }
 {
     for i in 0..campaigns {
-        let command = campaign_command(alloc, i)?;
+        let command = next_command(alloc, from)?;
         let added = add(state, &command);
         drop(command);
         added?;
@@ -204,6 +227,7 @@ fn write_block(errand: Errand<MemDisk>) -> Result<MemDisk, AllocError> {
 // The state of the journal on the disk.
 fn open_state<L: Ledger>(
     alloc: Global,
+    ttl: u64,
     disk: MemDisk,
     blank: Blank,
 ) -> Result<ExchangeState<MemDisk>, AllocError>
@@ -217,7 +241,7 @@ fn open_state<L: Ledger>(
         Err(_) => return Err(AllocError),
     };
     let mut steps = Steps::<L>::new(blank);
-    match ExchangeState::start(alloc, reading, TTL, &mut steps) {
+    match ExchangeState::start(alloc, reading, ttl, &mut steps) {
         Ok(state) => Ok(state),
         Err(_) => Err(AllocError),
     }
