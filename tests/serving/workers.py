@@ -279,17 +279,23 @@ def try_workers(program, folder):
 # ---- beside each other
 
 
+def begin_all(links):
+    """Sends all of a message but its last byte on each link. Between messages a link gives way to one that waits, so
+    each is to be inside its own before anything else comes."""
+    for link in links:
+        link.send(post("/campaign", A)[:-1])
+    CHECKS.holds("each waits inside a message", all(link.is_silent() for link in links))
+
+
 def try_beside(program, folder):
     """Each of four links is served while three others wait inside a message, and a fifth waits while all do."""
     with running(program, folder / "beside", workers=WORKERS) as server:
         links = [server.link() for _ in range(WORKERS)]
-        for link in links:
-            link.send(post("/campaign", A)[:-1])
+        begin_all(links)
         for i, link in enumerate(links):
             link.send(post("/campaign", A)[-1:])
             CHECKS.same(f"link {i} of {WORKERS}", link.answer(), new(i + 1))
-        for link in links:
-            link.send(post("/campaign", A)[:-1])
+        begin_all(links)
         with server.link() as more:
             more.send(post("/campaign", B))
             CHECKS.holds("one link more waits", more.is_silent())
