@@ -69,6 +69,10 @@ pub ordered_on : (t u : Seat) (l : List Entry) → IsOrdered t.origin l → u �
 ordered_on t u l o left = subst (λ (y : Seat). IsOrdered y.origin y.seen) (sym left) o
 
 module _ {D : Type 0} {G : Ghosts D} where
+  -- what is lent of the turn's box stands as what lies in it
+  pub lent : (o : Origin) (l : List Entry) (x y : ExchangeState D G) → x ≡ y → StandsFor o y l → StandsFor o x l
+  lent o l x y is s = subst (λ (z : ExchangeState D G). StandsFor o z l) (sym is) s
+
   pub ordered : (o : Origin) (x : ExchangeState D G) (l : List Entry) → StandsFor o x l → IsOrdered o l
   ordered o x l s = record { in_turn = s.in_turn; rising = s.rising }
 

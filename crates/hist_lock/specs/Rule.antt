@@ -1,6 +1,7 @@
 -- The rule of the lock: what is true of its words, its slot and its seats between any two steps.
 -- Word 0 is the length of the list, word 1 the next ticket, and word 2 the ticket that is served. Slot 0 has the value while no seat has the turn.
-use Rattle.std.specs.Prelude.{◌≡◌, ℕ, suc, ◌+◌, ◌<◌, ◌≤◌, ◌⊎◌, List, [], ◌∷◌, length, Option, Some, None}
+use Rattle.std.specs.Prelude.{◌≡◌, ℕ, suc, ◌+◌, ◌<◌, ◌≤◌, ◌⊎◌, List, [], ◌∷◌, length, Option, Some, None, Box}
+use Rattle.std.specs.Global.{Global}
 use mathlib.Core.Option.{some, none}
 use mathlib.Core.Option as maybe
 use mathlib.Core.List.{IsPrefix}
@@ -15,6 +16,10 @@ use Rattle.hist_lock.specs.Entries.{entries_of, KnowsOwn, NamesOnce}
 abbrev pub StandsFrom : {S O E : Type 0} → (O → S → List E → Type 0) → Option O → S → List E → Type 0
 StandsFrom stands None x h = ⊥
 StandsFrom stands (Some o) x h = stands o x h
+
+-- a value in a box stands for what it stands for out of it
+abbrev pub boxed : {O S E : Type 0} → (O → S → List E → Type 0) → O → Box S Global → List E → Type 0
+boxed stands o b h = stands o b.value h
 
 -- what the first seat of a lock knows before there is a value
 abbrev pub fresh : {O E : Type 0} → View O E

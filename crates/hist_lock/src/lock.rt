@@ -13,10 +13,10 @@ use std::sync::Wait;
 /// The rule of a lock, which holds between any two steps.
 pub struct Turns;
 
-impl<S: Stands> TableRule<Option<S>, View<S::Origin, S::Entry>, ()> for Turns {
-    ghost use Rattle.hist_lock.specs.Rule.{LockRule, fresh};
+impl<S: Stands> TableRule<Option<Box<S>>, View<S::Origin, S::Entry>, ()> for Turns {
+    ghost use Rattle.hist_lock.specs.Rule.{LockRule, boxed, fresh};
 
-    ghost holds = { λ _. LockRule S.stands S.worker };
+    ghost holds = { λ _. LockRule (boxed S.stands) S.worker };
 
     ghost first = { λ _. fresh };
 }
@@ -26,7 +26,7 @@ impl<S: Stands> TableRule<Option<S>, View<S::Origin, S::Entry>, ()> for Turns {
 /// One that is dropped drops the value, where the value can be dropped.
 #[derive(Drop)]
 pub struct HistLock<S: Stands> {
-    pub(crate) table: Table<Option<S>, View<S::Origin, S::Entry>, (), Turns, Global>,
+    pub(crate) table: Table<Option<Box<S>>, View<S::Origin, S::Entry>, (), Turns, Global>,
     pub(crate) latch: Latch,
 }
 
@@ -51,7 +51,7 @@ impl<S: Stands> Model for HistLock<S> {
 /// so its lock can't be closed.
 #[derive(Drop)]
 pub struct Seat<S: Stands> {
-    place: Place<Option<S>, View<S::Origin, S::Entry>>,
+    place: Place<Option<Box<S>>, View<S::Origin, S::Entry>>,
     ghost begun: { is_begun place.me.0.origin ≡ true },
 }
 
@@ -66,15 +66,15 @@ impl<S: Stands> Model for Seat<S> {
     ghost invariant = { λ s. IsWhole s.place };
 }
 
-/// The value, out of the lock until its seat leaves.
+/// The value, out of the lock until its seat leaves. It lies in a box, so that a great one is not copied.
 pub struct Turn<S> {
-    pub value: S,
+    pub value: Box<S>,
 }
 
 /// The history of a closed lock: its origin and its whole list. Only `HistLock::close` makes one.
 #[derive(Drop)]
 pub struct Past<S: Stands> {
-    place: Place<Option<S>, View<S::Origin, S::Entry>>,
+    place: Place<Option<Box<S>>, View<S::Origin, S::Entry>>,
     ghost begun: { is_begun place.me.0.origin ≡ true },
 }
 
@@ -101,9 +101,25 @@ impl<S: Stands> HistLock<S> {
         ensures origin { IfOk result (λ r. O.starts r.1.origin) }
         ensures err { IfErr result (λ e. e.0 ≡ value) }
     {
+        match Box::new(alloc, value) {
+            Ok(value) => HistLock::make_over::<O>(alloc, value),
+            Err(failed) => Err((failed.value, AllocError)),
+        }
+    }
+
+    // The same of a value that is in its box.
+    fn make_over<O: Starts<S>>(
+        alloc: Global,
+        value: Box<S>,
+    ) -> Result<(HistLock<S>, Seat<S>), (S, AllocError)>
+        requires { (o : S.Origin) × O.starts o × S.stands o value.value [] }
+        ensures ok { IfOk result (λ r. r.1 ≡ first_seat r.0 r.1.origin) }
+        ensures origin { IfOk result (λ r. O.starts r.1.origin) }
+        ensures err { IfErr result (λ e. e.0 ≡ value.value) }
+    {
         let made = Table::vacant(alloc, &[0, 0, 0], 1, &());
         let Ok((table, mut place)) = made else {
-            return Err((value, AllocError));
+            return Err((Box::into_inner(value), AllocError));
         };
         table.shared.load::<Fill>(&mut place, 2);
         match table.shared.exchange(&mut place, 0, Some(value)) {
@@ -122,7 +138,7 @@ impl<S: Stands> HistLock<S> {
         requires lock { seat.lock ≡ self.now }
         requires free { seat.turn ≡ false }
         ensures seat { Enters S.worker seat result.0 }
-        ensures value { S.stands result.0.origin result.1.value result.0.seen }
+        ensures value { S.stands result.0.origin result.1.value.value result.0.seen }
         ensures room { length result.0.seen < 2 ^ 62 }
     {
         let Seat { mut place } = seat;
@@ -136,7 +152,7 @@ impl<S: Stands> HistLock<S> {
     pub fn leave(&self, seat: Seat<S>, turn: Turn<S>) -> Seat<S>
         requires lock { seat.lock ≡ self.now }
         requires turn { seat.turn ≡ true }
-        requires value { S.stands seat.origin turn.value seat.seen }
+        requires value { S.stands seat.origin turn.value.value seat.seen }
         ensures { result ≡ seat_with seat seat.seen false }
     {
         let Seat { mut place } = seat;
@@ -149,7 +165,7 @@ impl<S: Stands> HistLock<S> {
     pub fn leave_with<E: Names<S>>(&self, seat: Seat<S>, turn: Turn<S>) -> Seat<S>
         requires lock { seat.lock ≡ self.now }
         requires turn { seat.turn ≡ true }
-        requires value { S.stands seat.origin turn.value (seat.seen ++ E.entry ∷ []) }
+        requires value { S.stands seat.origin turn.value.value (seat.seen ++ E.entry ∷ []) }
         requires names { S.worker E.entry ≡ seat.worker }
         ensures { result ≡ seat_with seat (seat.seen ++ E.entry ∷ []) false }
     {
@@ -205,6 +221,6 @@ impl<S: Stands> HistLock<S> {
         let mut closed = table.close_with(place);
         let slot = closed.take(0);
         closed.free();
-        (slot.unwrap(), Past { place: past })
+        (Box::into_inner(slot.unwrap()), Past { place: past })
     }
 }

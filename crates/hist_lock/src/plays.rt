@@ -2,6 +2,7 @@
 //!
 //! The steps of a turn are draw, look, take out, commit, put back and pass on, and those of the
 //! seats are split and join. `take_out` and `put_back` in `steps` say which calls they are.
+ghost use Rattle.hist_lock.specs.Rule.{boxed};
 ghost use Rattle.hist_lock.specs.Steps.{filling, begun, drawing, looking, committing, passing, comparing, counting, parent, child, staged, both, spent_view};
 ghost use Rattle.hist_lock.specs.declared.view.Stage.TheVariants.{Spent};
 
@@ -12,7 +13,7 @@ use std::marker::PhantomData;
 /// The slot of a new lock is taken out, to be filled.
 pub struct Fill;
 
-impl<S, O, E> Play<Option<S>, View<O, E>> for Fill {
+impl<S, O, E> Play<Option<Box<S>>, View<O, E>> for Fill {
     ghost then = { filling };
 }
 
@@ -21,22 +22,22 @@ pub struct Begin<N> {
     origin: PhantomData<N>,
 }
 
-impl<S: Stands, N: Starts<S>> Play<Option<S>, View<S::Origin, S::Entry>> for Begin<N> {
+impl<S: Stands, N: Starts<S>> Play<Option<Box<S>>, View<S::Origin, S::Entry>> for Begin<N> {
     ghost then = { begun N.starts };
 }
 
 /// Draw.
 pub struct Draw;
 
-impl<S, O, E> Play<Option<S>, View<O, E>> for Draw {
+impl<S, O, E> Play<Option<Box<S>>, View<O, E>> for Draw {
     ghost then = { drawing };
 }
 
 /// Look, and take out where the seat's ticket is served.
 pub struct Look;
 
-impl<S: Stands> Play<Option<S>, View<S::Origin, S::Entry>> for Look {
-    ghost then = { looking S.stands S.worker };
+impl<S: Stands> Play<Option<Box<S>>, View<S::Origin, S::Entry>> for Look {
+    ghost then = { looking (boxed S.stands) S.worker };
 }
 
 /// Commit.
@@ -44,21 +45,21 @@ pub struct Commit<N> {
     entry: PhantomData<N>,
 }
 
-impl<S: Stands, N: Names<S>> Play<Option<S>, View<S::Origin, S::Entry>> for Commit<N> {
+impl<S: Stands, N: Names<S>> Play<Option<Box<S>>, View<S::Origin, S::Entry>> for Commit<N> {
     ghost then = { committing N.entry };
 }
 
 /// Put back and pass on.
 pub struct PassOn;
 
-impl<S, O, E> Play<Option<S>, View<O, E>> for PassOn {
+impl<S, O, E> Play<Option<Box<S>>, View<O, E>> for PassOn {
     ghost then = { passing };
 }
 
 /// Before a split: the next worker has no entry yet.
 pub struct Count;
 
-impl<S: Stands> Play<Option<S>, View<S::Origin, S::Entry>> for Count {
+impl<S: Stands> Play<Option<Box<S>>, View<S::Origin, S::Entry>> for Count {
     ghost then = { counting S.worker };
 }
 
@@ -85,7 +86,7 @@ impl<S: Stands> Join<View<S::Origin, S::Entry>> for TakeIn<S> {
 /// After a join: the shorter of the two lists begins the longer.
 pub struct Compare;
 
-impl<S: Stands> Play<Option<S>, View<S::Origin, S::Entry>> for Compare {
+impl<S: Stands> Play<Option<Box<S>>, View<S::Origin, S::Entry>> for Compare {
     ghost then = { comparing S.worker };
 }
 

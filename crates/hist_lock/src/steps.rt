@@ -1,7 +1,7 @@
 //! The steps of a turn: words 0, 1 and 2 are the length of the list, the next ticket and the ticket
-//! that is served, and slot 0 has the value while no seat has the turn.
+//! that is served, and slot 0 has the value in its box while no seat has the turn.
 ghost use Rattle.std.specs.Prelude.{◌≡◌, ◌+◌, ◌^◌, ◌<◌, ◌⊎◌, [], ◌∷◌, ◌++◌, length, None, Some};
-ghost use Rattle.hist_lock.specs.Rule.{StandsFrom, turn_weight};
+ghost use Rattle.hist_lock.specs.Rule.{StandsFrom, boxed, turn_weight};
 ghost use Rattle.hist_lock.specs.Steps.{Served, waiting, seeing, staged};
 ghost use Rattle.hist_lock.specs.declared.view.Stage.TheVariants.{Idle, Waiting, Holding, Committed};
 ghost use Rattle.hist_lock.specs.Places.{lock_of, origin, seen, worker_of, IsFree, HasTurn, IsSame, IsPosted, Grew};
@@ -21,7 +21,7 @@ impl<S: Stands> HistLock<S> {
     pub(crate) fn draw<R: Wait>(
         &self,
         rt: &R,
-        place: &mut Place<Option<S>, View<S::Origin, S::Entry>>,
+        place: &mut Place<Option<Box<S>>, View<S::Origin, S::Entry>>,
     ) -> u64
         requires lock { lock_of place.old ≡ self.now }
         requires free { IsFree place.old }
@@ -45,15 +45,15 @@ impl<S: Stands> HistLock<S> {
     pub(crate) fn take_out<R: Wait>(
         &self,
         rt: &R,
-        place: &mut Place<Option<S>, View<S::Origin, S::Entry>>,
+        place: &mut Place<Option<Box<S>>, View<S::Origin, S::Entry>>,
         ticket: u64,
-    ) -> S
+    ) -> Box<S>
         requires lock { lock_of place.old ≡ self.now }
         requires waits { (place.old.me.1 ≡ []) × (place.old.me.0.stage ≡ Waiting) × (place.old.me.0.ticket ≡ ticket) }
         ensures same { IsSame place.old place.new }
         ensures turn { HasTurn place.new }
         ensures grew { Grew S.worker place.old place.new }
-        ensures value { StandsFrom S.stands (origin place.new) result (seen place.new) }
+        ensures value { StandsFrom (boxed S.stands) (origin place.new) result (seen place.new) }
         ensures room { length (seen place.new) < 2 ^ 62 }
     {
         let words = &self.table.shared;
@@ -70,7 +70,7 @@ impl<S: Stands> HistLock<S> {
     // Commit: at this step the list gains the entry.
     pub(crate) fn commit<E: Names<S>>(
         &self,
-        place: &mut Place<Option<S>, View<S::Origin, S::Entry>>,
+        place: &mut Place<Option<Box<S>>, View<S::Origin, S::Entry>>,
     )
         requires lock { lock_of place.old ≡ self.now }
         requires turn { HasTurn place.old }
@@ -82,10 +82,14 @@ impl<S: Stands> HistLock<S> {
     }
 
     // Put back: the value is in its slot. Pass on: the next ticket is served, and the latch is free.
-    pub(crate) fn put_back(&self, place: &mut Place<Option<S>, View<S::Origin, S::Entry>>, value: S)
+    pub(crate) fn put_back(
+        &self,
+        place: &mut Place<Option<Box<S>>, View<S::Origin, S::Entry>>,
+        value: Box<S>,
+    )
         requires lock { lock_of place.old ≡ self.now }
         requires turn { (place.old.me.1 ≡ (0, None) ∷ []) × (turn_weight place.old.me.0.stage ≡ 1) }
-        requires value { StandsFrom S.stands (origin place.old) value (seen place.old) }
+        requires value { StandsFrom (boxed S.stands) (origin place.old) value (seen place.old) }
         ensures same { IsPosted place.old place.new }
         ensures free { place.new.me ≡ (staged Idle place.old.me.0, []) }
     {

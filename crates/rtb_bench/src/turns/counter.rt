@@ -100,7 +100,7 @@ fn leave_adding<N: Adds>(
     turn: Turn<Counter>,
 ) -> Seat<Counter>
     requires lock { (seat.lock ≡ lock.now) × (seat.turn ≡ true) }
-    requires value { Counts seat.origin turn.value (seat.seen ++ N.added ∷ []) }
+    requires value { Counts seat.origin turn.value.value (seat.seen ++ N.added ∷ []) }
     requires names { N.added ≡ seat.worker }
     ensures { result ≡ seat_with seat (seat.seen ++ seat.worker ∷ []) false }
 {

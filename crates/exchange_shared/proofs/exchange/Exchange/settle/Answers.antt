@@ -5,15 +5,15 @@ use Rattle.exchange_state.specs.Tickets.{version_in}
 use Rattle.exchange_state.specs.declared.entries.Entry.{Entry}
 use Rattle.exchange_state.specs.declared.entries.Origin.{Origin}
 use Rattle.exchange_state.specs.Views.{called}
-use Rattle.exchange_shared.proofs.Seats.{gains, ordered_at, still, still_gains, waits, worker_stays}
+use Rattle.exchange_shared.proofs.Seats.{gains, lent, ordered_at, still, still_gains, waits, worker_stays}
 use Rattle.exchange_shared.proofs.Histories.{may_settle, snoc_init}
 use Rattle.exchange_shared.proofs.exchange.Exchange.settle.Goals as goal
 
 pub settle-settled-requires-clause-ticket : goal.settle-settled-requires-clause-ticket
-settle-settled-requires-clause-ticket g c = may_settle _ _ _ _ _ _ c.requires.found c.enter-seat.ensures.seat c.enter-seat.ensures.value c.enter-seat.ensures.room
+settle-settled-requires-clause-ticket g c = may_settle _ _ _ _ _ _ c.requires.found c.enter-seat.ensures.seat (lent _ _ _ _ c.deref_mut.ensures.value c.enter-seat.ensures.value) c.enter-seat.ensures.room
 
 pub leave_called-seat-requires-clause-value : goal.leave_called-seat-requires-clause-value
-leave_called-seat-requires-clause-value g c = (c.in-Ok.ensures.settled c.enter-seat.result.0.origin c.enter-seat.result.0.seen c.enter-seat.result.0.worker c.enter-seat.ensures.value).stands
+leave_called-seat-requires-clause-value g c = (c.in-Ok.ensures.settled c.enter-seat.result.0.origin c.enter-seat.result.0.seen c.enter-seat.result.0.worker (lent _ _ _ _ c.deref_mut.ensures.value c.enter-seat.ensures.value)).stands
 
 pub returns-in-Ok-clause-seat : goal.returns-in-Ok-clause-seat
 returns-in-Ok-clause-seat g c =
@@ -26,17 +26,17 @@ returns-in-Ok-clause-cost g c r l is at =
     let org : c.enter-seat.result.0.origin ≡ c.args.seat.origin = ap (λ (u : Seat). u.origin) c.enter-seat.ensures.seat.1 in
     subst (λ (k : List Entry). c.settle-settled.new.steps ≤ c.args.steps.now + settled_cost c.args.seat.origin k (version_in c.args.ticket).edit r) same
     (subst (λ (o : Origin). c.settle-settled.new.steps ≤ c.args.steps.now + settled_cost o c.enter-seat.result.0.seen (version_in c.args.ticket).edit r) org
-    (c.settle-settled.ensures.cost _ _ r c.enter-seat.ensures.value is))
+    (c.settle-settled.ensures.cost _ _ r (lent _ _ _ _ c.deref_mut.ensures.value c.enter-seat.ensures.value) is))
 
 pub leave-requires-clause-value : goal.leave-requires-clause-value
-leave-requires-clause-value g c = c.in-Err.ensures.unsettled c.enter-seat.result.0.origin c.enter-seat.result.0.seen c.enter-seat.ensures.value
+leave-requires-clause-value g c = c.in-Err.ensures.unsettled c.enter-seat.result.0.origin c.enter-seat.result.0.seen (lent _ _ _ _ c.deref_mut.ensures.value c.enter-seat.ensures.value)
 
 pub returns-in-Err-clause-seat : goal.returns-in-Err-clause-seat
 returns-in-Err-clause-seat g c = still _ _ _ c.requires.seat (waits _ _ _ c.enter-seat.ensures.seat c.leave.ensures)
 
 pub returns-in-Ok-clause-order : goal.returns-in-Ok-clause-order
 returns-in-Ok-clause-order g c =
-    ordered_at _ c.enter-seat.result.0 _ _ (c.in-Ok.ensures.settled c.enter-seat.result.0.origin c.enter-seat.result.0.seen c.enter-seat.result.0.worker c.enter-seat.ensures.value).stands c.leave_called-seat.ensures
+    ordered_at _ c.enter-seat.result.0 _ _ (c.in-Ok.ensures.settled c.enter-seat.result.0.origin c.enter-seat.result.0.seen c.enter-seat.result.0.worker (lent _ _ _ _ c.deref_mut.ensures.value c.enter-seat.ensures.value)).stands c.leave_called-seat.ensures
 
 pub returns-in-Err-clause-order : goal.returns-in-Err-clause-order
 returns-in-Err-clause-order g c = ordered_at _ c.enter-seat.result.0 _ _ c.enter-seat.ensures.value c.leave.ensures

@@ -1,4 +1,5 @@
 use Rattle.std.proofs.Common.{◌≡◌, ℕ, ◌<◌, List, [], ◌∷◌, ◌++◌, Option, length, refl, sym, ap, subst, ◌∙◌, le_refl, Some, None}
+use Rattle.hist_lock.specs.Rule.{boxed}
 use Rattle.atomic_table.specs.Table.{Me, rest}
 use Rattle.hist_lock.specs.Entries.{entries_of}
 use Rattle.hist_lock.specs.Steps.{Served, seeing}
@@ -42,24 +43,24 @@ exchange-requires g c =
 
 pub returns-then-served-ticket-clause-same : goal.returns-then-served-ticket-clause-same
 returns-then-served-ticket-clause-same g c =
-    let s = served g.S.Stands.stands g.S.Stands.worker c.args.place.now.me c.loop.place.me c.load-served.new.seat.me c.load-served.result c.args.ticket c.load-served.ensures.2 c.if-served-ticket.true c.loop.invariant.2 c.requires.waits.2 in
-    let t = (took g.S.Stands.stands g.S.Stands.worker c.args.place.now.me c.load-served.new.seat.me c.exchange.new.seat.me s c.exchange.ensures.3).1 in
+    let s = served (boxed g.S.Stands.stands) g.S.Stands.worker c.args.place.now.me c.loop.place.me c.load-served.new.seat.me c.load-served.result c.args.ticket c.load-served.ensures.2 c.if-served-ticket.true c.loop.invariant.2 c.requires.waits.2 in
+    let t = (took (boxed g.S.Stands.stands) g.S.Stands.worker c.args.place.now.me c.load-served.new.seat.me c.exchange.new.seat.me s c.exchange.ensures.3).1 in
     (c.exchange.ensures.0 ∙ c.load-served.ensures.0 ∙ c.loop.invariant.0, ap (λ m. m.0.origin) t, ap (λ m. m.0.worker) t, ap (λ m. m.0.made) t, ap (λ m. m.0.out) t, ap (λ m. m.0.ended) t)
 
 pub returns-then-served-ticket-clause-turn : goal.returns-then-served-ticket-clause-turn
 returns-then-served-ticket-clause-turn g c =
-    let s = served g.S.Stands.stands g.S.Stands.worker c.args.place.now.me c.loop.place.me c.load-served.new.seat.me c.load-served.result c.args.ticket c.load-served.ensures.2 c.if-served-ticket.true c.loop.invariant.2 c.requires.waits.2 in
-    let t = (took g.S.Stands.stands g.S.Stands.worker c.args.place.now.me c.load-served.new.seat.me c.exchange.new.seat.me s c.exchange.ensures.3).1 in
+    let s = served (boxed g.S.Stands.stands) g.S.Stands.worker c.args.place.now.me c.loop.place.me c.load-served.new.seat.me c.load-served.result c.args.ticket c.load-served.ensures.2 c.if-served-ticket.true c.loop.invariant.2 c.requires.waits.2 in
+    let t = (took (boxed g.S.Stands.stands) g.S.Stands.worker c.args.place.now.me c.load-served.new.seat.me c.exchange.new.seat.me s c.exchange.ensures.3).1 in
     (ap (λ m. m.1) t ∙ ap (λ l. (0, None) ∷ l) c.requires.waits.0, ap (λ m. m.0.stage) t)
 
 pub returns-then-served-ticket-clause-grew : goal.returns-then-served-ticket-clause-grew
 returns-then-served-ticket-clause-grew g c =
-    let s = served g.S.Stands.stands g.S.Stands.worker c.args.place.now.me c.loop.place.me c.load-served.new.seat.me c.load-served.result c.args.ticket c.load-served.ensures.2 c.if-served-ticket.true c.loop.invariant.2 c.requires.waits.2 in
-    let t = took g.S.Stands.stands g.S.Stands.worker c.args.place.now.me c.load-served.new.seat.me c.exchange.new.seat.me s c.exchange.ensures.3 in
+    let s = served (boxed g.S.Stands.stands) g.S.Stands.worker c.args.place.now.me c.loop.place.me c.load-served.new.seat.me c.load-served.result c.args.ticket c.load-served.ensures.2 c.if-served-ticket.true c.loop.invariant.2 c.requires.waits.2 in
+    let t = took (boxed g.S.Stands.stands) g.S.Stands.worker c.args.place.now.me c.load-served.new.seat.me c.exchange.new.seat.me s c.exchange.ensures.3 in
     (t.0, ap (λ m. m.0.seen) t.1, t.2)
 
 pub returns-then-served-ticket-clause-room : goal.returns-then-served-ticket-clause-room
 returns-then-served-ticket-clause-room g c =
-    let s = served g.S.Stands.stands g.S.Stands.worker c.args.place.now.me c.loop.place.me c.load-served.new.seat.me c.load-served.result c.args.ticket c.load-served.ensures.2 c.if-served-ticket.true c.loop.invariant.2 c.requires.waits.2 in
-    let t = took g.S.Stands.stands g.S.Stands.worker c.args.place.now.me c.load-served.new.seat.me c.exchange.new.seat.me s c.exchange.ensures.3 in
-    room g.S.Stands.stands g.S.Stands.worker c.args.place.now.me c.exchange.new.seat.me t.0 t.1 t.3
+    let s = served (boxed g.S.Stands.stands) g.S.Stands.worker c.args.place.now.me c.loop.place.me c.load-served.new.seat.me c.load-served.result c.args.ticket c.load-served.ensures.2 c.if-served-ticket.true c.loop.invariant.2 c.requires.waits.2 in
+    let t = took (boxed g.S.Stands.stands) g.S.Stands.worker c.args.place.now.me c.load-served.new.seat.me c.exchange.new.seat.me s c.exchange.ensures.3 in
+    room (boxed g.S.Stands.stands) g.S.Stands.worker c.args.place.now.me c.exchange.new.seat.me t.0 t.1 t.3
