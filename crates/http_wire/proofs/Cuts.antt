@@ -132,7 +132,7 @@ some_line lf s = omega arith
 
 -- ---- the end of a head
 
-split_end : (b : ℕ) (s : List ℕ) (n : ℕ) → head_end (b ∷ s) ≡ Some n
+pub split_end : (b : ℕ) (s : List ℕ) (n : ℕ) → head_end (b ∷ s) ≡ Some n
     → ((((b == 10) && nat_lt 0 (empty_line s)) ≡ true) × (n ≡ 1 + empty_line s)) ⊎ ((((b == 10) && nat_lt 0 (empty_line s)) ≡ false) × ((k : ℕ) × (head_end s ≡ Some k) × (1 + k ≡ n)))
 unfolding head_end
 split_end b s n e =

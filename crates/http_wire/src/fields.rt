@@ -1,12 +1,12 @@
 //! What the fields of a head say about the message.
-ghost use Rattle.std.specs.Prelude.{◌≡◌, ◌≤◌, ◌==◌, ◌+◌, min, length, map, drop, codes, All, IfSome, Option, Some, None, slice_range};
+ghost use Rattle.std.specs.Prelude.{◌≡◌, ◌≤◌, ◌==◌, ◌+◌, min, length, map, drop, codes, All, IfSome, IfNone, Option, Some, None, [], ◌∷◌, slice_range};
 ghost use Rattle.std.specs.List.{list_any, list_all};
 ghost use Rattle.std.specs.Option.{option_map};
 ghost use Rattle.httparse.specs.Grammar.{is_ows, skip_ows, trim_ows};
 ghost use Rattle.httparse.specs.Spans.{IsHeaderWithin, header_bytes};
 ghost use Rattle.std.specs.Prelude.{reverse, true, ◌-◌, ◌^◌, IfOk};
 ghost use Rattle.rtb_num.specs.Amounts.{is_digit, number_of};
-ghost use Rattle.http_wire.specs.Numbers.{first_of, without_zeros};
+ghost use Rattle.http_wire.specs.Numbers.{lengths, without_zeros};
 ghost use Rattle.http_wire.specs.Rules.{asks_close, body_length, closes, content_length, is_identity, is_close, is_digits, is_named, same_word, spells, values};
 
 use crate::refusal::Refusal;
@@ -39,39 +39,55 @@ pub(crate) fn body_length(head: &[u8], fields: &[HeaderSpan]) -> Result<usize, R
 // The one number that the fields of the name `content-length` spell, 0 where there is none.
 fn content_length(head: &[u8], fields: &[HeaderSpan]) -> Option<usize>
     requires { All (IsHeaderWithin (length head.now)) fields.now }
-    ensures { result ≡ option_map (λ n. min n (2 ^ 64 - 1)) (content_length (values (codes "content-length") (map (header_bytes head.now) fields.now))) }
+    ensures { result ≡ option_map (λ n. min n (2 ^ 64 - 1)) (content_length (lengths head.now fields.now)) }
 {
-    let Some(first) = first_value(head, fields, b"content-length") else {
+    let Some((first, rest)) = first_length(head, fields) else {
         return Some(0);
     };
-    if is_digits(first) && are_same_number(head, fields, b"content-length", first) {
+    if is_digits(first) && are_same_number(head, rest, first) {
         Some(digits_value(first))
     } else {
         None
     }
 }
 
-// The value of the first field of the name.
-fn first_value<'h>(head: &'h [u8], fields: &[HeaderSpan], name: &[u8]) -> Option<&'h [u8]>
+// The value of the first field of that name, and the fields behind it.
+fn first_length<'h, 'f>(
+    head: &'h [u8],
+    fields: &'f [HeaderSpan],
+) -> Option<(&'h [u8], &'f [HeaderSpan])>
     requires { All (IsHeaderWithin (length head.now)) fields.now }
-    ensures { option_map (λ value. value.now) result ≡ first_of (values name.now (map (header_bytes head.now) fields.now)) }
+    ensures found { IfSome result (λ found. lengths head.now fields.now ≡ found.0.now ∷ lengths head.now found.1.now) }
+    ensures within { IfSome result (λ found. All (IsHeaderWithin (length head.now)) found.1.now) }
+    ensures none { IfNone result (lengths head.now fields.now ≡ []) }
 {
-    for field in fields {
-        if is_named(head, field, name) {
-            return Some(field.value.of(head));
+    let mut rest = fields;
+    while let [field, more @ ..] = rest {
+        if is_length(head, field) {
+            return Some((field.value.of(head), more));
         }
+        rest = more;
     }
     None
 }
 
-// Whether each field of the name is the same number.
-fn are_same_number(head: &[u8], fields: &[HeaderSpan], name: &[u8], first: &[u8]) -> bool
+// Whether the field has that name, which most write in one way.
+fn is_length(head: &[u8], field: &HeaderSpan) -> bool
+    requires { IsHeaderWithin (length head.now) field.now }
+    ensures { result ≡ is_named (codes "content-length") (header_bytes head.now field.now) }
+{
+    let name = field.name.of(head);
+    name == b"Content-Length".as_slice() || same_word(name, b"content-length")
+}
+
+// Whether each field of that name is the same number.
+fn are_same_number(head: &[u8], fields: &[HeaderSpan], first: &[u8]) -> bool
     requires within { All (IsHeaderWithin (length head.now)) fields.now }
     requires digits { is_digits first.now ≡ true }
-    ensures { result ≡ list_all (spells (number_of first.now)) (values name.now (map (header_bytes head.now) fields.now)) }
+    ensures { result ≡ list_all (spells (number_of first.now)) (lengths head.now fields.now) }
 {
     for field in fields {
-        if is_named(head, field, name) && !is_same_number(first, field.value.of(head)) {
+        if is_length(head, field) && !is_same_number(first, field.value.of(head)) {
             return false;
         }
     }

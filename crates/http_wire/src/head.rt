@@ -1,5 +1,5 @@
 //! Where a head begins and ends.
-ghost use Rattle.std.specs.Prelude.{◌≡◌, ◌↔◌, true, ℕ, ◌+◌, ◌<◌, ◌≤◌, ◌==◌, ◌&&◌, ◌++◌, List, length, drop, count_by, slice_index, IfSome, IfNone};
+ghost use Rattle.std.specs.Prelude.{◌≡◌, ◌↔◌, true, ℕ, ◌+◌, ◌<◌, ◌≤◌, ◌==◌, ◌&&◌, ◌++◌, List, length, drop, count_by, slice_index, IfSome, IfNone, Some, nat_lt};
 ghost use Rattle.httparse.specs.Grammar.{LineEnd, print_blank};
 ghost use Rattle.http_wire.specs.Heads.{HasHead, HasNoHead, empty_line, head_end, lines_in};
 ghost use Rattle.http_wire.specs.Lines.{GoesTo, HasNoEnd};
@@ -8,6 +8,12 @@ use memchr::memchr;
 
 /// The most bytes of a head, with the empty lines before it.
 pub(crate) const MOST_HEAD: usize = 8192;
+
+// The most lines of a head: that of the request, those of 64 fields and the empty one.
+const MOST_LINES: usize = 66;
+
+// Each line but the last has two bytes at least: so few have no more lines than are allowed.
+const FEW_BYTES: usize = 2 * MOST_LINES - 2;
 
 /// The head at the front, and how many bytes of empty lines stand before it.
 pub(crate) fn cut(bytes: &[u8]) -> Option<(usize, &[u8])>
@@ -87,8 +93,16 @@ fn empty_line(bytes: &[u8]) -> usize
     }
 }
 
-/// The lines of a head, the empty one at its end included.
-pub(crate) fn lines_in(head: &[u8]) -> usize
+/// Whether a head has more than 66 lines, the empty one at its end included.
+pub(crate) fn has_many_lines(head: &[u8]) -> bool
+    requires { head_end head.now ≡ Some (length head.now) }
+    ensures { result ≡ nat_lt 66 (lines_in head.now) }
+{
+    head.len() > FEW_BYTES && lines_in(head) > MOST_LINES
+}
+
+// The lines of a head, the empty one at its end included.
+fn lines_in(head: &[u8]) -> usize
     ensures { result ≡ lines_in head.now }
 {
     head.iter().filter(|b| **b == b'\n').count()

@@ -4,7 +4,7 @@ ghost use Rattle.httparse.specs.Spans.{IsHeaderWithin, IsWithin, header_bytes, s
 ghost use Rattle.http_wire.specs.Opened.{Follows, IsOpened, IsRead};
 
 use crate::fields::{body_length, closes};
-use crate::head::{MOST_HEAD, cut, lines_in};
+use crate::head::{MOST_HEAD, cut, has_many_lines};
 use crate::refusal::Refusal;
 use httparse::Status;
 use httparse::spans::{EMPTY_HEADER_SPAN, HeaderSpan, RequestSpans, parse_request};
@@ -41,7 +41,7 @@ pub(crate) fn open(bytes: &[u8]) -> Opened<'_>
             Opened::Refused(Refusal::HeadTooLarge)
         };
     };
-    if lines_in(head) > MOST_FIELDS + 2 {
+    if has_many_lines(head) {
         return Opened::Refused(Refusal::HeadTooLarge);
     }
     match read_head(head, blank + head.len()) {
