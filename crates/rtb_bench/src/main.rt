@@ -26,7 +26,7 @@
 //!   standard input, done so many times (`messages.rt`);
 //! - `which N`, `which_read N` and `which_find N`: what is left of standard input is a request for the best
 //!   expressions, which is answered so many times, or its text is read so many times in room that is made for it, or
-//!   in its index is found so many times (`plans.rt`).
+//!   its expressions are indexed and found so many times (`plans.rt`).
 //!
 //! What it prints is the same on every run, and never a time: the caller measures.
 #![tactic(auto)]

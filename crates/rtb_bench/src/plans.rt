@@ -1,16 +1,20 @@
 //! Work on a request for the best expressions.
-ghost use Rattle.std.specs.Prelude.{◌≡◌, ◌≤◌, ◌<◌, length};
+ghost use Rattle.std.specs.Prelude.{◌≡◌, ◌+◌, ◌≤◌, ◌<◌, length};
+ghost use Rattle.std.specs.List.{All};
+ghost use Rattle.exact_json.specs.Forms.{HasForms};
+ghost use Rattle.exact_json.specs.View.{tree_of};
 
 use bumpalo::Bump;
-use cnf_match::CnfIndex;
-use exact_json::{Doc, read, room_for};
+use cnf_match::{CnfExpr, CnfIndex, MOST_EXPRESSIONS};
+use exact_json::{Doc, Value, read, room_for};
+use json_fields::required_array;
 use rtb_base::Steps;
-use rtb_num::{Txt, write_decimal};
+use rtb_num::{List, Txt, write_decimal};
 use std::alloc::{AllocError, Global};
 use std::marker::Brand;
 use std::sync::ledger::{Blank, Ledger};
 use target_expr::Assignment;
-use which_read::{Request, read_request};
+use which_read::{WhichFault, assignment_field, read_expression};
 use which_run::which_text;
 
 /// What is done with a request.
@@ -18,7 +22,7 @@ use which_run::which_text;
 pub enum Plan {
     /// It is answered.
     Answer,
-    /// It is read once, and what is true is found in its index.
+    /// Its expressions are read and indexed once, and those that are true are found in the index.
     Find,
     /// Its text is read, in room that is made for it, as an answer begins.
     Read,
@@ -107,21 +111,78 @@ fn finds(alloc: Global, times: u32, bytes: &[u8]) -> Result<u64, AllocError> {
 }
 
 fn finds_of(alloc: Global, times: u32, doc: &Doc<'_>) -> Result<u64, AllocError> {
-    match read_request(alloc, doc) {
-        Ok(request) => {
-            let sum = finds_in(alloc, times, &request);
-            drop(request);
+    let body = doc.root();
+    match required_array(body, b"expressions") {
+        Ok(values) if values.len() <= MOST_EXPRESSIONS => finds_among(alloc, times, body, values),
+        _ => Ok(0),
+    }
+}
+
+// Where all of these are expressions, and the request has an assignment.
+fn finds_among(
+    alloc: Global,
+    times: u32,
+    body: &Value<'_>,
+    values: &[Value<'_>],
+) -> Result<u64, AllocError>
+    requires few { length values.now ≤ 4096 }
+    requires forms { All (λ v. HasForms (tree_of v)) values.now }
+{
+    let mut expressions = List::with_capacity(alloc, values.len())?;
+    let read = read_all(alloc, values, &mut expressions);
+    let sum = match read {
+        Ok(()) => finds_in(alloc, times, body, &expressions),
+        Err(_) => Ok(0),
+    };
+    drop(expressions);
+    sum
+}
+
+// Appends the expressions that are written so.
+fn read_all<'a>(
+    alloc: Global,
+    values: &[Value<'a>],
+    expressions: &mut List<CnfExpr<'a>>,
+) -> Result<(), WhichFault>
+    requires few { length values.now ≤ 4096 }
+    requires forms { All (λ v. HasForms (tree_of v)) values.now }
+    ensures { length expressions.new ≤ length expressions.old + length values.now }
+{
+    for (place, value) in values.iter().enumerate() {
+        let expression = read_expression(alloc, place, value)?;
+        expressions.push(expression)?;
+    }
+    Ok(())
+}
+
+fn finds_in(
+    alloc: Global,
+    times: u32,
+    body: &Value<'_>,
+    expressions: &List<CnfExpr<'_>>,
+) -> Result<u64, AllocError>
+    requires few { length expressions.now ≤ 4096 }
+{
+    match assignment_field(alloc, body) {
+        Ok(assignment) => {
+            let sum = finds_for(alloc, times, &assignment, expressions);
+            drop(assignment);
             sum
         }
         Err(_) => Ok(0),
     }
 }
 
-fn finds_in(alloc: Global, times: u32, request: &Request<'_>) -> Result<u64, AllocError>
-    requires few { length request.now.expressions ≤ 4096 }
+fn finds_for(
+    alloc: Global,
+    times: u32,
+    assignment: &Assignment,
+    expressions: &List<CnfExpr<'_>>,
+) -> Result<u64, AllocError>
+    requires few { length expressions.now ≤ 4096 }
 {
-    let index = CnfIndex::build(alloc, &request.expressions)?;
-    let sum = sum_of::<Brand>(alloc, times, &index, &request.assignment, Blank::new(1));
+    let index = CnfIndex::build(alloc, expressions)?;
+    let sum = sum_of::<Brand>(alloc, times, &index, assignment, Blank::new(1));
     drop(index);
     sum
 }

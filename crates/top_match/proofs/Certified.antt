@@ -1,5 +1,5 @@
 -- A certificate that is gone through without a fault is that of the best, and that of the best is.
-use Rattle.std.proofs.Common.{◌≡◌, ℕ, zero, suc, ◌+◌, ◌-◌, ◌<◌, ◌≤◌, ◌==◌, ◌&&◌, ◌||◌, ◌⊎◌, inl, inr, not, nat_le, List, [], ◌∷◌, ◌++◌, Bool, true, false, cond, Option, Some, None, is_none, is_some, count_by, drop, length, map, slice_get, take, refl, sym, ◌∙◌, ap, subst, arith}
+use Rattle.std.proofs.Common.{◌≡◌, ℕ, zero, suc, ◌+◌, ◌-◌, ◌<◌, ◌≤◌, ◌==◌, ◌&&◌, ◌||◌, ◌⊎◌, inl, inr, nat_le, List, [], ◌∷◌, ◌++◌, Bool, true, false, cond, Option, Some, None, is_none, count_by, drop, length, map, slice_get, take, refl, sym, ◌∙◌, ap, subst, arith}
 use Rattle.std.specs.List.{cons_option, enumerate_from, filter_map, list_all, list_any}
 use Rattle.std.specs.Option.{option_map_or}
 use Rattle.std.proofs.Math.Seq.{take-append_seam}
@@ -9,8 +9,7 @@ use Rattle.std.proofs.lemmas.List.FromFn.{length-enumerate_from}
 use Rattle.std.proofs.lemmas.Option.{same_Some, slice_get_within}
 use Rattle.target_expr.specs.declared.attr.Attr.{Attr}
 use Rattle.target_expr.specs.Kept.{rise}
-use Rattle.cnf_match.specs.Conjunctive.{Cnf, clause_holds, clauses_hold, first_false, score_of}
-use Rattle.cnf_match.proofs.Lists.{all_where_none}
+use Rattle.cnf_match.specs.Conjunctive.{Cnf, clauses_hold, first_false, score_of}
 use Rattle.cnf_match.proofs.Members.{Has, any_has, found_has, has_any, has_either, has_found, has_left, has_mapped, has_right, mapped_has}
 use Rattle.cnf_match.proofs.Single.{counted}
 use Rattle.top_match.specs.declared.scored.Mark.{Mark}
@@ -23,6 +22,7 @@ use Rattle.top_match.specs.Top.{all_scored, in_order, is_before, scored, top_lis
 use Rattle.top_match.proofs.Order.{Ordered, before_on, front, has_ordered, in_order_ordered, not_before_itself, one_order, ordered_from_rise, ordered_has, rise_from_ordered}
 use Rattle.top_match.proofs.Pigeon.{Distinct, has_all, no_longer}
 use Rattle.top_match.proofs.Places.{all_enumerated, all_from_has, all_from_places, all_has, enumerated_has, got_has, item_placed, item_there, mapped_at, mapped_same, none_is, opened, placed, within_at}
+use Rattle.top_match.proofs.Reasons.{holds_is}
 use Rattle.top_match.proofs.Sorted.{scored_apart}
 
 abbrev Pairs : Type 0
@@ -32,13 +32,6 @@ none_some : {X : Type 0} (x : X) → None ≡ Some x → ⊥
 none_some x e = cc
 
 -- ---- an expression that is true
-
-as_none : (o : Option ℕ) → not (is_some o) ≡ is_none o
-as_none None = refl
-as_none (Some n) = refl
-
-holds_is : (a : Pairs) (e : Cnf) → clauses_hold a e.clauses ≡ is_none (first_false a e.clauses)
-holds_is a e = all_where_none (clause_holds a) e.clauses ∙ as_none (first_false a e.clauses)
 
 scored_as : (s : Scored) (n m : ℕ) → s.number ≡ n → s.score ≡ m → s ≡ record { number = n; score = m }
 scored_as s n m e f = (λ i. record { number = e i; score = f i })

@@ -187,12 +187,11 @@ scored_are es a = found_scored a [] es 1 refl
 
 -- ---- the best
 
-pub best_is : (es : List Cnf) (a : Pairs) (n : ℕ) (found : List ℕ) (ranks sorted : List Rank) (best : List Scored)
-    → found ≡ true_under a es → map scored_of ranks ≡ filter_map (scored_at es a) found → IsPermutation ranks sorted → IsSorted rank_cmp sorted
+pub best_is : (es : List Cnf) (a : Pairs) (n : ℕ) (ranks sorted : List Rank) (best : List Scored)
+    → map scored_of ranks ≡ all_scored es a → IsPermutation ranks sorted → IsSorted rank_cmp sorted
     → best ≡ take n (map scored_of sorted) → best ≡ top_list es a n
-best_is es a n found ranks sorted best given are moved up is =
+best_is es a n ranks sorted best same moved up is =
     let all = all_scored es a in
-    let same : map scored_of ranks ≡ all = are ∙ ap (filter_map (scored_at es a)) given ∙ scored_are es a in
     let turned : IsPermutation (map scored_of ranks) (map scored_of sorted) = IsPermutation-map scored_of ranks sorted moved in
     let once : Once (map scored_of sorted) = λ k.
     omega (arith, once_scored a k 1 es, ap (times k) same, sum_by-IsPermutation (λ (s : Scored). cond (s.number == k) 1 0) (map scored_of ranks) (map scored_of sorted) turned) in

@@ -1,13 +1,14 @@
 //! The best of the true expressions.
-ghost use Rattle.std.specs.Prelude.{◌≡◌, [], ◌++◌, map, IfOk, OnOk, option_map};
-ghost use Rattle.std.specs.List.{cons_option, filter_map};
+ghost use Rattle.std.specs.Prelude.{◌≡◌, ◌≤◌, ◌<◌, ◌+◌, [], ◌++◌, length, map, IfOk, OnOk, option_map};
+ghost use Rattle.std.specs.List.{cons_option, enumerate_from, filter_map};
 ghost use Rattle.std.specs.Option.{option_copied};
 ghost use Rattle.cnf_match.specs.Find.{true_under};
-ghost use Rattle.top_match.specs.Choosing.{item_at, scored_at, scored_of};
-ghost use Rattle.top_match.specs.Top.{top_list};
+ghost use Rattle.top_match.specs.Certificate.{reason};
+ghost use Rattle.top_match.specs.Choosing.{item_at, scored_at, scored_by, scored_of};
+ghost use Rattle.top_match.specs.Top.{all_scored, top_list};
 
 use crate::rank::Rank;
-use crate::scored::Scored;
+use crate::scored::{Mark, Scored};
 use cnf_match::CnfExpr;
 use rtb_num::List;
 use std::alloc::{AllocError, Global};
@@ -26,7 +27,25 @@ pub fn top(
     requires { found.now ≡ true_under assignment.now exprs.now }
     ensures { IfOk result (λ best. best ≡ top_list exprs.now assignment.now n) }
 {
-    let mut ranks = ranks_of(alloc, exprs.as_slice(), found.as_slice(), assignment)?;
+    let ranks = ranks_of(alloc, exprs.as_slice(), found.as_slice(), assignment)?;
+    best_of(alloc, ranks, n)
+}
+
+/// The same list, where the reason of each expression is known, in order: why it is not chosen, were none. It looks at
+/// no expression.
+pub fn top_from(alloc: Global, reasons: &List<Mark>, n: u32) -> Result<List<Scored>, AllocError>
+    requires few { length reasons.now ≤ 4096 }
+    ensures { IfOk result (λ best. (es : _) (a : _) → reasons.now ≡ map (reason a) es → best ≡ top_list es a n) }
+{
+    let ranks = ranks_from(alloc, reasons.as_slice())?;
+    best_of(alloc, ranks, n)
+}
+
+// The expressions with the first `n` of these ranks.
+fn best_of(alloc: Global, ranks: Vec<Rank>, n: u32) -> Result<List<Scored>, AllocError>
+    ensures { IfOk result (λ best. (es : _) (a : _) → map scored_of ranks.items ≡ all_scored es a → best ≡ top_list es a n) }
+{
+    let mut ranks = ranks;
     ranks.sort_unstable();
     ranks.truncate(n as usize);
     scored_in(alloc, ranks.as_slice())
@@ -67,6 +86,32 @@ pub(crate) fn expr_at<'a, 'b>(exprs: &'b [CnfExpr<'a>], number: u32) -> Option<&
         None
     } else {
         exprs.get(number as usize - 1)
+    }
+}
+
+// The ranks of the expressions whose reasons say that they are true.
+fn ranks_from(alloc: Global, reasons: &[Mark]) -> Result<Vec<Rank>, AllocError>
+    requires few { length reasons.now ≤ 4096 }
+    ensures { IfOk result (λ ranks. map scored_of ranks.items ≡ filter_map scored_by (enumerate_from 1 reasons.now)) }
+{
+    let mut ranks = Vec::with_capacity(alloc, reasons.len())?;
+    for (place, reason) in reasons.iter().enumerate() {
+        push_some(&mut ranks, rank_by(place, *reason))?;
+    }
+    Ok(ranks)
+}
+
+// The rank of the expression at the place, where this reason says that it is true.
+fn rank_by(place: usize, reason: Mark) -> Option<Rank>
+    requires place { place < 4096 }
+    ensures { option_map scored_of result ≡ scored_by (place + 1, reason) }
+{
+    match reason {
+        Mark::Later { score } => Some(Rank {
+            score: Reverse(score),
+            number: place as u32 + 1,
+        }),
+        Mark::Chosen | Mark::False { .. } => None,
     }
 }
 

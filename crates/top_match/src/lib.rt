@@ -9,7 +9,7 @@ mod marking;
 mod rank;
 mod scored;
 
-pub use best::top;
+pub use best::{top, top_from};
 pub use checking::check;
-pub use marking::certify;
+pub use marking::{certify, marks_from, reason};
 pub use scored::{Mark, Scored};

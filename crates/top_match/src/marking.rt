@@ -12,7 +12,6 @@ use target_expr::Assignment;
 
 /// The mark of each expression, in order: the chosen ones are marked so, and another with its first clause that is
 /// false, or with its score.
-#[tactic(auto, using(crate::proofs::Marked::marks_are))]
 pub fn certify(
     alloc: Global,
     exprs: &List<CnfExpr<'_>>,
@@ -21,21 +20,8 @@ pub fn certify(
 ) -> Result<List<Mark>, AllocError>
     ensures { IfOk result (λ marks. marks ≡ marks_of exprs.now assignment.now chosen.now) }
 {
-    let marks = marked(alloc, exprs.as_slice(), assignment, chosen.as_slice())?;
-    Ok(List::from_vec(marks))
-}
-
-fn marked(
-    alloc: Global,
-    exprs: &[CnfExpr<'_>],
-    assignment: &Assignment,
-    chosen: &[Scored],
-) -> Result<Vec<Mark>, AllocError>
-    ensures { IfOk result (λ marks. marks.items ≡ fold choose (map (reason assignment.now) exprs.now) chosen.now) }
-{
-    let mut marks = reasons(alloc, exprs, assignment)?;
-    choose_all(&mut marks, chosen);
-    Ok(marks)
+    let reasons = reasons(alloc, exprs.as_slice(), assignment)?;
+    Ok(marks_from(reasons, chosen))
 }
 
 // The mark of each expression, were none chosen.
@@ -43,17 +29,18 @@ fn reasons(
     alloc: Global,
     exprs: &[CnfExpr<'_>],
     assignment: &Assignment,
-) -> Result<Vec<Mark>, AllocError>
-    ensures { IfOk result (λ marks. marks.items ≡ map (reason assignment.now) exprs.now) }
+) -> Result<List<Mark>, AllocError>
+    ensures { IfOk result (λ marks. marks ≡ map (reason assignment.now) exprs.now) }
 {
-    let mut marks = Vec::with_capacity(alloc, exprs.len())?;
+    let mut marks = List::with_capacity(alloc, exprs.len())?;
     for expr in exprs {
         marks.push(reason(expr, assignment))?;
     }
     Ok(marks)
 }
 
-fn reason(expr: &CnfExpr<'_>, assignment: &Assignment) -> Mark
+/// The mark of the expression, were none chosen: its first clause that is false, or else its score.
+pub fn reason(expr: &CnfExpr<'_>, assignment: &Assignment) -> Mark
     ensures { result ≡ reason assignment.now expr.now }
 {
     match expr.first_false(assignment) {
@@ -62,6 +49,22 @@ fn reason(expr: &CnfExpr<'_>, assignment: &Assignment) -> Mark
             score: expr.score(assignment),
         },
     }
+}
+
+/// The mark of each expression, as `certify` gives it, where the reason of each is known, in order. It looks at no
+/// expression and takes no memory.
+pub fn marks_from(reasons: List<Mark>, chosen: &List<Scored>) -> List<Mark>
+    ensures { (es : _) (a : _) → reasons ≡ map (reason a) es → result ≡ marks_of es a chosen.now }
+{
+    chosen_in(reasons, chosen.as_slice())
+}
+
+fn chosen_in(reasons: List<Mark>, chosen: &[Scored]) -> List<Mark>
+    ensures { result ≡ fold choose reasons chosen.now }
+{
+    let mut marks = reasons.into_vec();
+    choose_all(&mut marks, chosen);
+    List::from_vec(marks)
 }
 
 // Marks the chosen ones.

@@ -1,5 +1,6 @@
 pub mod Assigned
 pub mod Clauses
+pub mod Judged
 pub mod Made
 pub mod Numbered
 pub mod Parts

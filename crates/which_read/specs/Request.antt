@@ -2,8 +2,9 @@
 use Rattle.std.specs.Prelude.{ℕ, ◌+◌, pos, nat_lt, List, [], length, map}
 use Rattle.exact_json.specs.Tree.{Tree, null}
 use Rattle.json_fields.specs.Fields.{as_object}
-use Rattle.json_fields.specs.Readings.{Reading, each_at, each_in, give, within, ◌>>◌, ◌>>=◌}
+use Rattle.json_fields.specs.Readings.{Reading, each_at, each_in, give, with_faults, within, ◌>>◌, ◌>>=◌}
 use Rattle.json_fields.specs.declared.bounds.Bounds.{Bounds}
+use Rattle.target_expr.specs.declared.attr.Attr.{Attr}
 use Rattle.target_expr.specs.declared.pred.RawPred.{RawPred}
 use Rattle.cnf_match.specs.Making.{faults, keep}
 use Rattle.cnf_match.specs.Conjunctive.{Cnf}
@@ -11,7 +12,6 @@ use Rattle.cnf_match.specs.declared.fault.CnfFault.{CnfFault}
 use Rattle.cnf_match.specs.declared.weight.RawWeight.{RawWeight}
 use Rattle.which_read.specs.declared.fault.WhichFault.{WhichFault}
 use Rattle.which_read.specs.declared.field.WhichField.{WhichField}
-use Rattle.which_read.specs.declared.request.Request.{Request}
 use Rattle.which_read.specs.Assigned.{assignment_field}
 use Rattle.which_read.specs.Clauses.{clauses_field}
 use Rattle.which_read.specs.Parts.{array_in, fault_of, fault_where, number_field}
@@ -48,7 +48,7 @@ unfoldable pub expressions_field : Tree → Reading WhichFault (List Written)
 expressions_field t =
     within (fault_of WhichField.Expressions) [] written_in (array_in (member_name WhichField.Expressions) t)
 
--- ---- the whole
+-- ---- the expressions, made
 
 -- the expressions are made when all has been read, in their order; a fault has the number of its expression, from 1 on
 unfoldable pub making_faults : ℕ → Written → List WhichFault
@@ -66,7 +66,20 @@ fault_of_making n (CnfFault.Weight at) = WhichFault.Expression n (CnfFault.Weigh
 unfoldable pub made_of : Written → Cnf
 made_of (raw, ws) = keep raw ws
 
+-- the expression at place i by itself
+unfoldable pub made_at : ℕ → Tree → Reading WhichFault Cnf
+made_at i t = do
+  written ← expression_at i t
+  with_faults (making_faults i written) (made_of written)
+
+-- ---- the whole
+
 -- how many are wanted, the assignment, and the expressions
+pub record Request : Type 0 where
+  pub n : ℕ
+  pub assignment : List (Attr × List ℕ)
+  pub expressions : List Cnf
+
 unfoldable pub fields_in : Tree → Reading WhichFault Request
 fields_in t = do
   n ← number_field n_bounds WhichField.N t

@@ -20,9 +20,10 @@ use rtb_num::{List, Txt};
 use std::alloc::{AllocError, Global};
 use target_expr::{Assignment, Attr, attr_named};
 
-// The assignment.
+/// The assignment of a request, or the fault of its field. Each member has to name an attribute and to be a text, and
+/// of members of one name the last counts.
 #[tactic(auto, unfolding(crate::specs::Assigned::assignment_field))]
-pub(crate) fn assignment_field(alloc: Global, body: &Value<'_>) -> Result<Assignment, WhichFault>
+pub fn assignment_field(alloc: Global, body: &Value<'_>) -> Result<Assignment, WhichFault>
     ensures { Answers WhichFault.Memory (assignment_field (tree_of body.now)) result }
 {
     match object_in(body, WhichField::Assignment.member()) {

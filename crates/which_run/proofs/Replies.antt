@@ -7,19 +7,21 @@ use Rattle.exact_json.specs.Faults.{Explains}
 use Rattle.exact_json.specs.Grammar.{IsText}
 use Rattle.json_fields.specs.Answers.{IsFirst}
 use Rattle.refusal_text.specs.Refusals.{json_fault_text}
-use Rattle.which_read.specs.Request.{which_faults, which_from}
+use Rattle.which_read.specs.Judged.{judged}
+use Rattle.which_read.specs.Request.{Request, which_faults, which_from}
 use Rattle.which_read.specs.declared.fault.WhichFault.{WhichFault}
 use Rattle.which_read.specs.declared.fault.WhichFault.TheVariants.{Memory as Unread}
-use Rattle.which_read.specs.declared.request.Request.{Request}
+use Rattle.which_read.specs.declared.request.Judged.{Judged}
 use Rattle.which_run.specs.Answers.{IsReply, answer_to, faulty, longest, refusal_of, reply_by, said, tree_reply}
 use Rattle.which_run.specs.Texts.{which_fault_text}
 use Rattle.which_run.specs.declared.reply.Reply.{Reply}
 
 -- of a text whose request has no fault
-pub accepted : {E : Type 0} (t : Tree) (r : Request) (reply : Result Reply E) → which_faults t ≡ [] → r ≡ which_from t → IfOk reply (λ x. x ≡ answer_to r) → IfOk reply (λ x. x ≡ tree_reply t)
+pub accepted : {E : Type 0} (t : Tree) (q : Judged) (reply : Result Reply E) → which_faults t ≡ [] → q ≡ judged (which_from t) → IfOk reply (λ x. (r : Request) → q ≡ judged r → x ≡ answer_to r)
+    → IfOk reply (λ x. x ≡ tree_reply t)
 unfolding tree_reply
-accepted t r (Ok x) none same e = e ∙ ap answer_to same ∙ ap (λ fs. reply_by fs (which_from t)) (sym none)
-accepted t r (Err f) none same e = e
+accepted t q (Ok x) none same e = e (which_from t) same ∙ ap (λ fs. reply_by fs (which_from t)) (sym none)
+accepted t q (Err f) none same e = e
 
 first : (t : Tree) (f : WhichFault) (x : Reply) → (f ≡ Unread → ⊥) → (f ≡ Unread) ⊎ ((rest : List WhichFault) × (which_faults t ≡ f ∷ rest)) → x ≡ refusal_of (which_fault_text f) → x ≡ tree_reply t
 unfolding tree_reply

@@ -8,9 +8,8 @@ use Rattle.exact_json.specs.declared.fault.JsonFault.TheVariants.{Memory}
 use Rattle.refusal_text.specs.Refusals.{error_text, json_fault_text}
 use Rattle.top_match.specs.Certificate.{marks_of}
 use Rattle.top_match.specs.Top.{top_list}
-use Rattle.which_read.specs.Request.{which_faults, which_from}
+use Rattle.which_read.specs.Request.{Request, which_faults, which_from}
 use Rattle.which_read.specs.declared.fault.WhichFault.{WhichFault}
-use Rattle.which_read.specs.declared.request.Request.{Request}
 use Rattle.which_run.specs.Texts.{best_text, which_fault_text}
 use Rattle.which_run.specs.declared.reply.Reply.{Reply}
 

@@ -4,37 +4,25 @@ ghost use Rattle.json_out.specs.Texts.{array_text};
 ghost use Rattle.json_out.specs.Writer.{blank, is_whole, put_value, takes_value};
 ghost use Rattle.top_match.specs.Certificate.{marks_of};
 ghost use Rattle.top_match.specs.Top.{top_list};
+ghost use Rattle.which_read.specs.Judged.{judged};
+ghost use Rattle.which_read.specs.Request.{Request};
 ghost use Rattle.which_run.specs.Texts.{best_text, mark_text, one_text, scored_text};
 
-use crate::search::true_numbers;
 use json_out::Writer;
-use rtb_num::{List, Txt};
+use rtb_num::Txt;
 use std::alloc::{AllocError, Global};
-use top_match::{Mark, Scored, certify, top};
-use which_read::Request;
+use top_match::{Mark, Scored, marks_from, top_from};
+use which_read::Judged;
 
 // The best expressions, and the mark of each expression.
-pub(crate) fn answer_text(alloc: Global, request: &Request<'_>) -> Result<Txt, AllocError>
-    requires few { length request.now.expressions ≤ 4096 }
-    ensures { IfOk result (λ t. t ≡ best_text (top_list request.now.expressions request.now.assignment request.now.n) (marks_of request.now.expressions request.now.assignment (top_list request.now.expressions request.now.assignment request.now.n))) }
+pub(crate) fn answer_text(alloc: Global, asked: Judged) -> Result<Txt, AllocError>
+    requires few { length asked.reasons ≤ 4096 }
+    ensures { IfOk result (λ t. (r : Request) → asked ≡ judged r → t ≡ best_text (top_list r.expressions r.assignment r.n) (marks_of r.expressions r.assignment (top_list r.expressions r.assignment r.n))) }
 {
-    let best = best_of(alloc, request)?;
-    let marks = certify(alloc, &request.expressions, &request.assignment, &best)?;
+    let Judged { n, reasons } = asked;
+    let best = top_from(alloc, &reasons, n)?;
+    let marks = marks_from(reasons, &best);
     best_text(alloc, best.as_slice(), marks.as_slice())
-}
-
-fn best_of(alloc: Global, request: &Request<'_>) -> Result<List<Scored>, AllocError>
-    requires few { length request.now.expressions ≤ 4096 }
-    ensures { IfOk result (λ best. best ≡ top_list request.now.expressions request.now.assignment request.now.n) }
-{
-    let found = true_numbers(alloc, &request.expressions, &request.assignment)?;
-    top(
-        alloc,
-        &request.expressions,
-        &found,
-        &request.assignment,
-        request.n,
-    )
 }
 
 // The text of these and of all marks.

@@ -7,6 +7,5 @@
 mod answer;
 mod refusals;
 mod reply;
-mod search;
 
 pub use reply::{LONGEST_INPUT, Reply, which_text};

@@ -3,6 +3,8 @@ ghost use Rattle.std.specs.Prelude.{◌≡◌, ◌≢◌, ◌≤◌, length, IfO
 ghost use Rattle.exact_json.specs.Docs.{doc_tree};
 ghost use Rattle.exact_json.specs.declared.fault.JsonFault.TheVariants.{Memory as json_memory};
 ghost use Rattle.refusal_text.specs.Refusals.{error_text, json_fault_text};
+ghost use Rattle.which_read.specs.Judged.{judged};
+ghost use Rattle.which_read.specs.Request.{Request};
 ghost use Rattle.which_read.specs.declared.fault.WhichFault.TheVariants.{Memory};
 ghost use Rattle.which_run.specs.Answers.{IsReply, answer_to, refusal_of, tree_reply};
 ghost use Rattle.which_run.specs.Texts.{which_fault_text};
@@ -14,7 +16,7 @@ use exact_json::{Doc, JsonFault, read, room_for};
 use refusal_text::{error_text, json_fault_text};
 use rtb_num::Txt;
 use std::alloc::{AllocError, Global};
-use which_read::{Request, WhichFault, read_request};
+use which_read::{Judged, WhichFault, read_judged};
 
 /// What is answered.
 #[derive(Drop)]
@@ -81,21 +83,17 @@ fn json_refusal(alloc: Global, fault: JsonFault) -> Result<Reply, AllocError>
 fn doc_reply(alloc: Global, doc: &Doc<'_>) -> Result<Reply, AllocError>
     ensures { IfOk result (λ r. r ≡ tree_reply (doc_tree doc.now)) }
 {
-    match read_request(alloc, doc) {
-        Ok(request) => {
-            let reply = request_reply(alloc, &request);
-            drop(request);
-            reply
-        }
+    match read_judged(alloc, doc) {
+        Ok(asked) => request_reply(alloc, asked),
         Err(fault) => request_refusal(alloc, fault),
     }
 }
 
-fn request_reply(alloc: Global, request: &Request<'_>) -> Result<Reply, AllocError>
-    requires few { length request.now.expressions ≤ 4096 }
-    ensures { IfOk result (λ r. r ≡ answer_to request.now) }
+fn request_reply(alloc: Global, asked: Judged) -> Result<Reply, AllocError>
+    requires few { length asked.reasons ≤ 4096 }
+    ensures { IfOk result (λ reply. (r : Request) → asked ≡ judged r → reply ≡ answer_to r) }
 {
-    let text = answer_text(alloc, request)?;
+    let text = answer_text(alloc, asked)?;
     Ok(Reply {
         text,
         refused: false,

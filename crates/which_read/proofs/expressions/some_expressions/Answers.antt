@@ -4,7 +4,7 @@ use Rattle.json_fields.specs.Readings.{each_in, map_value}
 use Rattle.json_fields.proofs.First.{answers_behind}
 use Rattle.which_read.specs.declared.fault.WhichFault.{WhichFault}
 use Rattle.which_read.specs.declared.field.WhichField.{WhichField}
-use Rattle.which_read.specs.Made.{made_from}
+use Rattle.which_read.specs.Made.{judged_from}
 use Rattle.which_read.specs.Parts.{fault_where}
 use Rattle.which_read.specs.Request.{expression_at, written_in}
 use Rattle.which_read.proofs.Few.{few_enough, too_many}
@@ -16,5 +16,5 @@ returns-then-values-gt-MOST_EXPRESSIONS c = too_many tree_of c.args.values.now c
 pub returns : goal.returns
 unfolding written_in
 returns c =
-    answers_behind WhichFault.Memory (fault_where (nat_lt 4096 (length (map tree_of c.args.values.now))) (WhichFault.Range WhichField.Expressions)) (map_value made_from (each_in expression_at (map tree_of c.args.values.now))) c.all_expressions.result
+    answers_behind WhichFault.Memory (fault_where (nat_lt 4096 (length (map tree_of c.args.values.now))) (WhichFault.Range WhichField.Expressions)) (map_value (judged_from c.args.assignment.now) (each_in expression_at (map tree_of c.args.values.now))) c.all_expressions.result
     (few_enough tree_of c.args.values.now c.if-values-gt-MOST_EXPRESSIONS.false) c.all_expressions.ensures

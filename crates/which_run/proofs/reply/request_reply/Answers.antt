@@ -8,4 +8,4 @@ answered t = record { text = t; refused = false }
 
 pub returns : goal.returns
 unfolding answer_to
-returns c = ap answered c.in_ok-text.ensures
+returns c = λ r is. ap answered (c.in_ok-text.ensures r is)

@@ -1,4 +1,4 @@
-use Rattle.rtb_bench.proofs.plans.finds_in.Given as goal
+use Rattle.rtb_bench.proofs.plans.finds_for.Given as goal
 
 -- the counter of steps that the blank names
 abbrev pub ghosts-sum_of : goal.ghosts-sum_of
