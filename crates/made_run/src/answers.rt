@@ -14,6 +14,9 @@ pub(crate) trait Tells {
 
     /// The next answer.
     fn next_told(&mut self, alloc: Global) -> Result<Told, AllocError>;
+
+    /// Takes the body of an answer back, in whose memory a later one is told.
+    fn take_back(&mut self, body: Txt);
 }
 
 /// An answer as a client reads it.
@@ -23,29 +26,58 @@ pub(crate) struct Told {
     pub body: Txt,
 }
 
-/// The answer at the place, and the place behind it. None is there only where a link ended early, which a link in memory
-/// does for want of memory alone.
-pub(crate) fn told_at(
-    alloc: Global,
-    sent: &[u8],
-    place: usize,
-) -> Result<(Told, usize), AllocError> {
+/// The answer at the place, in the memory of `room`, and the place behind it. None is there only where a link ended
+/// early, which a link in memory does for want of memory alone.
+pub(crate) fn told_at(room: Txt, sent: &[u8], place: usize) -> Result<(Told, usize), AllocError> {
+    let mut room = room;
     let Some((status, body, next)) = answer_at(sent, place) else {
         return Err(AllocError);
     };
-    let body = Txt::from_slice(alloc, body)?;
-    Ok((Told { status, body }, next))
+    room.truncate(0);
+    room.extend(body)?;
+    Ok((Told { status, body: room }, next))
 }
+
+// What an answer with bids begins with, and one without bids.
+const SOLD_HEAD: &[u8] = b"HTTP/1.1 200 OK\r\nContent-Type: application/json\r\nContent-Length: ";
+
+const NO_BID: &[u8] = b"HTTP/1.1 204 No Content\r\n\r\n";
 
 // Its status, its body, and the place behind it.
 fn answer_at(sent: &[u8], place: usize) -> Option<(u32, &[u8], usize)> {
     let rest = sent.get(place..)?;
-    let (line, fields) = line_of(rest)?;
-    let status = status_in(line)?;
-    let (length, behind) = length_in(fields)?;
+    let (status, length, behind) = head_of(rest)?;
     let body = behind.get(..length)?;
     let next = sent.len().checked_sub(behind.len())?.checked_add(length)?;
     Some((status, body, next))
+}
+
+// Its status, how many bytes its body has, and what stands behind its head. Nearly all heads are one of two texts.
+fn head_of(bytes: &[u8]) -> Option<(u32, usize, &[u8])> {
+    if let Some(digits) = bytes.strip_prefix(SOLD_HEAD) {
+        let (length, behind) = number_ahead(digits)?;
+        return Some((200, length, behind.strip_prefix(b"\r\n\r\n".as_slice())?));
+    }
+    if let Some(behind) = bytes.strip_prefix(NO_BID) {
+        return Some((204, 0, behind));
+    }
+    any_head_of(bytes)
+}
+
+// The same of a head line by line.
+#[inline(never)]
+fn any_head_of(bytes: &[u8]) -> Option<(u32, usize, &[u8])> {
+    let (line, fields) = line_of(bytes)?;
+    let status = status_in(line)?;
+    let (length, behind) = length_in(fields)?;
+    Some((status, length, behind))
+}
+
+// The number that the digits at the front spell, and what stands behind them.
+fn number_ahead(bytes: &[u8]) -> Option<(usize, &[u8])> {
+    let end = bytes.iter().position(|byte| !byte.is_ascii_digit())?;
+    let number = number_in(bytes.get(..end)?)?;
+    Some((number, bytes.get(end..)?))
 }
 
 // An answer has no more lines between its status and the empty one.

@@ -50,6 +50,9 @@ impl RunDisk {
 
 // Writes over what is there from the place on, and past the end. A gap is filled with zeros.
 fn write_over(items: &mut Vec<u8>, place: usize, bytes: &[u8]) -> Result<(), AllocError> {
+    if place == items.len() {
+        return items.extend_from_slice(bytes);
+    }
     let Some(end) = place.checked_add(bytes.len()) else {
         return Err(AllocError);
     };

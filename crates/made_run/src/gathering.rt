@@ -272,7 +272,7 @@ impl Gathering {
             Ok(told) => {
                 let entry = entry_of(moment, message, told);
                 let put = self.put(alloc, index, &entry);
-                drop(entry);
+                answers.take_back(answer_of(entry));
                 put
             }
             Err(AllocError) => {
@@ -337,6 +337,18 @@ fn entry_of(moment: u64, message: Message, told: Told) -> Entry
         status,
         answer: body,
     }
+}
+
+// The entry's answer, which alone is kept.
+fn answer_of(entry: Entry) -> Txt {
+    let Entry {
+        moment: _,
+        message,
+        status: _,
+        answer,
+    } = entry;
+    drop(message);
+    answer
 }
 
 // The exchange of one thread takes the entry's message, and gives its answer. One that tells of memory or of the store is

@@ -27,11 +27,14 @@ pub(crate) struct Server<'e, D: Disk, R: Wait> {
     door: Option<MemDoor>,
     // Where the next answer stands in what was sent on it.
     place: usize,
+    // In whose memory it is told.
+    room: Txt,
 }
 
 impl<'e, D: Disk, R: Wait> Server<'e, D, R> {
     /// Nothing was served yet. `public` is what the addresses of notices begin with.
     pub(crate) fn new(
+        alloc: Global,
         rt: &'e R,
         exchange: &'e Exchange<D>,
         seat: Seat<D>,
@@ -49,6 +52,7 @@ impl<'e, D: Disk, R: Wait> Server<'e, D, R> {
             },
             door: None,
             place: 0,
+            room: Txt::new(alloc),
         }
     }
 
@@ -82,9 +86,14 @@ impl<'e, D: Disk, R: Wait> Tells for Server<'e, D, R> {
         let Some(door) = &self.door else {
             return Err(AllocError);
         };
-        let (told, next) = told_at(alloc, sent_on(door), self.place)?;
+        let room = mem::replace(&mut self.room, Txt::new(alloc));
+        let (told, next) = told_at(room, sent_on(door), self.place)?;
         self.place = next;
         Ok(told)
+    }
+
+    fn take_back(&mut self, body: Txt) {
+        self.room = body;
     }
 }
 
@@ -208,29 +217,64 @@ fn campaigns_text(alloc: Global, start: u64) -> Result<Txt, AllocError> {
     let mut text = text_with_room(alloc, CAMPAIGNS as usize)?;
     for _ in 0..CAMPAIGNS {
         let body = drawn.campaign(alloc)?;
-        put_message(CAMPAIGN_HEAD, &body, &mut text)?;
+        put_message(alloc, CAMPAIGN_HEAD, &body, &mut text)?;
     }
-    Ok(text)
+    Ok(Txt::from_vec(text))
 }
 
 fn requests_text(alloc: Global, requests: &[Request]) -> Result<Txt, AllocError> {
     let mut text = text_with_room(alloc, requests.len())?;
     for request in requests.iter().rev() {
-        put_message(REQUEST_HEAD, &request.1.body, &mut text)?;
+        put_message(alloc, REQUEST_HEAD, &request.1.body, &mut text)?;
     }
-    Ok(text)
+    Ok(Txt::from_vec(text))
 }
 
 // An empty text with room for so many messages.
-fn text_with_room(alloc: Global, messages: usize) -> Result<Txt, AllocError> {
-    let bytes = Vec::with_capacity(alloc, messages.saturating_mul(ROOM))?;
-    Ok(Txt::from_vec(bytes))
+fn text_with_room(alloc: Global, messages: usize) -> Result<Vec<u8>, AllocError> {
+    Vec::with_capacity(alloc, messages.saturating_mul(ROOM))
 }
 
 // Appends the message with this head.
-fn put_message(head: &[u8], body: &Txt, out: &mut Txt) -> Result<(), AllocError> {
-    out.extend(head)?;
-    write_decimal(body.len() as u64, out)?;
-    out.extend(b"\r\n\r\n")?;
-    out.extend(body.as_bytes())
+fn put_message(
+    alloc: Global,
+    head: &[u8],
+    body: &Txt,
+    out: &mut Vec<u8>,
+) -> Result<(), AllocError> {
+    let body = body.as_bytes();
+    out.extend_from_slice(head)?;
+    put_length(alloc, body.len(), out)?;
+    out.extend_from_slice(body)
+}
+
+// Appends the length and the end of the head. Nearly all have two or three digits.
+fn put_length(alloc: Global, length: usize, out: &mut Vec<u8>) -> Result<(), AllocError> {
+    if length < 10 || 999 < length {
+        return put_any_length(alloc, length, out);
+    }
+    let end = [
+        digit(length / 100),
+        digit(length / 10),
+        digit(length),
+        b'\r',
+        b'\n',
+        b'\r',
+        b'\n',
+    ];
+    let from = if length < 100 { 1 } else { 0 };
+    out.extend_from_slice(&end[from..])
+}
+
+// The last digit of the number.
+fn digit(number: usize) -> u8 {
+    b'0' + (number % 10) as u8
+}
+
+#[inline(never)]
+fn put_any_length(alloc: Global, length: usize, out: &mut Vec<u8>) -> Result<(), AllocError> {
+    let mut end = Txt::new(alloc);
+    write_decimal(length as u64, &mut end)?;
+    end.extend(b"\r\n\r\n")?;
+    out.extend_from_slice(end.as_bytes())
 }
