@@ -8,7 +8,7 @@ ghost use Rattle.rtb_base.specs.Faults.{CountsErrors};
 
 use crate::link::Link;
 use rtb_num::{Calls, Failed, List, Txt};
-use std::alloc::Global;
+use std::alloc::{AllocError, Global};
 use std::marker::Model;
 
 /// A link in memory, where the calls whose numbers are listed fail.
@@ -44,6 +44,24 @@ impl MemLink {
             sent: Txt::new(alloc),
             calls: Calls::new(fails),
         }
+    }
+
+    /// The same, with room for so many bytes that are sent.
+    pub fn with_room(
+        alloc: Global,
+        left: Txt,
+        fails: List<u64>,
+        room: usize,
+    ) -> Result<MemLink, AllocError>
+        ensures { IfOk result (λ l. l ≡ record { left = left; sent = []; calls = no_calls fails }) }
+    {
+        let sent = Vec::with_capacity(alloc, room)?;
+        Ok(MemLink {
+            bytes: left,
+            place: 0,
+            sent: Txt::from_vec(sent),
+            calls: Calls::new(fails),
+        })
     }
 
     /// What was sent.
