@@ -1,4 +1,5 @@
 pub mod Answers
+pub mod Common
 pub mod Heads
 pub mod Lines
 pub mod Numbers

@@ -1,6 +1,7 @@
 //! How answers are written.
-ghost use Rattle.std.specs.Prelude.{◌≡◌, ◌++◌, List, ℕ, length, take, OnOk, OnErr};
-ghost use Rattle.http_wire.specs.Answers.{IsWritable, allow_line, answer_text, close_line, length_line, memory_answer, status_line, store_failed_answer, type_line};
+ghost use Rattle.std.specs.Prelude.{◌≡◌, ◌++◌, ◌+◌, ◌%◌, ◌<◌, ◌≤◌, List, ℕ, [], length, take, false, decimal, IsTrue, OnOk, OnErr};
+ghost use Rattle.http_wire.specs.Answers.{IsWritable, allow_line, answer_text, close_line, crlf, length_line, memory_answer, status_line, store_failed_answer, type_line};
+ghost use Rattle.http_wire.specs.Common.{bare_text, common_front, zeros_before};
 
 use rtb_num::{Txt, write_decimal};
 use std::alloc::AllocError;
@@ -73,6 +74,12 @@ fn push_answer(answer: &Answer, closes: bool, out: &mut Txt) -> Result<(), Alloc
     ensures front { (more : List ℕ) × (out.new ≡ out.old ++ more) }
 {
     let body = answer.body.as_bytes();
+    if is_common(answer, closes) {
+        return push_common(body, out);
+    }
+    if is_bare(answer, closes) {
+        return push_bare(out);
+    }
     out.extend(status_line(answer.status))?;
     out.extend(allow_line(answer.allow))?;
     out.extend(type_line(body))?;
@@ -81,6 +88,117 @@ fn push_answer(answer: &Answer, closes: bool, out: &mut Txt) -> Result<(), Alloc
     out.extend(b"\r\n")?;
     out.extend(body)?;
     Ok(())
+}
+
+// Whether it is a common answer: 200 with a body of two to four digits' bytes, and the link stays.
+fn is_common(answer: &Answer, closes: bool) -> bool
+    ensures status { IsTrue result → answer.now.status ≡ 200 }
+    ensures allow { IsTrue result → answer.now.allow ≡ Allow.None }
+    ensures stays { IsTrue result → closes ≡ false }
+    ensures least { IsTrue result → 10 ≤ length answer.now.body }
+    ensures most { IsTrue result → length answer.now.body < 10000 }
+{
+    let length = answer.body.len();
+    answer.status == 200
+        && allows_nothing(answer.allow)
+        && !closes
+        && 10 <= length
+        && length < 10_000
+}
+
+fn allows_nothing(allow: Allow) -> bool
+    ensures { IsTrue result → allow ≡ Allow.None }
+{
+    match allow {
+        Allow::None => true,
+        Allow::Post => false,
+        Allow::GetPost => false,
+    }
+}
+
+// Whether it is an answer of 204 behind which the link stays.
+fn is_bare(answer: &Answer, closes: bool) -> bool
+    ensures status { IsTrue result → answer.now.status ≡ 204 }
+    ensures allow { IsTrue result → answer.now.allow ≡ Allow.None }
+    ensures stays { IsTrue result → closes ≡ false }
+    ensures body { IsTrue result → answer.now.body ≡ [] }
+{
+    answer.status == 204 && allows_nothing(answer.allow) && !closes && answer.body.is_empty()
+}
+
+// Appends such an answer, all or nothing.
+fn push_bare(out: &mut Txt) -> Result<(), AllocError>
+    ensures ok { OnOk result (out.new ≡ out.old ++ bare_text) }
+    ensures err { OnErr result (out.new ≡ out.old) }
+{
+    out.extend(bare_text())
+}
+
+#[tactic(auto, unfolding(crate::specs::Common::bare_text))]
+fn bare_text() -> &'static [u8]
+    ensures { result.now ≡ bare_text }
+{
+    b"HTTP/1.1 204 No Content\r\n\r\n"
+}
+
+// Appends a common answer, or a front of it where memory is refused.
+fn push_common(body: &[u8], out: &mut Txt) -> Result<(), AllocError>
+    requires least { 10 ≤ length body.now }
+    requires most { length body.now < 10000 }
+    ensures ok { OnOk result (out.new ≡ out.old ++ common_front ++ (decimal (length body.now) ++ crlf ++ crlf) ++ body.now) }
+    ensures front { (more : List ℕ) × (out.new ≡ out.old ++ more) }
+{
+    out.extend(common_front())?;
+    push_head_end(body.len(), out)?;
+    out.extend(body)
+}
+
+// What a common answer begins with, up to its length.
+#[tactic(auto, unfolding(crate::specs::Common::common_front))]
+fn common_front() -> &'static [u8]
+    ensures { result.now ≡ common_front }
+{
+    b"HTTP/1.1 200 OK\r\nContent-Type: application/json\r\nContent-Length: "
+}
+
+// Appends the length, and the end of its line and of the head.
+fn push_head_end(length: usize, out: &mut Txt) -> Result<(), AllocError>
+    requires least { 10 ≤ length }
+    requires most { length < 10000 }
+    ensures ok { OnOk result (out.new ≡ out.old ++ (decimal length ++ crlf ++ crlf)) }
+    ensures err { OnErr result (out.new ≡ out.old) }
+{
+    let end = [
+        digit(length / 1000),
+        digit(length / 100),
+        digit(length / 10),
+        digit(length),
+        b'\r',
+        b'\n',
+        b'\r',
+        b'\n',
+    ];
+    out.extend(&end[zeros_before(length)..])
+}
+
+// The last digit of a number.
+fn digit(number: usize) -> u8
+    ensures { result ≡ 48 + number % 10 }
+{
+    b'0' + (number % 10) as u8
+}
+
+// How many zeros stand before a number of two to four digits that is written in four.
+fn zeros_before(number: usize) -> usize
+    ensures { result ≡ zeros_before number }
+{
+    if number < 100 {
+        2
+    } else if number < 1000 {
+        1
+    } else {
+        0
+    }
 }
 
 // Appends the line of the length.

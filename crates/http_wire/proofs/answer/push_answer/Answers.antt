@@ -1,6 +1,8 @@
-use Rattle.std.proofs.Common.{◌≡◌, ℕ, List, [], ◌++◌, ◌∙◌, sym, ap, append_assoc}
+use Rattle.std.proofs.Common.{◌≡◌, ℕ, List, [], ◌++◌, ◌∙◌, sym, ap, subst, append_assoc, length, decimal, OnOk}
 use Rattle.std.proofs.lemmas.List.{append-nil}
-use Rattle.http_wire.specs.Answers.{answer_text, length_line, status_line, type_line}
+use Rattle.http_wire.specs.Answers.{answer_text, crlf, length_line, status_line, type_line}
+use Rattle.http_wire.specs.Common.{common_front}
+use Rattle.http_wire.proofs.Commons.{is_bare, is_common}
 use Rattle.http_wire.proofs.answer.push_answer.Goals as goal
 
 -- What was appended, and then more.
@@ -13,6 +15,22 @@ behind old middle new p q = (p.0 ++ q.0, further old p.0 middle q.0 new p.1 q.1)
 -- What was not changed.
 stayed : (old middle new : List ℕ) → ((text : List ℕ) × (middle ≡ old ++ text)) → new ≡ middle → (more : List ℕ) × (new ≡ old ++ more)
 stayed old middle new p e = (p.0, e ∙ p.1)
+
+pub returns-then-is_common-clause-ok : goal.returns-then-is_common-clause-ok
+returns-then-is_common-clause-ok c =
+    let told = c.is_common.ensures in
+    let yes = c.if-is_common.true in
+    let out = c.args.out.now in
+    let is = is_common c.args.answer.now c.args.closes out (told.status yes) (told.allow yes) (told.stays yes) (told.least yes) in
+    let same = ap (λ b. out ++ common_front ++ (decimal (length b) ++ crlf ++ crlf) ++ b) c.as_bytes-body.ensures.value in
+    subst (λ t. OnOk c.push_common.result (c.push_common.new.out ≡ t)) (same ∙ is) c.push_common.ensures.ok
+
+pub returns-then-is_bare-clause-ok : goal.returns-then-is_bare-clause-ok
+returns-then-is_bare-clause-ok c =
+    let told = c.is_bare.ensures in
+    let yes = c.if-is_bare.true in
+    let is = is_bare c.args.answer.now c.args.closes c.args.out.now (told.status yes) (told.allow yes) (told.stays yes) (told.body yes) in
+    subst (λ t. OnOk c.push_bare.result (c.push_bare.new.out ≡ t)) is c.push_bare.ensures.ok
 
 pub returns-in_err-extend-clause-front : goal.returns-in_err-extend-clause-front
 returns-in_err-extend-clause-front c = ([], c.in_err-extend.ensures.err ∙ sym (append-nil c.args.out.now))
