@@ -16,8 +16,9 @@ const TAKEN: u64 = 1;
 
 const PARKED: u64 = 2;
 
-// How often a seat pauses before it parks, and how often it looks before each pause.
-const PAUSES: u32 = 100;
+// How often a seat pauses before it parks, which takes 7 to 50 microseconds as the processor's kind is, and how often it
+// looks before each pause. A turn takes a few microseconds, and who parks is back after some fifty.
+const PAUSES: u32 = 1_000;
 
 const LOOKS: u32 = 8;
 
