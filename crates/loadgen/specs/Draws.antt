@@ -30,10 +30,10 @@ campaign_draws x = record {
 abbrev pub behind_campaign : ℕ → ℕ
 behind_campaign x = if asks_for_system x == 1 then next (next (next (next (next x)))) else next (next (next (next x)))
 
--- what is drawn for a request, in this order: its floor, its country and its system, none where 4 is drawn
+-- what is drawn for a request, in this order: the cents of its floor, its country and its system, none where 4 is drawn
 abbrev pub request_draws : ℕ → RequestDraws
 request_draws x = record {
-  floor = 10000 * drawn 100 x;
+  cents = drawn 100 x;
   country = drawn 8 (next x);
   system = if drawn 5 (next (next x)) == 4 then None else Some (drawn 5 (next (next x)));
 }

@@ -1,5 +1,5 @@
 -- The bodies that are sent: of a campaign and of a bid request (IAB OpenRTB API 2.5, section 3.2).
-use Rattle.std.specs.Prelude.{ℕ, List, [], ◌++◌, Option, None, Some, codes, decimal}
+use Rattle.std.specs.Prelude.{ℕ, ◌*◌, List, [], ◌++◌, Option, None, Some, codes, decimal}
 use Rattle.rtb_num.specs.Amounts.{micros_text}
 use Rattle.loadgen.specs.declared.campaign.CampaignDraws.{CampaignDraws}
 use Rattle.loadgen.specs.declared.request.RequestDraws.{RequestDraws}
@@ -34,5 +34,5 @@ told_system (Some o) = system_of o
 
 -- the request of this number
 abbrev pub request_text : ℕ → RequestDraws → List ℕ
-request_text j r = numbered (codes "{\"id\":\"r") j (codes "\",") ++ priced (codes "\"imp\":[{\"id\":\"1\",\"bidfloor\":") r.floor
+request_text j r = numbered (codes "{\"id\":\"r") j (codes "\",") ++ priced (codes "\"imp\":[{\"id\":\"1\",\"bidfloor\":") (10000 * r.cents)
     ++ numbered (codes ",\"banner\":{}}],\"device\":{\"geo\":{\"country\":\"c") r.country (codes "\"}") ++ told_system r.system ++ codes "}}"

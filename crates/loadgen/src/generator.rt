@@ -1,10 +1,11 @@
 //! The numbers that are drawn.
 ghost use Rattle.std.specs.Prelude.{◌≡◌, ◌<◌, ◌*◌, ◌/◌, ◌%◌, ◌^◌, OnOk, IfOk};
 ghost use Rattle.loadgen.specs.Draws.{behind_campaign, behind_request, campaign_draws, drawn, next, request_draws};
+ghost use Rattle.loadgen.specs.Pieces.{AreShort};
 ghost use Rattle.loadgen.specs.Texts.{campaign_text, request_text};
 
 use crate::campaign::{CampaignDraws, write_campaign};
-use crate::request::{RequestDraws, write_request};
+use crate::request::{RequestDraws, write_over, write_request};
 use rtb_num::{Micros, Txt};
 use std::alloc::{AllocError, Global};
 use std::marker::Model;
@@ -73,6 +74,16 @@ impl Gen {
         write_request(alloc, number, draws)
     }
 
+    /// The same, in the place of what the text was, and in its memory as far as it goes. Behind an error the text is of no
+    /// use.
+    pub fn request_into(&mut self, number: u32, body: &mut Txt) -> Result<(), AllocError>
+        ensures text { OnOk result (body.new ≡ request_text number (request_draws self.old)) }
+        ensures behind { self.new ≡ behind_request self.old }
+    {
+        let draws = self.draw_request();
+        write_over(number, draws, body)
+    }
+
     fn draw_campaign(&mut self) -> CampaignDraws
         ensures draws { result ≡ campaign_draws self.old }
         ensures behind { self.new ≡ behind_campaign self.old }
@@ -95,13 +106,14 @@ impl Gen {
 
     fn draw_request(&mut self) -> RequestDraws
         ensures draws { result ≡ request_draws self.old }
+        ensures short { AreShort result }
         ensures behind { self.new ≡ behind_request self.old }
     {
-        let floor = price(self.draw(100));
+        let cents = self.draw(100);
         let country = self.draw(8);
         let system = self.draw(5);
         RequestDraws {
-            floor,
+            cents,
             country,
             system: if system == 4 { None } else { Some(system) },
         }
