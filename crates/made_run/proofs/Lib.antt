@@ -1,4 +1,3 @@
-pub mod Drawn
 pub mod Held
 pub mod Keeping
 pub mod Lines

@@ -1,8 +1,11 @@
 -- One message more.
-use Rattle.std.proofs.Common.{◌≡◌, ℕ, zero, suc, ◌+◌, List, [], ◌∷◌, ◌++◌, refl, ap, ◌∙◌, arith}
+use Rattle.std.proofs.Common.{◌≡◌, ℕ, zero, suc, ◌+◌, List, [], ◌∷◌, ◌++◌, refl, ap, sym, ◌∙◌, arith}
+use Rattle.std.specs.Prelude.{codes}
 use Rattle.http_wire.specs.declared.message.Message.{Message}
-use Rattle.loadgen.specs.Draws.{behind_campaign, behind_request}
-use Rattle.made_run.specs.Runs.{behind_campaigns, campaign_post, campaigns_from, request_post, requests_from}
+use Rattle.loadgen.specs.Draws.{behind_campaign, behind_request, request_draws}
+use Rattle.loadgen.specs.Texts.{request_text}
+use Rattle.made_run.specs.Runs.{behind_campaigns, campaign_post, campaigns_from, post, request_post, requests_from}
+use Rattle.made_run.specs.Standing.{IsPostTo}
 
 one_on : (k : ℕ) → k + 1 ≡ suc k
 one_on k = omega arith
@@ -64,3 +67,17 @@ sought_more x (suc k) = sought_more (behind_request x) k
 
 pub sought_on : (x k : ℕ) → behind_requests x (k + 1) ≡ behind_request (behind_requests x k)
 sought_on x k = ap (λ (n : ℕ). behind_requests x n) (one_on k) ∙ sought_more x k
+
+-- ---- a request in the place of another
+
+-- a post has its own body
+pub has_body : (target body : List ℕ) (m : Message) → m ≡ post target body → IsPostTo target m
+has_body target body m is = is ∙ sym (ap (λ (n : Message). post target n.body) is)
+
+-- or another one
+pub with_body : (target body : List ℕ) (m : Message) → IsPostTo target m → record m { body = body } ≡ post target body
+with_body target body m is = ap (λ (n : Message). record n { body = body }) is
+
+pub with_request : (number x : ℕ) (body : List ℕ) (m : Message) → IsPostTo (codes "/openrtb2/auction") m → body ≡ request_text number (request_draws x) → record m { body = body } ≡ request_post number x
+unfolding request_post
+with_request number x body m is drawn = with_body (codes "/openrtb2/auction") body m is ∙ ap (λ (b : List ℕ). post (codes "/openrtb2/auction") b) drawn

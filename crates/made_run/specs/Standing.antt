@@ -1,12 +1,11 @@
 -- A run as far as it was gathered. Only private clauses cite this file.
-use Rattle.std.specs.Prelude.{◌≡◌, ℕ, IfSome, List, [], ◌∷◌, Option, None, Some, ⊤}
+use Rattle.std.specs.Prelude.{◌≡◌, ℕ, IfSome, List, Option, None, Some, ⊤}
 use Rattle.auction_core.specs.Core.{listed}
 use Rattle.conj_index.specs.Content.{IsIndexOf}
 use Rattle.conj_index.specs.declared.index.Index.{Index}
 use Rattle.http_wire.specs.declared.message.Message.{Message}
 use Rattle.live_index.specs.Reached.{live_expressions}
-use Rattle.loadgen.specs.Draws.{behind_request}
-use Rattle.made_run.specs.Runs.{IsRunOf, header, request_post, trace_text, with_status}
+use Rattle.made_run.specs.Runs.{IsRunOf, header, post, trace_text, with_status}
 use Rattle.made_run.specs.declared.gathering.Gathering.{Gathering}
 use Rattle.plain_exchange.specs.State.{State}
 use Rattle.trace.specs.declared.entry.Entry.{Entry}
@@ -25,10 +24,9 @@ pub record IsSoFar (posts : List (ℕ × Message)) (g : Gathering) : Type 0 wher
   pub sold_is : g.sold ≡ with_status 200 entries
   pub no_bid_is : g.no_bid ≡ with_status 204 entries
 
--- requests that are drawn from the state x on, one behind the other, each with its number, and the state behind them
-abbrev pub AreAhead : ℕ → List (ℕ × Message) → ℕ → Type 0
-AreAhead x [] y = y ≡ x
-AreAhead x (p ∷ ps) y = (p.1 ≡ request_post p.0 x) × AreAhead (behind_request x) ps y
+-- a message that is posted there, whatever its body
+abbrev pub IsPostTo : List ℕ → Message → Type 0
+IsPostTo target m = m ≡ post target m.body
 
 -- an index, where there is one, has the campaigns of the state
 abbrev pub Fits : Option Index → State → Type 0

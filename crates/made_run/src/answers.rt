@@ -1,41 +1,27 @@
-//! The answers that were sent, one behind the other. What is read of them is compared with what has to be answered, so
-//! no contract speaks of it here.
-use crate::ahead::Request;
+//! The answers of a run, which are read one after the other from what was sent. They are compared with what has to be
+//! answered, so no contract speaks of them here.
 use rtb_num::Txt;
 use std::alloc::{AllocError, Global};
 
 /// Where the answers of a run come from, in the order of its messages.
 pub(crate) trait Tells {
-    /// Posts the campaigns of the start.
-    fn post_campaigns(&mut self, alloc: Global, start: u64) -> Result<(), AllocError>;
-
-    /// Posts these requests, the first of which stands last, once all answers to the messages before were taken.
-    fn post(&mut self, alloc: Global, requests: &[Request]) -> Result<(), AllocError>;
-
-    /// The next answer.
-    fn next_told(&mut self, alloc: Global) -> Result<Told, AllocError>;
-
-    /// Takes the body of an answer back, in whose memory a later one is told.
-    fn take_back(&mut self, body: Txt);
+    /// Puts the body of the next answer in the place of what the text was. The answer's status.
+    fn tell(&mut self, alloc: Global, answer: &mut Txt) -> Result<u32, AllocError>;
 }
 
-/// An answer as a client reads it.
-#[derive(Drop)]
-pub(crate) struct Told {
-    pub status: u32,
-    pub body: Txt,
-}
-
-/// The answer at the place, in the memory of `room`, and the place behind it. None is there only where a link ended
-/// early, which a link in memory does for want of memory alone.
-pub(crate) fn told_at(room: Txt, sent: &[u8], place: usize) -> Result<(Told, usize), AllocError> {
-    let mut room = room;
+/// Puts the body of the answer at the place of what was sent in the place of what the text was. The answer's status, and
+/// the place behind it. None is there only where a link ended early, which a link in memory does for want of memory alone.
+pub(crate) fn tell_at(
+    sent: &[u8],
+    place: usize,
+    answer: &mut Txt,
+) -> Result<(u32, usize), AllocError> {
     let Some((status, body, next)) = answer_at(sent, place) else {
         return Err(AllocError);
     };
-    room.truncate(0);
-    room.extend(body)?;
-    Ok((Told { status, body: room }, next))
+    answer.truncate(0);
+    answer.extend(body)?;
+    Ok((status, next))
 }
 
 // What an answer with bids begins with, and one without bids.

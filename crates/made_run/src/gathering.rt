@@ -1,5 +1,6 @@
-//! The trace of a run, from its answers.
-ghost use Rattle.std.specs.Prelude.{◌≡◌, ◌↔◌, ◌+◌, ◌++◌, ◌∷◌, [], ℕ, IfOk, IfSome, IsTrue, List as AList, OnOk, Some, false, reverse, if◌then◌else◌};
+//! The trace of a run, from its answers. One entry serves for all requests: each is drawn and its answer told in the place
+//! of the one before. How messages come to be answered is no matter of this file.
+ghost use Rattle.std.specs.Prelude.{◌≡◌, ◌↔◌, ◌+◌, ◌++◌, ◌∷◌, [], ℕ, IfOk, IfSome, IsTrue, List as AList, OnOk, Some, codes, false, if◌then◌else◌};
 ghost use Rattle.std.specs.Option.{option_copied, option_map};
 ghost use Rattle.auction_core.specs.Core.{listed};
 ghost use Rattle.audit.specs.Accounts.{LeadsTo, passes};
@@ -8,13 +9,12 @@ ghost use Rattle.conj_index.specs.Content.{IsIndexOf};
 ghost use Rattle.http_wire.specs.declared.message.Message.{Message as AMessage};
 ghost use Rattle.live_index.specs.Reached.{live_expressions};
 ghost use Rattle.made_run.specs.Runs.{IsCounted, IsMade, behind_campaigns, campaigns_from, has_status, post_of, posted, requests_from, reserved_in};
-ghost use Rattle.made_run.specs.Standing.{AreAhead, Fits, IsReady, IsSoFar};
+ghost use Rattle.made_run.specs.Standing.{Fits, IsPostTo, IsReady, IsSoFar};
 ghost use Rattle.trace.specs.Traces.{entry_bytes, header_bytes};
 
-use crate::ahead::{Request, draw_ahead, take_first};
-use crate::answers::{Tells, Told};
+use crate::answers::Tells;
 use crate::finding::{Room, accounts_for, index_of};
-use crate::posting::{CAMPAIGNS, next_campaign};
+use crate::posting::{CAMPAIGNS, blank_request, next_campaign, next_request};
 use crate::reserving::{plus, reserved_in};
 use crate::run::{Made, PUBLIC, TTL};
 use auction_core::Core;
@@ -24,7 +24,6 @@ use http_wire::Message;
 use loadgen::Gen;
 use rtb_num::{Nanos, Txt};
 use std::alloc::{AllocError, Global};
-use std::mem;
 use trace::{Entry, Header, put_entry, put_header};
 
 /// The trace so far where it is kept, the exchange of one thread behind it, and how many requests were sold and how many were not.
@@ -183,7 +182,6 @@ impl Gathering {
         ensures { IfOk result (λ r. IsSoFar (posted start requests) self.new × (r ≡ reserved_in self.new.core.state.sales)) }
     {
         let mut drawn = Gen::new(start);
-        answers.post_campaigns(alloc, start)?;
         self.campaigns(alloc, &mut drawn, answers)?;
         self.requests(alloc, &mut drawn, requests, answers)?;
         reserved_in(self.core.book())
@@ -204,9 +202,26 @@ impl Gathering {
     {
         for _ in 0..CAMPAIGNS {
             let message = next_campaign(alloc, drawn)?;
-            self.take(alloc, None, 0, message, answers)?;
+            self.take_campaign(alloc, message, answers)?;
         }
         Ok(())
+    }
+
+    // Gathers the next answer, which is to the campaign of the message.
+    fn take_campaign<A: Tells>(
+        &mut self,
+        alloc: Global,
+        message: Message,
+        answers: &mut A,
+    ) -> Result<(), AllocError>
+        requires ready { IsReady self.old }
+        ensures ready { IsReady self.new }
+        ensures one { OnOk result ((posts : AList (ℕ × AMessage)) → IsSoFar posts self.old → IsSoFar (posts ++ (0, message) ∷ []) self.new) }
+    {
+        let mut entry = entry_of(alloc, message);
+        let taken = self.take(alloc, None, &mut entry, answers);
+        drop(entry);
+        taken
     }
 
     // Gathers the answers to so many requests.
@@ -221,9 +236,7 @@ impl Gathering {
         ensures gathered { OnOk result ((posts : AList (ℕ × AMessage)) → IsSoFar posts self.old → IsSoFar (posts ++ requests_from drawn.old 1 requests) self.new) }
     {
         let index = index_of(alloc, &self.core)?;
-        let mut ahead = Vec::new(alloc);
-        let gathered = self.requests_by(alloc, &index, drawn, &mut ahead, requests, answers);
-        drop(ahead);
+        let gathered = self.requests_by(alloc, &index, drawn, requests, answers);
         drop(index);
         gathered
     }
@@ -234,52 +247,62 @@ impl Gathering {
         alloc: Global,
         index: &Index,
         drawn: &mut Gen,
-        ahead: &mut Vec<Request>,
         requests: u32,
         answers: &mut A,
     ) -> Result<(), AllocError>
         requires ready { IsReady self.old }
-        requires none { ahead.old.items ≡ [] }
         requires index { IsIndexOf (live_expressions (listed self.old.core.state)) index.now }
         ensures gathered { OnOk result ((posts : AList (ℕ × AMessage)) → IsSoFar posts self.old → IsSoFar (posts ++ requests_from drawn.old 1 requests) self.new) }
     {
+        let message = blank_request(alloc)?;
+        let mut entry = entry_of(alloc, message);
+        let gathered = self.requests_over(alloc, index, &mut entry, drawn, requests, answers);
+        drop(entry);
+        gathered
+    }
+
+    // The same, each request in the place of the one before.
+    fn requests_over<A: Tells>(
+        &mut self,
+        alloc: Global,
+        index: &Index,
+        entry: &mut Entry,
+        drawn: &mut Gen,
+        requests: u32,
+        answers: &mut A,
+    ) -> Result<(), AllocError>
+        requires ready { IsReady self.old }
+        requires index { IsIndexOf (live_expressions (listed self.old.core.state)) index.now }
+        requires post { IsPostTo (codes "/openrtb2/auction") entry.old.message }
+        ensures gathered { OnOk result ((posts : AList (ℕ × AMessage)) → IsSoFar posts self.old → IsSoFar (posts ++ requests_from drawn.old 1 requests) self.new) }
+    {
         for done in 0..requests {
-            post_ahead(alloc, drawn, ahead, done, requests, answers)?;
             let number = done + 1;
-            let message = take_first(ahead, number)?;
-            let moment = u64::from(number);
-            self.take(alloc, Some(index), moment, message, answers)?;
+            next_request(drawn, number, &mut entry.message)?;
+            entry.moment = u64::from(number);
+            self.take(alloc, Some(index), entry, answers)?;
         }
         Ok(())
     }
 
-    // Gathers the next answer, which is to the message. That is a request where there is an index.
+    // Gathers the next answer, which is to the entry's message, in the place of the one that the entry has. The message is a
+    // request where there is an index.
     fn take<A: Tells>(
         &mut self,
         alloc: Global,
         index: Option<&Index>,
-        moment: u64,
-        message: Message,
+        entry: &mut Entry,
         answers: &mut A,
     ) -> Result<(), AllocError>
         requires ready { IsReady self.old }
         requires fits { Fits (option_copied index) self.old.core.state }
         ensures ready { IsReady self.new }
         ensures fits { OnOk result (Fits (option_copied index.entry) self.new.core.state) }
-        ensures one { OnOk result ((posts : AList (ℕ × AMessage)) → IsSoFar posts self.old → IsSoFar (posts ++ (moment, message) ∷ []) self.new) }
+        ensures message { entry.new.message ≡ entry.old.message }
+        ensures one { OnOk result ((posts : AList (ℕ × AMessage)) → IsSoFar posts self.old → IsSoFar (posts ++ post_of entry.old ∷ []) self.new) }
     {
-        match answers.next_told(alloc) {
-            Ok(told) => {
-                let entry = entry_of(moment, message, told);
-                let put = self.put(alloc, index, &entry);
-                answers.take_back(answer_of(entry));
-                put
-            }
-            Err(AllocError) => {
-                drop(message);
-                Err(AllocError)
-            }
-        }
+        entry.status = answers.tell(alloc, &mut entry.answer)?;
+        self.put(alloc, index, entry)
     }
 
     // One entry more.
@@ -304,51 +327,16 @@ impl Gathering {
     }
 }
 
-// The most requests that are posted together.
-const MOST_MESSAGES: u32 = 1_000;
-
-// Draws the next requests behind so many, and posts them, where those that were drawn before are taken.
-fn post_ahead<A: Tells>(
-    alloc: Global,
-    drawn: &mut Gen,
-    ahead: &mut Vec<Request>,
-    done: u32,
-    requests: u32,
-    answers: &mut A,
-) -> Result<(), AllocError>
-    ensures { OnOk result ((x : ℕ) → AreAhead x (reverse ahead.old.items) drawn.old → AreAhead x (reverse ahead.new.items) drawn.new) }
+// An entry of the message at moment 0, whose answer was not told yet.
+fn entry_of(alloc: Global, message: Message) -> Entry
+    ensures { post_of result ≡ (0, message) }
 {
-    if !ahead.is_empty() {
-        return Ok(());
-    }
-    let until = requests.min(done.saturating_add(MOST_MESSAGES));
-    let next = draw_ahead(alloc, drawn, done, until)?;
-    drop(mem::replace(ahead, next));
-    answers.post(alloc, ahead.as_slice())
-}
-
-fn entry_of(moment: u64, message: Message, told: Told) -> Entry
-    ensures { post_of result ≡ (moment, message) }
-{
-    let Told { status, body } = told;
     Entry {
-        moment,
+        moment: 0,
         message,
-        status,
-        answer: body,
+        status: 0,
+        answer: Txt::new(alloc),
     }
-}
-
-// The entry's answer, which alone is kept.
-fn answer_of(entry: Entry) -> Txt {
-    let Entry {
-        moment: _,
-        message,
-        status: _,
-        answer,
-    } = entry;
-    drop(message);
-    answer
 }
 
 // The exchange of one thread takes the entry's message, and gives its answer. One that tells of memory or of the store is

@@ -6,7 +6,6 @@
 //! what is told of it.
 #![tactic(auto)]
 
-mod ahead;
 mod answers;
 mod disk;
 mod finding;

@@ -134,7 +134,7 @@ fn make_with<D: Disk + Drop, R: Wait>(
     ensures made { keeps ≡ true → IfOk result (λ made. IsMade start requests made) }
     ensures counted { keeps ≡ false → IfOk result (λ made. IsCounted start requests made) }
 {
-    let mut server = Server::new(alloc, rt, exchange, seat, public);
+    let mut server = Server::new(alloc, rt, exchange, seat, public, start, requests);
     let made = made_by(alloc, start, requests, keeps, &mut server);
     drop(server);
     made

@@ -1,10 +1,9 @@
 //! The messages of a run served over links in memory, one link after the other, by one worker of an exchange whose journal
-//! is in memory. A link is made when all answers of the one before are taken, which is let go then.
+//! is in memory. A link is drawn and served when all answers of the one before were told, which is let go then.
 ghost use Rattle.std.specs.Prelude.{◌≡◌, ◌≢◌, [], IfOk};
 ghost use Rattle.exchange_shared.specs.Seats.{MayCall, lock_of};
 
-use crate::ahead::Request;
-use crate::answers::{Tells, Told, told_at};
+use crate::answers::{Tells, tell_at};
 use crate::posting::CAMPAIGNS;
 use door_worker::{DoorEnd, serve_door};
 use exchange_shared::{Exchange, Seat};
@@ -23,22 +22,25 @@ pub(crate) struct Server<'e, D: Disk, R: Wait> {
     rt: &'e R,
     public: &'e Txt,
     clerk: Clerk<'e, D>,
+    // What comes on the links that were not made yet.
+    links: Links,
     // The link that was served last.
     door: Option<MemDoor>,
     // Where the next answer stands in what was sent on it.
     place: usize,
-    // In whose memory it is told.
-    room: Txt,
 }
 
 impl<'e, D: Disk, R: Wait> Server<'e, D, R> {
-    /// Nothing was served yet. `public` is what the addresses of notices begin with.
+    /// Nothing was served yet of the run of the start, with so many requests. `public` is what the addresses of notices
+    /// begin with.
     pub(crate) fn new(
         alloc: Global,
         rt: &'e R,
         exchange: &'e Exchange<D>,
         seat: Seat<D>,
         public: &'e Txt,
+        start: u64,
+        requests: u32,
     ) -> Server<'e, D, R>
         requires seat { MayCall (lock_of exchange.now) seat }
         requires first { seat.worker ≡ 0 }
@@ -50,15 +52,21 @@ impl<'e, D: Disk, R: Wait> Server<'e, D, R> {
                 exchange,
                 seat: Some(seat),
             },
+            links: Links::new(alloc, start, requests),
             door: None,
             place: 0,
-            room: Txt::new(alloc),
         }
     }
 
-    // Serves the link of the door, and lets the one before go. A link is rare, and what is made for it has no room in
-    // what takes an answer.
+    // Makes and serves the next link, that of the campaigns first. Links are rare, and what is made for one has no room in
+    // what tells an answer.
     #[inline(never)]
+    fn serve_next(&mut self, alloc: Global) -> Result<(), AllocError> {
+        let door = self.links.next_door(alloc, self.door.is_none())?;
+        self.serve(alloc, door)
+    }
+
+    // Serves the link of the door, and lets the one before go.
     fn serve(&mut self, alloc: Global, door: MemDoor) -> Result<(), AllocError> {
         let mut door = door;
         let end = self.clerk.serve(alloc, self.rt, self.public, &mut door);
@@ -72,28 +80,13 @@ impl<'e, D: Disk, R: Wait> Server<'e, D, R> {
 }
 
 impl<'e, D: Disk, R: Wait> Tells for Server<'e, D, R> {
-    fn post_campaigns(&mut self, alloc: Global, start: u64) -> Result<(), AllocError> {
-        let door = campaigns_door(alloc, start)?;
-        self.serve(alloc, door)
-    }
-
-    fn post(&mut self, alloc: Global, requests: &[Request]) -> Result<(), AllocError> {
-        let door = requests_door(alloc, requests)?;
-        self.serve(alloc, door)
-    }
-
-    fn next_told(&mut self, alloc: Global) -> Result<Told, AllocError> {
-        let Some(door) = &self.door else {
-            return Err(AllocError);
-        };
-        let room = mem::replace(&mut self.room, Txt::new(alloc));
-        let (told, next) = told_at(room, sent_on(door), self.place)?;
+    fn tell(&mut self, alloc: Global, answer: &mut Txt) -> Result<u32, AllocError> {
+        if self.place == sent_on(&self.door).len() {
+            self.serve_next(alloc)?;
+        }
+        let (status, next) = tell_at(sent_on(&self.door), self.place, answer)?;
         self.place = next;
-        Ok(told)
-    }
-
-    fn take_back(&mut self, body: Txt) {
-        self.room = body;
+        Ok(status)
     }
 }
 
@@ -155,44 +148,99 @@ fn serve_with<D: Disk, R: Wait>(
 }
 
 // What was sent on the one link of the door.
-fn sent_on(door: &MemDoor) -> &[u8] {
+fn sent_on(door: &Option<MemDoor>) -> &[u8] {
+    let Some(door) = door else {
+        return b"";
+    };
     match door.served().as_slice().first() {
         Some(link) => link.sent().as_bytes(),
         None => b"",
     }
 }
 
-// All campaigns come at moment 0.
-fn campaigns_door(alloc: Global, start: u64) -> Result<MemDoor, AllocError> {
-    let text = campaigns_text(alloc, start)?;
-    let moments = with_moment(List::new(alloc), 0)?;
-    door_with(alloc, text, moments)
+// What has not come on a link yet, drawn as gathering draws it.
+#[derive(Drop)]
+struct Links {
+    drawn: Gen,
+    // So many requests were drawn, of so many.
+    done: u32,
+    requests: u32,
+    // In whose memory the body of a request is drawn before it is copied behind its head.
+    body: Txt,
 }
 
-// A door with these requests, the first of which stands last, each at the moment that is its number.
-fn requests_door(alloc: Global, requests: &[Request]) -> Result<MemDoor, AllocError> {
-    let text = requests_text(alloc, requests)?;
-    let moments = request_moments(alloc, requests)?;
-    door_with(alloc, text, moments)
-}
-
-fn door_with(alloc: Global, text: Txt, moments: List<u64>) -> Result<MemDoor, AllocError>
-    requires some { moments ≢ [] }
-{
-    let mut links = List::new(alloc);
-    links.push(MemLink::new(alloc, text, List::new(alloc)))?;
-    MemDoor::new(alloc, links, moments, List::new(alloc))
-}
-
-// The moments of these requests, and one behind them.
-fn request_moments(alloc: Global, requests: &[Request]) -> Result<List<u64>, AllocError>
-    ensures some { IfOk result (λ moments. moments ≢ []) }
-{
-    let mut moments = List::with_capacity(alloc, requests.len().saturating_add(1))?;
-    for request in requests.iter().rev() {
-        moments.push(u64::from(request.0))?;
+impl Links {
+    // The links of the start's run, with so many requests.
+    fn new(alloc: Global, start: u64, requests: u32) -> Links {
+        Links {
+            drawn: Gen::new(start),
+            done: 0,
+            requests,
+            body: Txt::new(alloc),
+        }
     }
-    with_moment(moments, 0)
+
+    // A door with the next link, which is the first one or not.
+    fn next_door(&mut self, alloc: Global, first: bool) -> Result<MemDoor, AllocError> {
+        if first {
+            return self.campaigns(alloc);
+        }
+        self.requests(alloc)
+    }
+
+    // All campaigns come on the first link, at moment 0.
+    fn campaigns(&mut self, alloc: Global) -> Result<MemDoor, AllocError> {
+        let mut text = text_with_room(alloc, CAMPAIGNS)?;
+        for _ in 0..CAMPAIGNS {
+            let body = self.drawn.campaign(alloc)?;
+            put_message(alloc, CAMPAIGN_HEAD, &body, &mut text)?;
+        }
+        door_with(alloc, text, List::new(alloc), CAMPAIGNS)
+    }
+
+    // Each request comes at the moment that is its number.
+    fn requests(&mut self, alloc: Global) -> Result<MemDoor, AllocError> {
+        let count = self.requests.saturating_sub(self.done).min(MOST_MESSAGES);
+        let until = self.done.saturating_add(count);
+        let mut text = text_with_room(alloc, count)?;
+        let mut moments = List::with_capacity(alloc, count as usize + 1)?;
+        for before in self.done..until {
+            let number = before + 1;
+            self.drawn.request_into(number, &mut self.body)?;
+            put_message(alloc, REQUEST_HEAD, &self.body, &mut text)?;
+            moments.push(u64::from(number))?;
+        }
+        self.done = until;
+        door_with(alloc, text, moments, count)
+    }
+}
+
+// The most requests of a link.
+const MOST_MESSAGES: u32 = 1_000;
+
+// A message has about so many bytes, and an answer.
+const ROOM: usize = 256;
+
+const ANSWER_ROOM: usize = 512;
+
+// An empty text with room for so many messages.
+fn text_with_room(alloc: Global, messages: u32) -> Result<Vec<u8>, AllocError> {
+    Vec::with_capacity(alloc, (messages as usize).saturating_mul(ROOM))
+}
+
+// A door with one link, on which this text comes, of so many messages, at these moments and then at 0.
+fn door_with(
+    alloc: Global,
+    text: Vec<u8>,
+    moments: List<u64>,
+    messages: u32,
+) -> Result<MemDoor, AllocError> {
+    let moments = with_moment(moments, 0)?;
+    let room = (messages as usize).saturating_mul(ANSWER_ROOM);
+    let link = MemLink::with_room(alloc, Txt::from_vec(text), List::new(alloc), room)?;
+    let mut links = List::new(alloc);
+    links.push(link)?;
+    MemDoor::new(alloc, links, moments, List::new(alloc))
 }
 
 fn with_moment(moments: List<u64>, moment: u64) -> Result<List<u64>, AllocError>
@@ -203,37 +251,11 @@ fn with_moment(moments: List<u64>, moment: u64) -> Result<List<u64>, AllocError>
     Ok(moments)
 }
 
-// A message has about so many bytes.
-const ROOM: usize = 256;
-
 // What a client sends before the length of a body (RFC 9112, section 2.1).
 const CAMPAIGN_HEAD: &[u8] = b"POST /campaign HTTP/1.1\r\nHost: make.example\r\nContent-Length: ";
 
 const REQUEST_HEAD: &[u8] =
     b"POST /openrtb2/auction HTTP/1.1\r\nHost: make.example\r\nContent-Length: ";
-
-fn campaigns_text(alloc: Global, start: u64) -> Result<Txt, AllocError> {
-    let mut drawn = Gen::new(start);
-    let mut text = text_with_room(alloc, CAMPAIGNS as usize)?;
-    for _ in 0..CAMPAIGNS {
-        let body = drawn.campaign(alloc)?;
-        put_message(alloc, CAMPAIGN_HEAD, &body, &mut text)?;
-    }
-    Ok(Txt::from_vec(text))
-}
-
-fn requests_text(alloc: Global, requests: &[Request]) -> Result<Txt, AllocError> {
-    let mut text = text_with_room(alloc, requests.len())?;
-    for request in requests.iter().rev() {
-        put_message(alloc, REQUEST_HEAD, &request.1.body, &mut text)?;
-    }
-    Ok(Txt::from_vec(text))
-}
-
-// An empty text with room for so many messages.
-fn text_with_room(alloc: Global, messages: usize) -> Result<Vec<u8>, AllocError> {
-    Vec::with_capacity(alloc, messages.saturating_mul(ROOM))
-}
 
 // Appends the message with this head.
 fn put_message(

@@ -11,9 +11,10 @@ loop-init g c = record { ready = c.requires.ready; so_far = none_taken c.args.dr
 pub loop-preserved : goal.loop-preserved
 loop-preserved g c =
     let before = c.loop.invariant in
+    let taken = c.in_ok-take_campaign.ensures in
     record {
-      ready = c.in_ok-take.ensures.ready;
-      so_far = campaign_taken c.args.drawn.now c.loop.counter c.loop.drawn c.in_ok-message.message c.take.new.self before.drawn c.in_ok-message.ensures.message (c.in_ok-take.ensures.one _ before.so_far);
+      ready = taken.ready;
+      so_far = campaign_taken c.args.drawn.now c.loop.counter c.loop.drawn c.in_ok-message.message c.take_campaign.new.self before.drawn c.in_ok-message.ensures.message (taken.one _ before.so_far);
       drawn = campaign_drawn c.args.drawn.now c.loop.counter c.loop.drawn c.next_campaign.new.drawn before.drawn c.next_campaign.ensures.behind;
     }
 
