@@ -57,7 +57,7 @@ not_entered s t (Ok x) w = tt
 not_entered s t (Err e) w = goes_waits s t w
 
 -- a turn before it found
-entered_at : (c : Command) (moment : ℕ) (s m t : Seat) (x : Settled) → Goes [] 0 s m → Entered c moment m t x → Entered c moment s t x
+pub entered_at : (c : Command) (moment : ℕ) (s m t : Seat) (x : Settled) → Goes [] 0 s m → Entered c moment m t x → Entered c moment s t x
 entered_at c moment s m t x g e = record {
   goes = goes_on [] (call_at s.worker c moment x.reply ∷ []) 0 0 s m t g (subst (λ (w : ℕ). Goes (call_at w c moment x.reply ∷ []) 0 m t) (worker_is [] 0 s m g) e.goes);
   upto = e.upto;
@@ -79,7 +79,7 @@ not_entered_later s m t r w g = not_entered_behind s m t r (goes_waits s m w) g
 
 -- ---- one message
 
-none_failed : (n : ℕ) → 0 + n ≡ n
+pub none_failed : (n : ℕ) → 0 + n ≡ n
 none_failed n = omega arith
 
 -- the effects are durable, and this is told of the reply

@@ -1,5 +1,5 @@
 -- What a call on a seat makes of its list, in the words of a conversation.
-use Rattle.std.proofs.Common.{◌≡◌, inl, inr, ℕ, ◌+◌, ◌≤◌, ◌<◌, cond, false, Bool, not, List, [], ◌∷◌, ◌++◌, length, refl, sym, ◌∙◌, ap, subst, arith, append_assoc, length-append, Result, Ok, Err}
+use Rattle.std.proofs.Common.{◌≡◌, inl, inr, ℕ, ◌+◌, ◌≤◌, ◌<◌, cond, false, true, Bool, not, List, [], ◌∷◌, ◌++◌, length, refl, sym, ◌∙◌, ap, subst, arith, append_assoc, length-append, Result, Ok, Err}
 use Rattle.std.specs.Prelude.{All, IfOk, OnErr}
 use Rattle.std.proofs.lemmas.List.{append-nil}
 use Rattle.std.proofs.lemmas.List.Elements.{All-head, All-tail, filter_map-append}
@@ -17,7 +17,7 @@ use Rattle.exchange_state.specs.declared.entries.Origin.{Origin}
 use Rattle.exchange_state.specs.declared.state.Published.{Published}
 use Rattle.exchange_state.specs.declared.state.Published.TheVariants as answer
 use Rattle.exchange_state.specs.Tickets.{edits_after}
-use Rattle.exchange_state.specs.Views.{IsRising, Window, call_of, called, calls, failed, failures, is_failure, mine, own, published, published_at, put, stable, window_by}
+use Rattle.exchange_state.specs.Views.{IsRising, Window, call_of, called, calls, failed, failures, is_failure, mine, own, published, published_at, put, stable, taken, window_by}
 use Rattle.hist_lock.specs.Views.{seat_with}
 use Rattle.plain_exchange.specs.declared.commands.Command.{Command}
 use Rattle.plain_exchange.specs.declared.commands.Reply.{Reply}
@@ -56,8 +56,8 @@ goes_waits s t w = record {
   failures_are = failed_own s.worker w.more ∙ ap failures w.others;
 }
 
-goes_gains : (e : Entry) (came : List Call) (s t : Seat) → e.worker ≡ s.worker → calls (e ∷ []) ≡ came → failures (e ∷ []) ≡ 0 → Gains e s t → Goes came 0 s t
-goes_gains e came s t by call failure g =
+goes_gains : (e : Entry) (came : List Call) (n : ℕ) (s t : Seat) → e.worker ≡ s.worker → calls (e ∷ []) ≡ came → failures (e ∷ []) ≡ n → Gains e s t → Goes came n s t
+goes_gains e came n s t by call failure g =
     let alone : own s.worker (g.more ++ e ∷ []) ≡ e ∷ [] = own_gains s.worker [] g.more e g.others by in
     record {
       more = g.more ++ e ∷ [];
@@ -66,11 +66,22 @@ goes_gains e came s t by call failure g =
       failures_are = failed_own s.worker (g.more ++ e ∷ []) ∙ ap failures alone ∙ failure;
     }
 
+-- by the worker that the seat has, or one before it had
+pub goes_called_by : (w : ℕ) (s t : Seat) (command : Command) (moment : ℕ) (reply : Reply) → w ≡ s.worker → Gains (called w command moment reply) s t → Goes (call_at w command moment reply ∷ []) 0 s t
+goes_called_by w s t command moment reply by g = goes_gains (called w command moment reply) (call_at w command moment reply ∷ []) 0 s t by refl refl g
+
 pub goes_called : (s t : Seat) (command : Command) (moment : ℕ) (reply : Reply) → Gains (called s.worker command moment reply) s t → Goes (call_at s.worker command moment reply ∷ []) 0 s t
-goes_called s t command moment reply g = goes_gains (called s.worker command moment reply) (call_at s.worker command moment reply ∷ []) s t refl refl refl g
+goes_called s t command moment reply g = goes_called_by s.worker s t command moment reply refl g
+
+pub goes_taken : (end faults : ℕ) (s t : Seat) → Gains (taken s.worker end false faults) s t → Goes [] 0 s t
+goes_taken end faults s t g = goes_gains (taken s.worker end false faults) [] 0 s t refl refl refl g
+
+pub goes_put : (w : ℕ) (written : Bool) (durable faults : ℕ) (s t : Seat) → w ≡ s.worker → Gains (put w written durable faults) s t → Goes [] (cond written 0 1) s t
+goes_put w true durable faults s t by g = goes_gains (put w true durable faults) [] 0 s t by refl refl g
+goes_put w false durable faults s t by g = goes_gains (put w false durable faults) [] 1 s t by refl refl g
 
 pub goes_publishes : (after : ℕ) (s t : Seat) (p : Published) → Publishes after s t p → Goes [] 0 s t
-goes_publishes after s t (answer.New edit) p = goes_gains (published_at s.worker edit) [] s t refl refl refl p.0
+goes_publishes after s t (answer.New edit) p = goes_gains (published_at s.worker edit) [] 0 s t refl refl refl p.0
 goes_publishes after s t (answer.Kept edit) p = goes_waits s t p.0
 
 one_call : (v : ℕ) (x : Event) → IsWriting x → calls (record { worker = v; event = x } ∷ []) ≡ []

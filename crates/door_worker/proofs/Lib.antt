@@ -1,4 +1,5 @@
 pub mod Going
 pub mod Answering
+pub mod Landing
 pub mod Talking
 pub mod Holding

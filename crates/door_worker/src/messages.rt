@@ -17,7 +17,7 @@ use crate::worker::Tools;
 use auction_core::{Command, Reply};
 use command_read::{Rooms, read_command_in};
 use conj_index::Scratch;
-use exchange_shared::{Exchange, Found, Seat, Settled, StoreFailed, Ticket};
+use exchange_shared::{Changed, Exchange, Found, Seat, Settled, StoreFailed, Ticket, Unsettled};
 use http_wire::Message;
 use link_door::Pause;
 use rtb_base::Steps;
@@ -73,6 +73,74 @@ fn answer_command<'e, D: Disk, R: Wait, P: Pause>(
     ensures answers { (message : AMessage) → IsCommandOf message (Ok command.now) → AnswersOne tools.now.public.now moment seat message result.1 result.0 }
     ensures writable { IsGivable result.1 }
 {
+    if is_edit(command) && !exchange.is_shared() {
+        return answer_edit(exchange, tools, scratch, seat, command, moment);
+    }
+    answer_in_turn(exchange, tools, scratch, seat, command, moment)
+}
+
+// Answers an edit that comes alone: it is written before it is carried out, so that auctions do not wait for the disk.
+fn answer_edit<'e, D: Disk, R: Wait, P: Pause>(
+    exchange: &Exchange<D>,
+    tools: &Tools<'e, R, P>,
+    scratch: &mut Scratch,
+    seat: Seat<D>,
+    command: &Command,
+    moment: u64,
+) -> (Seat<D>, Given)
+    requires seat { MayCall (lock_of exchange.now) seat }
+    requires edit { is_edit command.now ≡ true }
+    ensures seat { MayCall (lock_of exchange.now) result.0 }
+    ensures answers { (message : AMessage) → IsCommandOf message (Ok command.now) → AnswersOne tools.now.public.now moment seat message result.1 result.0 }
+    ensures writable { IsGivable result.1 }
+{
+    let (seat, changed) = exchange.change(tools.rt, seat, command, moment);
+    match changed {
+        Ok(Changed::Durable(settled)) => tell_edit(exchange, tools, seat, command, settled),
+        Ok(Changed::StoreFailed(settled)) => {
+            drop(settled);
+            (seat, Given::StoreFailed)
+        }
+        Ok(Changed::NotAlone) => { answer_in_turn(exchange, tools, scratch, seat, command, moment) }
+        Err(AllocError) => (seat, Given::Memory),
+    }
+}
+
+// What is given for an edit that is durable.
+fn tell_edit<'e, D: Disk, R: Wait, P: Pause>(
+    exchange: &Exchange<D>,
+    tools: &Tools<'e, R, P>,
+    seat: Seat<D>,
+    command: &Command,
+    settled: Settled,
+) -> (Seat<D>, Given)
+    requires seat { MayCall (lock_of exchange.now) seat }
+    requires order { IsOrdered seat.origin seat.seen }
+    ensures seat { MayCall (lock_of exchange.now) result.0 }
+    ensures told { Tells tools.now.public.now command.now settled.reply seat result.1 result.0 }
+    ensures order { IsOrdered result.0.origin result.0.seen }
+    ensures writable { IsGivable result.1 }
+{
+    let told = tell(exchange, tools, seat, command, &settled.reply);
+    drop(settled);
+    told
+}
+
+// Answers a command that is carried out and then written.
+fn answer_in_turn<'e, D: Disk, R: Wait, P: Pause>(
+    exchange: &Exchange<D>,
+    tools: &Tools<'e, R, P>,
+    scratch: &mut Scratch,
+    seat: Seat<D>,
+    command: &Command,
+    moment: u64,
+) -> (Seat<D>, Given)
+    requires seat { MayCall (lock_of exchange.now) seat }
+    requires valid { IsTrue (is_valid_command command.now) }
+    ensures seat { MayCall (lock_of exchange.now) result.0 }
+    ensures answers { (message : AMessage) → IsCommandOf message (Ok command.now) → AnswersOne tools.now.public.now moment seat message result.1 result.0 }
+    ensures writable { IsGivable result.1 }
+{
     let (seat, settled) = enter(exchange, tools, scratch, seat, command, moment);
     match settled {
         Ok(settled) => conclude(exchange, tools, seat, command, settled),
@@ -80,7 +148,7 @@ fn answer_command<'e, D: Disk, R: Wait, P: Pause>(
     }
 }
 
-// Carries the command out in a turn of the exchange.
+// Carries the command out in a turn of the exchange, the first that finds no change ahead of it.
 fn enter<'e, D: Disk, R: Wait, P: Pause>(
     exchange: &Exchange<D>,
     tools: &Tools<'e, R, P>,
@@ -89,6 +157,34 @@ fn enter<'e, D: Disk, R: Wait, P: Pause>(
     command: &Command,
     moment: u64,
 ) -> (Seat<D>, Result<Settled, AllocError>)
+    requires seat { MayCall (lock_of exchange.now) seat }
+    requires valid { IsTrue (is_valid_command command.now) }
+    ensures seat { MayCall (lock_of exchange.now) result.0 }
+    ensures entered { IfOk result.1 (Entered command.now moment seat result.0) }
+    ensures none { OnErr result.1 (Goes [] 0 seat result.0) }
+    ensures order { IsOrdered result.0.origin result.0.seen }
+{
+    let mut seat = seat;
+    for _ in tools.rt.forever() {
+        let (now, settled) = enter_once(exchange, tools, scratch, seat, command, moment);
+        match settled {
+            Ok(settled) => return (now, Ok(settled)),
+            Err(Unsettled::Memory) => return (now, Err(AllocError)),
+            Err(Unsettled::Held) => seat = now,
+        }
+    }
+    unreachable!()
+}
+
+// Carries the command out, where no change is ahead of it.
+fn enter_once<'e, D: Disk, R: Wait, P: Pause>(
+    exchange: &Exchange<D>,
+    tools: &Tools<'e, R, P>,
+    scratch: &mut Scratch,
+    seat: Seat<D>,
+    command: &Command,
+    moment: u64,
+) -> (Seat<D>, Result<Settled, Unsettled>)
     requires seat { MayCall (lock_of exchange.now) seat }
     requires valid { IsTrue (is_valid_command command.now) }
     ensures seat { MayCall (lock_of exchange.now) result.0 }
@@ -111,7 +207,7 @@ fn sell<'e, D: Disk, R: Wait, P: Pause>(
     command: &Command,
     request: &BidRequest,
     moment: u64,
-) -> (Seat<D>, Result<Settled, AllocError>)
+) -> (Seat<D>, Result<Settled, Unsettled>)
     requires seat { MayCall (lock_of exchange.now) seat }
     requires valid { IsTrue (is_valid_command command.now) }
     requires auction { command.now ≡ AnAuction request.now }
@@ -157,7 +253,7 @@ fn sell_found<'e, D: Disk, R: Wait, P: Pause>(
     command: &Command,
     request: &BidRequest,
     moment: u64,
-) -> (Seat<D>, Result<Settled, AllocError>)
+) -> (Seat<D>, Result<Settled, Unsettled>)
     requires seat { MayCall (lock_of exchange.now) seat }
     requires valid { IsTrue (is_valid_command command.now) }
     requires auction { command.now ≡ AnAuction request.now }
@@ -184,10 +280,10 @@ fn sell_found<'e, D: Disk, R: Wait, P: Pause>(
             }
             Err(AllocError) => {
                 drop(ticket);
-                (seat, Err(AllocError))
+                (seat, Err(Unsettled::Memory))
             }
         },
-        Err(AllocError) => (seat, Err(AllocError)),
+        Err(AllocError) => (seat, Err(Unsettled::Memory)),
     }
 }
 
@@ -217,7 +313,7 @@ fn settle<'e, D: Disk, R: Wait, P: Pause, L: Ledger>(
     command: &Command,
     moment: u64,
     blank: Blank,
-) -> (Seat<D>, Result<Settled, AllocError>)
+) -> (Seat<D>, Result<Settled, Unsettled>)
     requires name { blank.name ≡ L.name }
     requires parts { blank.parts ≡ L.parts }
     requires some { 0 < blank.parts }
@@ -240,7 +336,7 @@ fn edit_or_report<'e, D: Disk, R: Wait, P: Pause>(
     seat: Seat<D>,
     command: &Command,
     moment: u64,
-) -> (Seat<D>, Result<Settled, AllocError>)
+) -> (Seat<D>, Result<Settled, Unsettled>)
     requires seat { MayCall (lock_of exchange.now) seat }
     requires simple { IsTrue (is_simple command.now) }
     ensures seat { MayCall (lock_of exchange.now) result.0 }

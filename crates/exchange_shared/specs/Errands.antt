@@ -1,17 +1,24 @@
 -- Only private clauses cite this file. A seat whose worker has the journal.
-use Rattle.std.specs.Prelude.{◌≡◌, ℕ, ◌≤◌, if◌then◌else◌, List, [], ◌∷◌, ◌++◌, All, Bool, true, false, None}
+use Rattle.std.specs.Prelude.{◌≡◌, ℕ, ◌+◌, ◌≤◌, if◌then◌else◌, List, [], ◌∷◌, ◌++◌, All, Bool, true, false, None}
 use Rattle.atomic_table.specs.Seated.{TableId}
 use Rattle.effects.specs.Bytes.{IsEncodable}
+use Rattle.exchange_shared.specs.declared.changing.Changed.{Changed}
+use Rattle.exchange_shared.specs.declared.changing.Changed.TheVariants as changed
+use Rattle.exchange_shared.specs.declared.changing.Staged.{Staged}
+use Rattle.exchange_shared.specs.declared.changing.Staged.TheVariants as staged
 use Rattle.exchange_shared.specs.declared.writing.Look.{Look}
 use Rattle.exchange_shared.specs.declared.writing.Look.TheVariants as look
 use Rattle.exchange_shared.specs.Seats.{Gains, Seat, Waits, effects_in}
 use Rattle.exchange_state.specs.declared.entries.Entry.{Entry}
 use Rattle.exchange_state.specs.declared.errand.Errand.{Errand}
-use Rattle.exchange_state.specs.Errands.{IsDone, IsErrand, taking_mark}
-use Rattle.exchange_state.specs.Tickets.{effects_after}
-use Rattle.exchange_state.specs.Views.{Taking, calls, faults_told, out, own, put, stable}
+use Rattle.exchange_state.specs.declared.state.Settled.{Settled}
+use Rattle.exchange_state.specs.Errands.{IsDone, IsErrand, IsStaged, taking_mark}
+use Rattle.exchange_state.specs.Tickets.{IsLegalFrom, effects_after, state_after}
+use Rattle.exchange_state.specs.Views.{Taking, called, calls, faults_told, is_behind, out, own, put, stable}
 use Rattle.hist_lock.specs.Views.{seat_with}
 use Rattle.journal_file.specs.Standing.{faults_of}
+use Rattle.plain_exchange.specs.declared.commands.Command.{Command}
+use Rattle.plain_exchange.specs.Step.{effect_of}
 use Rattle.rtb_base.specs.Faults.{Rose}
 use Rattle.rtb_disk.specs.declared.disk.Disk.{Ghosts}
 
@@ -32,6 +39,46 @@ module _ {D : Type 0} {G : Ghosts D} where
     pub errand : IsErrand s.origin before e
     pub encodable : All IsEncodable (effects_after s.origin (calls before))
     pub seen : s.seen ≡ before ++ taken_by s e ∷ []
+
+  -- The journal is out with a change ahead, which the seat's worker has: its last entry in the list is the mark of that.
+  pub record HasStaged (here : TableId) (s : Seat) (command : Command) (moment : ℕ) (e : Errand D G) : Type 0 where
+    pub lock : s.lock ≡ here
+    pub free : s.turn ≡ false
+    pub before : List Entry
+    pub staged : IsStaged s.origin before command moment e
+    pub encodable : All IsEncodable (effects_after s.origin (calls before))
+    pub seen : s.seen ≡ before ++ taken_by s e ∷ []
+
+  -- And then the change was carried out: its call is the last entry.
+  pub record HasEntered (here : TableId) (s t : Seat) (command : Command) (moment : ℕ) (e : Errand D G) (settled : Settled) : Type 0 where
+    pub staged : HasStaged here s command moment e
+    pub called_is : Gains (called s.worker command moment settled.reply) s t
+    pub ahead : e.upto ≡ effects_in s.origin (s.seen ++ called_is.more) + 1
+    pub legal : IsLegalFrom t.origin (calls t.seen)
+    pub upto : settled.upto ≡ effects_in t.origin t.seen
+
+  -- the same up to the putting of the journal
+  pub record LandsAhead (command : Command) (moment : ℕ) (s : Seat) (e : Errand D G) (t : Seat) (settled : Settled) (written : Bool) : Type 0 where
+    pub calling : Seat
+    pub called_is : Gains (called s.worker command moment settled.reply) s calling
+    pub legal : IsLegalFrom calling.origin (calls calling.seen)
+    pub upto : settled.upto ≡ effects_in calling.origin calling.seen
+    pub durable : ℕ
+    pub count : ℕ
+    pub put_is : Gains (put s.worker written durable count) calling t
+    pub there : written ≡ true → durable ≡ settled.upto
+    pub rose : written ≡ false → Rose (faults_of e.journal) count
+
+  abbrev pub Puts : Command → ℕ → Seat → Errand D G → Seat → Changed → Type 0
+  Puts command moment s e t (changed.Durable settled) = LandsAhead command moment s e t settled true
+  Puts command moment s e t (changed.StoreFailed settled) = LandsAhead command moment s e t settled false
+  Puts command moment s e t changed.NotAlone = ⊥
+
+  -- what comes of staging a change
+  abbrev pub Stages : TableId → Command → ℕ → Seat → Seat → Staged D G → Type 0
+  Stages here command moment s t (staged.Errand e) = HasStaged here t command moment e × Gains (taken_by s e) s t
+  Stages here command moment s t staged.NotAlone = Waits s t × (out t.seen ≡ None → is_behind t.seen ≡ false → stable t.seen ≡ effects_in t.origin t.seen
+      → effect_of t.origin.ttl moment (state_after t.origin (calls t.seen)) command ≡ None)
 
   -- the seat has the turn, and may put the journal back so
   pub record MayPutBy (s : Seat) (e : Errand D G) (written : Bool) : Type 0 where

@@ -1,7 +1,8 @@
 -- What a seat of an exchange knows before and after a call.
-use Rattle.std.specs.Prelude.{◌≡◌, ℕ, ◌+◌, ◌<◌, ◌≤◌, List, [], ◌∷◌, ◌++◌, All, length, true, false, None, Some, Result, Ok, Err}
+use Rattle.std.specs.Prelude.{◌≡◌, ℕ, ◌+◌, ◌<◌, ◌≤◌, List, [], ◌∷◌, ◌++◌, All, length, Bool, true, false, None, Some, Result, Ok, Err}
 use Rattle.atomic_table.specs.Seated.{TableId}
-use Rattle.std.specs.declared.alloc.AllocError.{AllocError}
+use Rattle.exchange_shared.specs.declared.changing.Changed.{Changed}
+use Rattle.exchange_shared.specs.declared.changing.Changed.TheVariants as changed
 use Rattle.exchange_shared.specs.declared.exchange.Exchange.{Exchange}
 use Rattle.exchange_state.specs.declared.entries.Entry.{Entry}
 use Rattle.exchange_state.specs.declared.entries.Event.{Event}
@@ -10,12 +11,14 @@ use Rattle.exchange_state.specs.declared.entries.Origin.{Origin}
 use Rattle.exchange_state.specs.declared.state.Published.{Published}
 use Rattle.exchange_state.specs.declared.state.Published.TheVariants as answer
 use Rattle.exchange_state.specs.declared.state.Settled.{Settled}
-use Rattle.exchange_state.specs.Tickets.{IsLegalFrom, IsVersionOf, edits_after, effects_after, matches_of}
-use Rattle.exchange_state.specs.Views.{AreInTurn, IsRising, Taking, called, calls, faults_told, out, own, published, published_at, put}
+use Rattle.exchange_state.specs.declared.state.Unsettled.{Unsettled}
+use Rattle.exchange_state.specs.Tickets.{IsLegalFrom, IsVersionOf, edits_after, effects_after, matches_of, state_after}
+use Rattle.exchange_state.specs.Views.{AreInTurn, IsRising, Taking, called, calls, faults_told, is_behind, out, own, published, published_at, put, stable, taken}
 use Rattle.hist_lock.specs.Views.{SeatView, seat_with}
 use Rattle.index_versions.specs.declared.version.Version.{Version}
 use Rattle.plain_exchange.specs.declared.commands.Command.{Command}
 use Rattle.plain_exchange.specs.declared.commands.Command.TheVariants.{Auction}
+use Rattle.plain_exchange.specs.Step.{effect_of}
 use Rattle.rtb_base.specs.Faults.{Rose}
 use Rattle.rtb_disk.specs.declared.disk.Disk.{Ghosts}
 use Rattle.rtb_types.specs.declared.request.BidRequest.{BidRequest}
@@ -70,7 +73,7 @@ pub record Calls (command : Command) (moment : ℕ) (s t : Seat) (settled : Sett
   pub upto : settled.upto ≡ effects_in t.origin t.seen
 
 -- the list that the turn of a call began with
-abbrev pub Settles : Command → ℕ → Seat → Seat → List Entry → Result Settled AllocError → Type 0
+abbrev pub Settles : Command → ℕ → Seat → Seat → List Entry → Result Settled Unsettled → Type 0
 Settles command moment s t l (Ok settled) = t.seen ≡ l ++ called s.worker command moment settled.reply ∷ []
 Settles command moment s t l (Err e) = t.seen ≡ l
 
@@ -80,6 +83,34 @@ pub record MayBeSettled (s : Seat) (v : Version) (found : List (List ℕ)) (comm
   pub request : BidRequest
   pub auction : command ≡ Auction request
   pub found_are : found ≡ matches_of s.origin (calls s.seen) v.edit request
+
+-- ---- changes that are written first
+
+-- The worker took the journal, entered the call of the command with the reply of the exchange of one thread at that
+-- place, and put the journal back, with the block written or not. With the block written the effects up to the call are
+-- durable; where it was not, the count of failed calls of the disk rose above what the seat had seen.
+pub record Lands (command : Command) (moment : ℕ) (s t : Seat) (settled : Settled) (written : Bool) : Type 0 where
+  pub end : ℕ
+  pub faults : ℕ
+  pub taking : Seat
+  pub taken_is : Gains (taken s.worker end false faults) s taking
+  pub calling : Seat
+  pub called_is : Gains (called s.worker command moment settled.reply) taking calling
+  pub legal : IsLegalFrom calling.origin (calls calling.seen)
+  pub upto : settled.upto ≡ effects_in calling.origin calling.seen
+  pub durable : ℕ
+  pub count : ℕ
+  pub put_is : Gains (put s.worker written durable count) calling t
+  pub there : written ≡ true → durable ≡ settled.upto
+  pub rose : written ≡ false → Rose (faults_told s.origin s.seen) count
+
+-- The change landed, or a call of the disk failed. Or nothing was carried out, since it could not go ahead: the journal
+-- was out or broken, effects were not durable, or it has none.
+abbrev pub Changes : Command → ℕ → Seat → Seat → Changed → Type 0
+Changes command moment s t (changed.Durable settled) = Lands command moment s t settled true
+Changes command moment s t (changed.StoreFailed settled) = Lands command moment s t settled false
+Changes command moment s t changed.NotAlone = Waits s t × (out t.seen ≡ None → is_behind t.seen ≡ false → stable t.seen ≡ effects_in t.origin t.seen
+    → effect_of t.origin.ttl moment (state_after t.origin (calls t.seen)) command ≡ None)
 
 -- ---- versions
 

@@ -149,7 +149,7 @@ impl<D: Disk> Exchange<D> {
 }
 
 // Whether the errand's block was written.
-fn write<D: Disk>(errand: &mut Errand<D>) -> bool
+pub(crate) fn write<D: Disk>(errand: &mut Errand<D>) -> bool
     requires { is_broken errand.old.journal ≡ errand.old.again }
     ensures { IsTried errand.old errand.new result }
 {

@@ -87,7 +87,7 @@ impl<D: Disk> ExchangeState<D> {
     }
 
     // The journal was out.
-    fn bring_home(&mut self, journal: Journal<D>)
+    pub(crate) fn bring_home(&mut self, journal: Journal<D>)
         requires is_out { self.old.journal ≡ None }
         ensures { self.new ≡ record self.old { journal = Some journal } }
     {

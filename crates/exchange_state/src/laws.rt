@@ -4,11 +4,13 @@ ghost use Rattle.effects.specs.Bytes.{IsEncodable};
 ghost use Rattle.exchange_state.specs.declared.entries.Entry.{Entry};
 ghost use Rattle.exchange_state.specs.declared.entries.Origin.{Origin};
 ghost use Rattle.exchange_state.specs.declared.errand.Errand.{Errand};
-ghost use Rattle.exchange_state.specs.Errands.{IsDone, IsErrand, IsTried, taking_mark, taking_of};
+ghost use Rattle.exchange_state.specs.Errands.{IsDone, IsErrand, IsStaged, IsTried, taking_mark, taking_of};
 ghost use Rattle.exchange_state.specs.Tickets.{IsVersionOf, edits_after, effects_after, matches_of};
-ghost use Rattle.exchange_state.specs.Views.{AreInTurn, IsRising, IsSameJournal, Taking, calls, failed, failures, faults_told, mine, out, own, published, stable};
+ghost use Rattle.exchange_state.specs.Views.{AreInTurn, IsRising, IsSameJournal, Taking, called, calls, failed, failures, faults_told, mine, out, own, published, stable};
 ghost use Rattle.index_versions.specs.declared.version.Version.{Version};
 ghost use Rattle.plain_exchange.specs.Effects.{edits};
+ghost use Rattle.plain_exchange.specs.declared.commands.Command.{Command};
+ghost use Rattle.plain_exchange.specs.declared.commands.Reply.{Reply};
 ghost use Rattle.plain_exchange.specs.History.{Call};
 ghost use Rattle.rtb_types.specs.declared.request.BidRequest.{BidRequest};
 
@@ -53,6 +55,14 @@ pub fn own_entries_tell_of_a_worker()
 pub fn counts_fit()
     ensures edits { (o : Origin) (l : List Entry) → edits o.effects ≤ 2 ^ 61 → length l < 2 ^ 62 → edits_after o (calls l) < 2 ^ 63 }
     ensures effects { (o : Origin) (l : List Entry) → length l < 2 ^ 62 → length (effects_after o (calls l)) < 2 ^ 62 }
+{}
+
+/// The law of a change that is written first, with nothing to run: what was staged and tried may be put back once the
+/// change is carried out, whatever other workers did meanwhile.
+pub fn a_change_may_be_put_back<D: Disk>()
+    ensures { (o : Origin) (l more behind : List Entry) (w moment : ℕ) (command : Command) (reply : Reply) (old new : Errand D D.Disk) (written : Bool) → IsStaged o l command moment old → All IsEncodable (effects_after o (calls l)) → IsTried old new written
+        → old.upto ≡ length (effects_after o (calls ((l ++ taking_mark w old ∷ []) ++ more))) + 1 → AreInTurn None ((((l ++ taking_mark w old ∷ []) ++ more) ++ called w command moment reply ∷ []) ++ behind) → own w more ≡ [] → own w behind ≡ []
+        → IsDone o ((((l ++ taking_mark w old ∷ []) ++ more) ++ called w command moment reply ∷ []) ++ behind) (taking_of w old) new written }
 {}
 
 /// The law of an errand, with nothing to run: an errand that was tried may be put back, whatever other workers did

@@ -6,7 +6,7 @@ ghost use Rattle.exchange_state.specs.Placing.{IsCommitted, is_placing};
 ghost use Rattle.plain_exchange.specs.declared.commands.Command.{Command as ACommand};
 
 use crate::finding::{correct_all, find_all};
-use crate::state::{ExchangeState, Placing, Settled};
+use crate::state::{ExchangeState, Placing, Settled, Unsettled};
 use crate::ticket::{Found, Ticket};
 use crate::versions::{edit_of, index_of};
 use auction_core::{Command, Core, Draft, Reply};
@@ -20,14 +20,14 @@ use std::alloc::AllocError;
 use std::sync::ledger::Ledger;
 
 impl<D: Disk> ExchangeState<D> {
-    ghost use Rattle.std.specs.Prelude.{◌≡◌, ◌==◌, ◌<◌, ◌≤◌, ◌+◌, ◌++◌, ◌^◌, ℕ, List as AList, All, length, option_to_list, IfOk, OnErr, OnOk, IsTrue};
+    ghost use Rattle.std.specs.Prelude.{◌≡◌, ◌==◌, ◌<◌, ◌≤◌, ◌+◌, ◌++◌, ◌^◌, ℕ, List as AList, All, length, option_to_list, IfErr, IfOk, OnErr, OnOk, IsTrue, is_some, ◌&&◌, true};
     ghost use Rattle.auction_core.specs.Core.{listed};
     ghost use Rattle.auction_core.specs.Draft.{IsDraftOf, IsReady, found_of, is_simple, is_valid_command};
     ghost use Rattle.effects.specs.Bytes.{IsEncodable, effects_bytes};
     ghost use Rattle.exchange_state.specs.Costs.{settled_cost};
-    ghost use Rattle.exchange_state.specs.Placing.{CarriesOut, HasPlain, IsCommitted, IsSame, noted, placed_as};
-    ghost use Rattle.exchange_state.specs.Settling.{Enters, IsStanding, MaySettle};
-    ghost use Rattle.exchange_state.specs.Standing.{StandsFor};
+    ghost use Rattle.exchange_state.specs.Placing.{CarriesOut, HasPlain, IsCommitted, IsHeldIn, IsSame, noted, placed_as};
+    ghost use Rattle.exchange_state.specs.Settling.{Enters, IsHeld, IsStanding, MaySettle};
+    ghost use Rattle.exchange_state.specs.Standing.{StandsFor, is_ahead};
     ghost use Rattle.exchange_state.specs.Tickets.{matches, version_in};
     ghost use Rattle.exchange_state.specs.declared.entries.Entry.{Entry as AnEntry};
     ghost use Rattle.exchange_state.specs.declared.entries.Origin.{Origin as AnOrigin};
@@ -48,11 +48,12 @@ impl<D: Disk> ExchangeState<D> {
         command: &Command,
         moment: u64,
         steps: &mut Steps<L>,
-    ) -> Result<Settled, AllocError>
+    ) -> Result<Settled, Unsettled>
         requires valid { IsTrue (is_valid_command command.now) }
         requires ticket { MaySettle self.old (version_in ticket.now) found.now.lists command.now }
         ensures settled { (o : AnOrigin) (l : AList AnEntry) (w : ℕ) → StandsFor o self.old l → IfOk result (Enters o l w command.now moment self.new) }
         ensures unsettled { (o : AnOrigin) (l : AList AnEntry) → StandsFor o self.old l → OnErr result (StandsFor o self.new l) }
+        ensures held { (o : AnOrigin) (l : AList AnEntry) → StandsFor o self.old l → IfErr result (λ e. e ≡ Unsettled.Held → IsHeld o l command.now moment) }
         ensures cost { (o : AnOrigin) (l : AList AnEntry) (r : ARequest) → StandsFor o self.old l → command.now ≡ AnAuction r → steps.new ≤ steps.old + settled_cost o l (version_in ticket.now).edit r }
     {
         match command {
@@ -60,10 +61,14 @@ impl<D: Disk> ExchangeState<D> {
                 if self.is_last(ticket) {
                     return self.enter(command, found.lists.as_slice(), moment);
                 }
-                let now = self.present(ticket, found, request, steps)?;
-                let settled = self.enter(command, now.as_slice(), moment);
-                drop(now);
-                settled
+                match self.present(ticket, found, request, steps) {
+                    Ok(now) => {
+                        let settled = self.enter(command, now.as_slice(), moment);
+                        drop(now);
+                        settled
+                    }
+                    Err(AllocError) => Err(Unsettled::Memory),
+                }
             }
             _ => unreachable!(),
         }
@@ -120,17 +125,18 @@ impl<D: Disk> ExchangeState<D> {
         command: &Command,
         found: &[List<u32>],
         moment: u64,
-    ) -> Result<Settled, AllocError>
+    ) -> Result<Settled, Unsettled>
         requires valid { IsTrue (is_valid_command command.now) }
         requires found { found.now ≡ found_of self.old.core.state command.now }
         requires few { self.old.core.edits < 2 ^ 63 }
         requires placed { self.old.placed < 2 ^ 63 }
         ensures done { IfOk result (CarriesOut command.now moment self.old self.new) }
         ensures undone { OnErr result (IsSame self.old self.new) }
+        ensures held { IfErr result (λ e. e ≡ Unsettled.Held → IsHeldIn self.old command.now moment) }
     {
         match self.draft(command, found, moment) {
             Ok(draft) => self.place(draft),
-            Err(AllocError) => Err(AllocError),
+            Err(AllocError) => Err(Unsettled::Memory),
         }
     }
 
@@ -156,20 +162,25 @@ impl<D: Disk> ExchangeState<D> {
 
     /// Carries out a command other than an auction at the moment, in milliseconds. Where memory is short, nothing is
     /// carried out.
-    pub fn simple(&mut self, command: &Command, moment: u64) -> Result<Settled, AllocError>
+    pub fn simple(&mut self, command: &Command, moment: u64) -> Result<Settled, Unsettled>
         requires simple { IsTrue (is_simple command.now) }
         requires stands { IsStanding self.old }
         ensures settled { (o : AnOrigin) (l : AList AnEntry) (w : ℕ) → StandsFor o self.old l → IfOk result (Enters o l w command.now moment self.new) }
         ensures unsettled { (o : AnOrigin) (l : AList AnEntry) → StandsFor o self.old l → OnErr result (StandsFor o self.new l) }
+        ensures held { (o : AnOrigin) (l : AList AnEntry) → StandsFor o self.old l → IfErr result (λ e. e ≡ Unsettled.Held → IsHeld o l command.now moment) }
     {
         match self.draft_simple(command, moment) {
             Ok(draft) => self.place(draft),
-            Err(AllocError) => Err(AllocError),
+            Err(AllocError) => Err(Unsettled::Memory),
         }
     }
 
     // The same for a command other than an auction.
-    fn draft_simple(&mut self, command: &Command, moment: u64) -> Result<Draft, AllocError>
+    pub(crate) fn draft_simple(
+        &mut self,
+        command: &Command,
+        moment: u64,
+    ) -> Result<Draft, AllocError>
         requires simple { IsTrue (is_simple command.now) }
         ensures draft { IfOk result (IsDraftOf self.old.core.ttl self.old.core.state command.now moment) }
         ensures ready { IfOk result (λ d. IsReady d self.new.core) }
@@ -183,7 +194,7 @@ impl<D: Disk> ExchangeState<D> {
 
     // Carries out what was prepared. Its effect is at hand before that.
     #[inline(always)]
-    fn place(&mut self, draft: Draft) -> Result<Settled, AllocError>
+    fn place(&mut self, draft: Draft) -> Result<Settled, Unsettled>
         requires ready { IsReady draft self.old.core }
         requires plain { HasPlain draft.effect }
         requires room { 1 ≤ self.old.recent.spare }
@@ -191,19 +202,32 @@ impl<D: Disk> ExchangeState<D> {
         requires placed { self.old.placed < 2 ^ 63 }
         ensures done { (command : ACommand) (moment : ℕ) → IsDraftOf self.old.core.ttl self.old.core.state command moment draft → IfOk result (CarriesOut command moment self.old self.new) }
         ensures undone { OnErr result (self.new ≡ self.old) }
+        ensures held { IfErr result (λ e. e ≡ Unsettled.Held → (is_some draft.effect && is_ahead self.old) ≡ true) }
     {
+        if self.is_held(&draft) {
+            drop(draft);
+            return Err(Unsettled::Held);
+        }
         match self.write_effect(&draft) {
             Ok(placing) => Ok(self.commit(draft, placing)),
             Err(AllocError) => {
                 drop(draft);
-                Err(AllocError)
+                Err(Unsettled::Memory)
             }
         }
     }
 
+    // Whether the draft has an effect, and a change is ahead of it.
+    #[inline(always)]
+    fn is_held(&self, draft: &Draft) -> bool
+        ensures { result ≡ (is_some draft.now.effect && is_ahead self.now) }
+    {
+        draft.effect().is_some() && self.is_ahead()
+    }
+
     // Appends the bytes of the draft's effect to those that are pending, where it has one.
     #[inline(always)]
-    fn write_effect(&mut self, draft: &Draft) -> Result<Placing, AllocError>
+    pub(crate) fn write_effect(&mut self, draft: &Draft) -> Result<Placing, AllocError>
         requires plain { HasPlain draft.now.effect }
         ensures placing { IfOk result (placed_as (length self.old.core.state.campaigns) draft.now.effect) }
         ensures encodable { OnOk result (All IsEncodable (option_to_list draft.now.effect)) }
@@ -222,7 +246,7 @@ impl<D: Disk> ExchangeState<D> {
 
     // Carries the draft out, and remembers the edit.
     #[inline(always)]
-    fn commit(&mut self, draft: Draft, placing: Placing) -> Settled
+    pub(crate) fn commit(&mut self, draft: Draft, placing: Placing) -> Settled
         requires ready { IsReady draft self.old.core }
         requires room { 1 ≤ self.old.recent.spare }
         requires few { self.old.core.edits < 2 ^ 63 }

@@ -1,6 +1,5 @@
 -- Seats of an exchange that are split off and go on.
 use Rattle.std.proofs.Common.{◌≡◌, ℕ, false, ◌+◌, List, Some, Result, Ok, Err, IfOk, OnErr, refl, ◌∙◌, ap, arith}
-use Rattle.std.specs.declared.alloc.AllocError.{AllocError}
 use Rattle.atomic_table.specs.Seated.{TableId}
 use Rattle.hist_lock.specs.Views.{SplitsOff, first_seat, seat_with}
 use Rattle.exchange_shared.specs.Seats.{Calls, MayCall, Seat, Waits, worker_of}
@@ -17,7 +16,7 @@ with_list : (here : TableId) (n : ℕ) (s t : Seat) (l : List Entry) → IsFirst
 with_list here n s t l f may is = record { calls = may; worker = ap (λ (y : Seat). y.worker) is ∙ f.worker; made = ap (λ (y : Seat). y.made) is ∙ f.made }
 
 -- a command was carried out, or was not
-pub first_calls : (here : TableId) (n : ℕ) (s t : Seat) (command : Command) (m : ℕ) (r : Result Settled AllocError) → IsFirst here n s → MayCall here t → IfOk r (Calls command m s t) → OnErr r (Waits s t) → IsFirst here n t
+pub first_calls : {E : Type 0} (here : TableId) (n : ℕ) (s t : Seat) (command : Command) (m : ℕ) (r : Result Settled E) → IsFirst here n s → MayCall here t → IfOk r (Calls command m s t) → OnErr r (Waits s t) → IsFirst here n t
 first_calls here n s t command m (Ok settled) f may ok err = let g = ok.gains in with_list here n s t _ f may g.same
 first_calls here n s t command m (Err e) f may ok err = with_list here n s t _ f may err.same
 

@@ -1,8 +1,8 @@
 -- What workers have stays true while they go on.
-use Rattle.std.proofs.Common.{◌≡◌, ℕ, suc, false, ◌+◌, List, [], ◌∷◌, ◌++◌, Option, None, Result, Ok, Err, IfOk, IfSome, OnErr, sym, ◌∙◌, ap, subst, arith, append_assoc}
+use Rattle.std.proofs.Common.{◌≡◌, ℕ, suc, Bool, false, ◌+◌, List, [], ◌∷◌, ◌++◌, Option, None, Result, Ok, Err, IfOk, IfSome, OnErr, sym, ◌∙◌, ap, subst, arith, append_assoc}
 use Rattle.atomic_table.specs.Seated.{TableId}
 use Rattle.hist_lock.specs.Views.{IsSameSeat, SplitsOff, TakesIn, first_seat, seat_with}
-use Rattle.exchange_shared.specs.Seats.{Calls, Fails, Gains, MayCall, Publishes, Seat, Waits, Writes, worker_of}
+use Rattle.exchange_shared.specs.Seats.{Calls, Fails, Gains, Lands, MayCall, Publishes, Seat, Waits, Writes, effects_in, worker_of}
 use Rattle.exchange_shared.proofs.Histories.{effects_wait}
 use Rattle.exchange_state.specs.declared.entries.Entry.{Entry}
 use Rattle.exchange_state.specs.declared.entries.Origin.{Origin}
@@ -54,6 +54,23 @@ module _ {D : Type 0} {G : Ghosts D} where
     hand = record { calls = may; placed = (let u = c.upto in omega (arith, u)) };
     same = (let g = c.gains in same_of h.seat t _ g.same);
   }
+
+  -- a change that was written first was carried out, and so many effects stood with it
+  pub goes_landing : (here : TableId) (h : Hand D G) (t : Seat) (command : Command) (m : ℕ) (s : Settled) (written : Bool) → MayCall here t → Lands command m h.seat t s written → GoesOn here h (record { seat = t; upto = s.upto })
+  goes_landing here h t command m s written may l =
+      let mark : Entry = put h.seat.worker written l.durable l.count in
+      let back = l.put_is in
+      let took = l.taken_is in
+      let call = l.called_is in
+      let upto : s.upto ≡ effects_in l.calling.origin l.calling.seen = l.upto in
+      record {
+        hand = record {
+          calls = may;
+          placed = effects_wait l.calling t s.upto (back.more ++ mark ∷ [])
+              (back.same ∙ ap (λ k. seat_with l.calling k false) (append_assoc l.calling.seen back.more (mark ∷ []))) (omega (arith, upto));
+        };
+        same = same_then h.seat l.calling t (same_then h.seat l.taking l.calling (same_of h.seat l.taking _ took.same) (same_of l.taking l.calling _ call.same)) (same_of l.calling t _ back.same);
+      }
 
   pub goes_then : (here : TableId) (a b c : Hand D G) → GoesOn here a b → GoesOn here b c → GoesOn here a c
   goes_then here a b c x y = record { hand = y.hand; same = same_then a.seat b.seat c.seat x.same y.same }

@@ -5,7 +5,7 @@ use crate::seats::MOMENT;
 use crate::session::TTL;
 use crate::workers::{Ended, add_all};
 use case_lines::{done, number_in, paired};
-use exchange_shared::{Exchange, Seat, Settled};
+use exchange_shared::{Exchange, Seat, Settled, Unsettled};
 use plain_exchange::{Command, Reply};
 use rtb_base::Steps;
 use rtb_disk::{Disk, MemDisk};
@@ -227,13 +227,14 @@ fn has_campaign<D: Disk + Drop, R: Wait>(
     is_reported(settled)
 }
 
-fn is_reported(settled: Result<Settled, AllocError>) -> Result<bool, AllocError> {
+// A report has no effect, so it is never held.
+fn is_reported(settled: Result<Settled, Unsettled>) -> Result<bool, AllocError> {
     match settled {
         Ok(settled) => {
             let there = matches!(&settled.reply, Reply::Reported { .. });
             drop(settled);
             Ok(there)
         }
-        Err(refused) => Err(refused),
+        Err(_) => Err(AllocError),
     }
 }

@@ -4,10 +4,10 @@ ghost use Rattle.auction_core.specs.Draft.{is_simple};
 ghost use Rattle.exchange_shared.specs.Seats.{MayCall, lock_of};
 ghost use Rattle.hist_lock.specs.Views.{first_seat};
 ghost use Rattle.rtb_base.specs.Faults.{CountsErrors};
-ghost use Rattle.seat_cases.specs.Hands.{IsHired};
+ghost use Rattle.seat_cases.specs.Hands.{IsHand, IsHired};
 
 use crate::answers::put_done;
-use crate::seats::{Hand, carry_out, keep};
+use crate::seats::{Hand, carry_out, change, keep};
 use crate::session::TTL;
 use crate::workers::{Job, hire};
 use case_messages::campaign;
@@ -51,6 +51,8 @@ struct Both<'e, D: Disk, R> {
     rt: &'e R,
     alloc: Global,
     signals: &'e Signals,
+    // Whether the first worker's change is written before it is carried out.
+    ahead: bool,
 }
 
 impl Signals {
@@ -152,14 +154,18 @@ impl<'a, D: Disk> Disk for HeldDisk<'a, D> {
 
 /// Of two workers one makes a campaign durable, over a disk whose sync returns only once the other's command was
 /// answered, and fails after so many turns. Says `durable` or `store failed` of each.
+///
+/// Where it is written before it is carried out, the other's first command is one without an effect, and its second adds
+/// a campaign, once the change has landed.
 pub fn tell<R: Threads + Wait + Sync, L: Ledger>(
     rt: &R,
     alloc: Global,
+    ahead: bool,
     steps: &mut Steps<L>,
     out: &mut Txt,
 ) -> Result<(), AllocError> {
     let signals = Signals::new();
-    let told = try_held(rt, alloc, &signals, steps);
+    let told = try_held(rt, alloc, &signals, ahead, steps);
     put_told(told, out)
 }
 
@@ -175,6 +181,7 @@ fn try_held<R: Threads + Wait + Sync, L: Ledger>(
     rt: &R,
     alloc: Global,
     signals: &Signals,
+    ahead: bool,
     steps: &mut Steps<L>,
 ) -> Result<(bool, bool), AllocError> {
     let disk = HeldDisk {
@@ -184,7 +191,7 @@ fn try_held<R: Threads + Wait + Sync, L: Ledger>(
     };
     match Exchange::start(alloc, disk, TTL, steps) {
         Ok((exchange, seat)) => {
-            let told = run_both(rt, alloc, &exchange, seat, signals);
+            let told = run_both(rt, alloc, &exchange, seat, signals, ahead);
             drop(exchange);
             told
         }
@@ -201,6 +208,7 @@ fn run_both<D: Disk + Drop + Send, R: Threads + Wait + Sync>(
     exchange: &Exchange<D>,
     seat: Seat<D>,
     signals: &Signals,
+    ahead: bool,
 ) -> Result<(bool, bool), AllocError>
     requires first { seat ≡ first_seat (lock_of exchange.now) seat.origin }
     requires calls { MayCall (lock_of exchange.now) seat }
@@ -208,7 +216,7 @@ fn run_both<D: Disk + Drop + Send, R: Threads + Wait + Sync>(
     let (seat, mut jobs) = hire(alloc, exchange, seat, 2)?;
     drop(seat);
     signals.armed.store(1, SeqCst);
-    run_jobs(rt, alloc, exchange, jobs.as_mut_slice(), signals);
+    run_jobs(rt, alloc, exchange, jobs.as_mut_slice(), signals, ahead);
     let told = told_of(jobs.as_slice());
     drop(jobs);
     Ok(told)
@@ -227,6 +235,7 @@ fn run_jobs<D: Disk + Drop + Send, R: Threads + Wait + Sync>(
     exchange: &Exchange<D>,
     jobs: &mut [Job<D>],
     signals: &Signals,
+    ahead: bool,
 )
     requires hired { All (IsHired (lock_of exchange.now)) jobs.old }
 {
@@ -235,6 +244,7 @@ fn run_jobs<D: Disk + Drop + Send, R: Threads + Wait + Sync>(
         rt,
         alloc,
         signals,
+        ahead,
     };
     thread::for_each_mut(
         rt,
@@ -253,21 +263,101 @@ fn run_one<D: Disk + Drop, R: Wait>(both: &Both<'_, D, R>, late: bool, job: &mut
     let Some(seat) = job.0.take() else {
         unreachable!()
     };
-    let Both {
-        exchange,
-        rt,
-        alloc,
-        signals,
-    } = *both;
-    match campaign(alloc, b"shoes") {
+    match campaign(both.alloc, b"shoes") {
         Ok(Some(command)) => {
-            let kept = keep_one(rt, exchange, seat, signals, late, &command);
+            let kept = keep_as(both, seat, late, &command);
             drop(command);
             job.1 = u64::from(kept);
         }
         Ok(None) => drop(seat),
         Err(_) => drop(seat),
     }
+}
+
+fn keep_as<D: Disk + Drop, R: Wait>(
+    both: &Both<'_, D, R>,
+    seat: Seat<D>,
+    late: bool,
+    command: &Command,
+) -> bool
+    requires calls { MayCall (lock_of both.now.exchange.now) seat }
+    requires simple { IsTrue (is_simple command.now) }
+{
+    let Both {
+        exchange,
+        rt,
+        alloc: _,
+        signals,
+        ahead,
+    } = *both;
+    if !ahead {
+        return keep_one(rt, exchange, seat, signals, late, command);
+    }
+    if late {
+        return keep_behind(rt, exchange, seat, signals, command);
+    }
+    change_one(rt, exchange, seat, command)
+}
+
+// Whether the change was told durable.
+fn change_one<D: Disk + Drop, R: Wait>(
+    rt: &R,
+    exchange: &Exchange<D>,
+    seat: Seat<D>,
+    command: &Command,
+) -> bool
+    requires calls { MayCall (lock_of exchange.now) seat }
+    requires simple { IsTrue (is_simple command.now) }
+{
+    let hand = Hand { seat, upto: 0 };
+    let (hand, changed) = change(rt, exchange, hand, command);
+    drop(hand);
+    match changed {
+        Ok(Some(landed)) => {
+            let durable = landed.durable;
+            drop(landed);
+            durable
+        }
+        Ok(None) => false,
+        Err(AllocError) => false,
+    }
+}
+
+// Once the disk waits, a command without an effect is answered, and then a campaign is added.
+fn keep_behind<D: Disk + Drop, R: Wait>(
+    rt: &R,
+    exchange: &Exchange<D>,
+    seat: Seat<D>,
+    signals: &Signals,
+    command: &Command,
+) -> bool
+    requires calls { MayCall (lock_of exchange.now) seat }
+    requires simple { IsTrue (is_simple command.now) }
+{
+    signals.begin(true);
+    let report = Command::Report(1);
+    let hand = Hand { seat, upto: 0 };
+    let (hand, reply) = carry_out(rt, exchange, hand, &report);
+    drop(report);
+    drop(reply);
+    signals.end(true);
+    keep_campaign(rt, exchange, hand, command)
+}
+
+fn keep_campaign<D: Disk + Drop, R: Wait>(
+    rt: &R,
+    exchange: &Exchange<D>,
+    hand: Hand<D>,
+    command: &Command,
+) -> bool
+    requires hand { IsHand (lock_of exchange.now) hand }
+    requires simple { IsTrue (is_simple command.now) }
+{
+    let (hand, reply) = carry_out(rt, exchange, hand, command);
+    drop(reply);
+    let (hand, kept) = keep(rt, exchange, hand);
+    drop(hand);
+    kept
 }
 
 // The late worker begins once the disk waits, and tells that its command was answered.

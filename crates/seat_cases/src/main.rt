@@ -74,6 +74,7 @@ fn answer_with<R: Threads + Wait + Sync, L: Ledger>(
 // - `seats | FAILS | STOP | COMMAND | ..`: one thread has two seats of an exchange over a disk in memory, of which the
 //   calls with these numbers fail, and all from the number STOP on, where there is one. `session.rt` has the commands.
 // - `held`: a sync of the disk returns only once another worker's command was answered (`held.rt`).
+// - `ahead`: the same while a change is written that is carried out afterwards.
 fn answer_of_seats<R: Threads + Wait + Sync, L: Ledger>(
     rt: &R,
     alloc: Global,
@@ -83,7 +84,8 @@ fn answer_of_seats<R: Threads + Wait + Sync, L: Ledger>(
     out: &mut Txt,
 ) -> Result<bool, AllocError> {
     match args {
-        [] if call == b"held".as_slice() => done(held::tell(rt, alloc, steps, out)),
+        [] if call == b"held".as_slice() => done(held::tell(rt, alloc, false, steps, out)),
+        [] if call == b"ahead".as_slice() => done(held::tell(rt, alloc, true, steps, out)),
         [fails, stop, commands @ ..] if call == b"seats".as_slice() => {
             let disk = session::disk_of(alloc, fails.as_bytes(), stop.as_bytes())?;
             done(session::run(rt, alloc, disk, commands, steps, out))

@@ -7,7 +7,7 @@ ghost use Rattle.exchange_state.specs.Views.{calls, out};
 ghost use Rattle.seat_cases.specs.Hands.{GoesOn, IsHand, WasSought};
 
 use crate::answers::{put_numbered, put_reply};
-use exchange_shared::{Exchange, Found, Published, Seat, Settled, Ticket};
+use exchange_shared::{Changed, Exchange, Found, Published, Seat, Settled, Ticket, Unsettled};
 use plain_exchange::{Command, Reply};
 use rtb_base::Steps;
 use rtb_disk::Disk;
@@ -34,13 +34,44 @@ pub struct Sought {
     pub auction: Command,
 }
 
-/// Carries out a command other than an auction; the reply, where memory is there.
+/// What came of a change that was written first.
+#[derive(Drop)]
+pub struct Landed {
+    pub reply: Reply,
+    pub durable: bool,
+}
+
+/// Carries out a command other than an auction, in the first turn that finds no change ahead of it; the reply, where
+/// memory is there.
+#[tactic(auto, using(crate::proofs::Hands::stays, crate::proofs::Hands::goes_then))]
 pub fn carry_out<D: Disk, R: Wait>(
     rt: &R,
     exchange: &Exchange<D>,
     hand: Hand<D>,
     command: &Command,
 ) -> (Hand<D>, Result<Reply, AllocError>)
+    requires hand { IsHand (lock_of exchange.now) hand }
+    requires simple { IsTrue (is_simple command.now) }
+    ensures { GoesOn (lock_of exchange.now) hand result.0 }
+{
+    let mut hand = hand;
+    for _ in rt.forever() {
+        let (next, carried) = carry_out_once(rt, exchange, hand, command);
+        match carried {
+            Ok(reply) => return (next, Ok(reply)),
+            Err(Unsettled::Memory) => return (next, Err(AllocError)),
+            Err(Unsettled::Held) => hand = next,
+        }
+    }
+    unreachable!()
+}
+
+fn carry_out_once<D: Disk, R: Wait>(
+    rt: &R,
+    exchange: &Exchange<D>,
+    hand: Hand<D>,
+    command: &Command,
+) -> (Hand<D>, Result<Reply, Unsettled>)
     requires hand { IsHand (lock_of exchange.now) hand }
     requires simple { IsTrue (is_simple command.now) }
     ensures { GoesOn (lock_of exchange.now) hand result.0 }
@@ -52,8 +83,39 @@ pub fn carry_out<D: Disk, R: Wait>(
             let Settled { reply, upto } = settled;
             (Hand { seat, upto }, Ok(reply))
         }
+        Err(why) => (Hand { seat, upto }, Err(why)),
+    }
+}
+
+/// Carries out a command other than an auction once its effect is written; none where it cannot go ahead.
+pub fn change<D: Disk, R: Wait>(
+    rt: &R,
+    exchange: &Exchange<D>,
+    hand: Hand<D>,
+    command: &Command,
+) -> (Hand<D>, Result<Option<Landed>, AllocError>)
+    requires hand { IsHand (lock_of exchange.now) hand }
+    requires simple { IsTrue (is_simple command.now) }
+    ensures { GoesOn (lock_of exchange.now) hand result.0 }
+{
+    let Hand { seat, upto } = hand;
+    let (seat, changed) = exchange.change(rt, seat, command, MOMENT);
+    match changed {
+        Ok(Changed::Durable(settled)) => {
+            let Settled { reply, upto } = settled;
+            (Hand { seat, upto }, some_landed(reply, true))
+        }
+        Ok(Changed::StoreFailed(settled)) => {
+            let Settled { reply, upto } = settled;
+            (Hand { seat, upto }, some_landed(reply, false))
+        }
+        Ok(Changed::NotAlone) => (Hand { seat, upto }, Ok(None)),
         Err(refused) => (Hand { seat, upto }, Err(refused)),
     }
+}
+
+fn some_landed(reply: Reply, durable: bool) -> Result<Option<Landed>, AllocError> {
+    Ok(Some(Landed { reply, durable }))
 }
 
 /// Makes the worker's last command durable; whether it is.
@@ -235,6 +297,13 @@ pub fn settle<D: Disk, R: Wait, L: Ledger>(
             drop(reply);
             (Hand { seat, upto }, told)
         }
-        Err(refused) => (Hand { seat, upto }, Err(refused)),
+        Err(why) => (Hand { seat, upto }, put_unsettled(why, out)),
+    }
+}
+
+fn put_unsettled(why: Unsettled, out: &mut Txt) -> Result<(), AllocError> {
+    match why {
+        Unsettled::Memory => Err(AllocError),
+        Unsettled::Held => out.extend(b"held"),
     }
 }

@@ -32,6 +32,8 @@ pub struct Two<D: Disk> {
 /// moment 1000.
 ///
 /// - `A post TARGET NAME`: the reply to the command that the message asks for; `case_messages` has the campaigns by name.
+/// - `A change TARGET NAME`: the same by a change that is written first; says the reply and `durable` or `store failed`, or
+///   `not alone`.
 /// - `A turn TIMES N`: campaign N is paused and resumed in turn so many times; says how often it was done.
 /// - `A publish N`: builds a version where N edits stand, 1 at least, and publishes it; says its edit, and whether it is
 ///   new.
@@ -39,7 +41,7 @@ pub struct Two<D: Disk> {
 /// - `A flush`: writes what is not durable; says `flushed` or `store failed`.
 /// - `B find`: looks at the version and finds in it for the bid request of `case_messages`; says the edit of the version.
 /// - `B settle`: sells over what was found last; says the number of the sale, its campaign and the price in
-///   micro-dollars, or `no bid`.
+///   micro-dollars, `no bid`, or `held`.
 /// - `A keep` and `B keep`: make the worker's last command durable; say `durable` or `store failed`.
 /// - `reopen`: B's seat is joined, A flushes, the exchange is closed, and is opened again from its disk.
 /// - `crash PICK`: the same, from what a crash leaves of the disk by the pick.

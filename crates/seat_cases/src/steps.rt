@@ -5,7 +5,9 @@ ghost use Rattle.exchange_shared.specs.Seats.{lock_of};
 ghost use Rattle.seat_cases.specs.Hands.{AreTwo, GoesOn, IsHand, WasSought};
 
 use crate::answers::{number_at, put_done, put_mark, put_numbered, put_reply, word_at};
-use crate::seats::{Hand, Sought, carry_out, flush, keep, publish, put_worn, seek, settle};
+use crate::seats::{
+    Hand, Landed, Sought, carry_out, change, flush, keep, publish, put_worn, seek, settle,
+};
 use crate::session::Two;
 use case_messages::{REQUEST, campaign_named, command_of, is_no_auction};
 use exchange_shared::Exchange;
@@ -107,7 +109,7 @@ fn step_first<D: Disk + Drop, R: Wait, L: Ledger>(
     ensures { GoesOn (lock_of exchange.now) hand result.0 }
 {
     let word = word_at(command, 1);
-    if word == b"post".as_slice() {
+    if word == b"post".as_slice() || word == b"change".as_slice() {
         return post(rt, alloc, exchange, hand, command, out);
     }
     if word == b"turn".as_slice() {
@@ -161,7 +163,8 @@ fn post<D: Disk, R: Wait>(
     let body = campaign_named(word_at(command, 3));
     match command_of(alloc, word_at(command, 2), body) {
         Ok(Some(asked)) => {
-            let (hand, told) = post_one(rt, exchange, hand, &asked, out);
+            let ahead = word_at(command, 1) == b"change".as_slice();
+            let (hand, told) = post_one(rt, exchange, hand, &asked, ahead, out);
             drop(asked);
             (hand, told)
         }
@@ -175,6 +178,7 @@ fn post_one<D: Disk, R: Wait>(
     exchange: &Exchange<D>,
     hand: Hand<D>,
     asked: &Command,
+    ahead: bool,
     out: &mut Txt,
 ) -> (Hand<D>, Result<(), AllocError>)
     requires { IsHand (lock_of exchange.now) hand }
@@ -183,8 +187,32 @@ fn post_one<D: Disk, R: Wait>(
     if !is_no_auction(asked) {
         return (hand, out.extend(b"an auction"));
     }
+    if ahead {
+        let (hand, landed) = change(rt, exchange, hand, asked);
+        return (hand, put_changed(landed, out));
+    }
     let (hand, reply) = carry_out(rt, exchange, hand, asked);
     (hand, put_carried(reply, out))
+}
+
+fn put_changed(
+    landed: Result<Option<Landed>, AllocError>,
+    out: &mut Txt,
+) -> Result<(), AllocError> {
+    match landed? {
+        Some(landed) => {
+            let told = put_landed(&landed, out);
+            drop(landed);
+            told
+        }
+        None => out.extend(b"not alone"),
+    }
+}
+
+fn put_landed(landed: &Landed, out: &mut Txt) -> Result<(), AllocError> {
+    put_reply(&landed.reply, out)?;
+    out.extend(b", ")?;
+    put_done(b"durable", landed.durable, out)
 }
 
 fn put_carried(reply: Result<Reply, AllocError>, out: &mut Txt) -> Result<(), AllocError> {

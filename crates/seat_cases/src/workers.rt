@@ -1,13 +1,13 @@
 //! Several threads that add campaigns to one exchange.
 ghost use Rattle.std.specs.Prelude.{◌≡◌, ◌<◌, ◌≤◌, ◌+◌, ◌^◌, All, IfOk, IsTrue, None, Some, length};
 ghost use Rattle.auction_core.specs.Draft.{is_simple};
-ghost use Rattle.exchange_shared.specs.Seats.{MayCall, effects_in, lock_of};
+ghost use Rattle.exchange_shared.specs.Seats.{MayCall, lock_of};
 ghost use Rattle.hist_lock.specs.Views.{first_seat};
-ghost use Rattle.seat_cases.specs.Hands.{AreBack, AreSeated, IsFirst, IsHired};
+ghost use Rattle.seat_cases.specs.Hands.{AreBack, AreSeated, IsFirst, IsHand, IsHired};
 
-use crate::seats::{Hand, MOMENT, flush};
+use crate::seats::{Hand, carry_out, change, flush, keep};
 use case_messages::campaign;
-use exchange_shared::{Exchange, Seat, Settled};
+use exchange_shared::{Exchange, Seat};
 use plain_exchange::{Command, Reply};
 use rtb_disk::Disk;
 use std::alloc::{AllocError, Global};
@@ -217,7 +217,7 @@ fn add_shoes<D: Disk, R: Wait>(
     }
 }
 
-// Adds so many campaigns. The greatest number that was told durable, and how many writes failed.
+// Adds so many campaigns, the first, third and so on by a change that is written first. The greatest number that was told durable, and how many writes failed.
 fn add_many<D: Disk, R: Wait>(
     rt: &R,
     exchange: &Exchange<D>,
@@ -232,8 +232,8 @@ fn add_many<D: Disk, R: Wait>(
     let mut seat = seat;
     let mut told: u64 = 0;
     let mut failed: u64 = 0;
-    for _ in 0..count {
-        let (next, added) = add(rt, exchange, seat, command);
+    for i in 0..count {
+        let (next, added) = add(rt, exchange, seat, command, i % 2 == 0);
         seat = next;
         match added {
             Some(number) => told = told.max(number),
@@ -249,39 +249,84 @@ fn add<D: Disk, R: Wait>(
     exchange: &Exchange<D>,
     seat: Seat<D>,
     command: &Command,
+    ahead: bool,
 ) -> (Seat<D>, Option<u64>)
     requires calls { MayCall (lock_of exchange.now) seat }
     requires simple { IsTrue (is_simple command.now) }
     ensures { MayCall (lock_of exchange.now) result.0 }
 {
-    let (seat, settled) = exchange.simple(rt, seat, command, MOMENT);
-    match settled {
-        Ok(settled) => {
-            let Settled { reply, upto } = settled;
-            let number = number_of(&reply);
-            drop(reply);
-            keep(rt, exchange, seat, number, upto)
+    let hand = Hand { seat, upto: 0 };
+    let (hand, number) = add_by(rt, exchange, hand, command, ahead);
+    let Hand { seat, upto: _ } = hand;
+    (seat, number)
+}
+
+fn add_by<D: Disk, R: Wait>(
+    rt: &R,
+    exchange: &Exchange<D>,
+    hand: Hand<D>,
+    command: &Command,
+    ahead: bool,
+) -> (Hand<D>, Option<u64>)
+    requires hand { IsHand (lock_of exchange.now) hand }
+    requires simple { IsTrue (is_simple command.now) }
+    ensures { IsHand (lock_of exchange.now) result.0 }
+{
+    if ahead {
+        return add_ahead(rt, exchange, hand, command);
+    }
+    add_in_turn(rt, exchange, hand, command)
+}
+
+// By a change that is written first, where it can go ahead.
+fn add_ahead<D: Disk, R: Wait>(
+    rt: &R,
+    exchange: &Exchange<D>,
+    hand: Hand<D>,
+    command: &Command,
+) -> (Hand<D>, Option<u64>)
+    requires hand { IsHand (lock_of exchange.now) hand }
+    requires simple { IsTrue (is_simple command.now) }
+    ensures { IsHand (lock_of exchange.now) result.0 }
+{
+    let (hand, changed) = change(rt, exchange, hand, command);
+    match changed {
+        Ok(Some(landed)) => {
+            let number = number_of(&landed.reply);
+            let durable = landed.durable;
+            drop(landed);
+            (hand, number_if(durable, number))
         }
-        Err(_) => (seat, None),
+        Ok(None) => add_in_turn(rt, exchange, hand, command),
+        Err(AllocError) => (hand, None),
     }
 }
 
-// Makes so many effects durable. The number, or none where a write failed.
-fn keep<D: Disk, R: Wait>(
+fn add_in_turn<D: Disk, R: Wait>(
     rt: &R,
     exchange: &Exchange<D>,
-    seat: Seat<D>,
-    number: u64,
-    upto: u64,
-) -> (Seat<D>, Option<u64>)
-    requires calls { MayCall (lock_of exchange.now) seat }
-    requires placed { upto ≤ effects_in seat.origin seat.seen }
-    ensures { MayCall (lock_of exchange.now) result.0 }
+    hand: Hand<D>,
+    command: &Command,
+) -> (Hand<D>, Option<u64>)
+    requires hand { IsHand (lock_of exchange.now) hand }
+    requires simple { IsTrue (is_simple command.now) }
+    ensures { IsHand (lock_of exchange.now) result.0 }
 {
-    match exchange.make_durable(rt, seat, upto) {
-        Ok(seat) => (seat, Some(number)),
-        Err(failed) => (failed.seat, None),
+    let (hand, reply) = carry_out(rt, exchange, hand, command);
+    match reply {
+        Ok(reply) => {
+            let number = number_of(&reply);
+            drop(reply);
+            let (hand, kept) = keep(rt, exchange, hand);
+            (hand, number_if(kept, number))
+        }
+        Err(AllocError) => (hand, None),
     }
+}
+
+// The number, where it is durable.
+fn number_if(durable: bool, number: u64) -> Option<u64> {
+    if durable { Some(number) } else { None }
 }
 
 // The number of the campaign that was added, or 0.

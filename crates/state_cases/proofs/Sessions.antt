@@ -1,9 +1,9 @@
 -- What the two workers have of a state stays of its history while its list goes on.
-use Rattle.std.proofs.Common.{◌≡◌, ℕ, ◌+◌, ◌<◌, ◌^◌, Bool, false, cond, eqb, List, [], ◌∷◌, ◌++◌, arith, refl, sym, ◌∙◌, ap, subst, append_assoc, length-append, Option, Some, None, Result, Ok, Err}
+use Rattle.std.proofs.Common.{◌≡◌, ◌⊎◌, inl, inr, ℕ, ◌+◌, ◌<◌, ◌^◌, Bool, false, cond, eqb, List, [], ◌∷◌, ◌++◌, length, arith, refl, sym, ◌∙◌, ap, subst, append_assoc, length-append, Option, Some, None, Result, Ok, Err}
 use Rattle.std.specs.Prelude.{IfOk, IfSome, IsTrue, OnErr}
 use Rattle.std.proofs.lemmas.List.{append-nil}
 use Rattle.std.proofs.lemmas.List.Sums.{fold-append}
-use Rattle.auction_core.specs.Draft.{is_valid_command}
+use Rattle.auction_core.specs.Draft.{is_simple, is_valid_command}
 use Rattle.exchange_state.specs.declared.entries.Entry.{Entry}
 use Rattle.exchange_state.specs.declared.entries.Origin.{Origin}
 use Rattle.exchange_state.specs.declared.errand.Errand.{Errand}
@@ -15,12 +15,14 @@ use Rattle.exchange_state.specs.declared.state.Published.TheVariants as publishe
 use Rattle.exchange_state.specs.declared.state.Settled.{Settled}
 use Rattle.exchange_state.specs.declared.ticket.Found.{Found}
 use Rattle.exchange_state.specs.declared.ticket.Ticket.{Ticket}
+use Rattle.exchange_state.proofs.Changing.{change_done}
 use Rattle.exchange_state.proofs.Later.{calls_on, matches_later, tried_done, version_later}
-use Rattle.exchange_state.specs.Errands.{IsDone, IsTaken, IsTried, putting_mark, taking_mark, taking_marks, taking_of}
+use Rattle.exchange_state.proofs.Owning.{left_alone}
+use Rattle.exchange_state.specs.Errands.{IsDone, IsStaged, IsTaken, IsTried, putting_mark, staging_marks, taking_mark, taking_marks, taking_of}
 use Rattle.exchange_state.specs.Settling.{Enters, IsHome, IsStanding, MayPublish, MayPut, publishing_marks}
 use Rattle.exchange_state.specs.Standing.{StandsFor}
-use Rattle.exchange_state.specs.Tickets.{IsVersionOf, matches, table_at, version_in}
-use Rattle.exchange_state.specs.Views.{AreInTurn, Taking, called, calls, out_of, own, published_at, told_or}
+use Rattle.exchange_state.specs.Tickets.{IsVersionOf, effects_after, matches, table_at, version_in}
+use Rattle.exchange_state.specs.Views.{AreInTurn, Taking, called, calls, out, out_of, own, published_at, told_or}
 use Rattle.conj_index.specs.Campaigns.{Campaigns}
 use Rattle.conj_index.specs.Content.{IsIndexOf}
 use Rattle.index_versions.specs.declared.version.Version.{Version}
@@ -34,7 +36,7 @@ use Rattle.rtb_types.specs.declared.request.BidRequest.{BidRequest}
 use Rattle.state_cases.specs.declared.session.Hand.{Hand}
 use Rattle.state_cases.specs.declared.session.Hand.TheVariants as hand
 use Rattle.state_cases.specs.declared.session.Sought.{Sought}
-use Rattle.state_cases.specs.Session.{GoesOn, IsHand, IsInUse, IsOpenedState, IsOut, IsSession, MaySell, MayTry, WasSought, hand_after}
+use Rattle.state_cases.specs.Session.{GoesOn, IsAhead, IsHand, IsInUse, IsOpenedState, IsOut, IsSession, MayEnter, MaySell, MayTry, WasEntered, WasSought, hand_after, hand_entered, hand_staged}
 
 sought_later : (o : Origin) (h more : List Call) (s : Sought) → WasSought o h s → WasSought o (h ++ more) s
 sought_later o h more s w = record {
@@ -74,17 +76,42 @@ module _ {D : Type 0} {G : Ghosts D} where
     others = own_other 0 k.more e apart ∙ k.others;
   }
 
+  ahead_later : (o : Origin) (l : List Entry) (e : Entry) (d : Errand D G) (change : Command) → eqb e.worker 0 ≡ false → IsAhead o l d change → IsAhead o (l ++ e ∷ []) d change
+  ahead_later o l e d change apart k = record {
+    before = k.before;
+    more = k.more ++ e ∷ [];
+    list_is = ap (λ m. m ++ e ∷ []) k.list_is ∙ append_assoc (k.before ++ taking_mark 0 d ∷ []) k.more (e ∷ []);
+    simple = k.simple;
+    staged = k.staged;
+    encodable = k.encodable;
+    others = own_other 0 k.more e apart ∙ k.others;
+  }
+
+  entered_later : (o : Origin) (l : List Entry) (e : Entry) (d : Errand D G) → eqb e.worker 0 ≡ false → WasEntered o l d → WasEntered o (l ++ e ∷ []) d
+  entered_later o l e d apart k = record {
+    before = k.before;
+    more = k.more;
+    behind = k.behind ++ e ∷ [];
+    change = k.change;
+    reply = k.reply;
+    list_is = ap (λ m. m ++ e ∷ []) k.list_is ∙ append_assoc (((k.before ++ taking_mark 0 d ∷ []) ++ k.more) ++ called 0 k.change 1000 k.reply ∷ []) k.behind (e ∷ []);
+    staged = k.staged;
+    encodable = k.encodable;
+    end = k.end;
+    others = k.others;
+    others_behind = own_other 0 k.behind e apart ∙ k.others_behind;
+  }
+
   -- ---- one entry more of worker 1
 
-  hand_called : (o : Origin) (l : List Entry) (command : Command) (m : ℕ) (reply : Reply) (h : Hand D G) → IsHand o l h → IsHand o (l ++ called 1 command m reply ∷ []) h
-  hand_called o l command m reply hand.Empty k = fold-append (told_or out_of) None l (called 1 command m reply ∷ []) ∙ k
-  hand_called o l command m reply (hand.Taken d) k = out_later o l (called 1 command m reply) d refl k
-  hand_called o l command m reply (hand.Tried d written) (first, k, t) = (first, out_later o l (called 1 command m reply) first refl k, t)
-
-  hand_published : (o : Origin) (l : List Entry) (edit : ℕ) (h : Hand D G) → IsHand o l h → IsHand o (l ++ published_at 1 edit ∷ []) h
-  hand_published o l edit hand.Empty k = fold-append (told_or out_of) None l (published_at 1 edit ∷ []) ∙ k
-  hand_published o l edit (hand.Taken d) k = out_later o l (published_at 1 edit) d refl k
-  hand_published o l edit (hand.Tried d written) (first, k, t) = (first, out_later o l (published_at 1 edit) first refl k, t)
+  -- which is no mark of the journal
+  hand_later : (o : Origin) (l : List Entry) (e : Entry) (h : Hand D G) → eqb e.worker 0 ≡ false → ((t : Option Taking) → told_or out_of t e ≡ t) → IsHand o l h → IsHand o (l ++ e ∷ []) h
+  hand_later o l e hand.Empty apart quiet k = fold-append (told_or out_of) None l (e ∷ []) ∙ quiet (out l) ∙ k
+  hand_later o l e (hand.Taken d) apart quiet k = out_later o l e d apart k
+  hand_later o l e (hand.Tried d written) apart quiet (first, inl k, t) = (first, inl (out_later o l e first apart k), t)
+  hand_later o l e (hand.Tried d written) apart quiet (first, inr k, t) = (first, inr (entered_later o l e first apart k), t)
+  hand_later o l e (hand.Staged d change) apart quiet k = ahead_later o l e d change apart k
+  hand_later o l e (hand.Ahead d written change) apart quiet (first, k, t) = (first, ahead_later o l e first change apart k, t)
 
   -- ---- calls of the state
 
@@ -104,7 +131,7 @@ module _ {D : Type 0} {G : Ghosts D} where
         stands = e.stands;
         short = let long = length-append k.list (entry ∷ []) in let short = k.short in omega (arith, long, short);
         was_sought = still_sought k.origin k.list (entry ∷ []) s k.was_sought;
-        has = hand_called k.origin k.list command m settled.reply h k.has;
+        has = hand_later k.origin k.list entry h refl (λ t. refl) k.has;
       }
   carried m command x y (Err refused) ok err n s h k = record {
     origin = k.origin;
@@ -128,7 +155,7 @@ module _ {D : Type 0} {G : Ghosts D} where
     stands = after k.origin k.list 1 k.stands (version k.origin k.list k.stands);
     short = let long = length-append k.list (published_at 1 edit ∷ []) in let short = k.short in omega (arith, long, short);
     was_sought = still_sought k.origin k.list (published_at 1 edit ∷ []) s k.was_sought;
-    has = hand_published k.origin k.list edit h k.has;
+    has = hand_later k.origin k.list (published_at 1 edit) h refl (λ t. refl) k.has;
   }
   published_then x y v (published.Kept edit) version after n s h k = record {
     origin = k.origin;
@@ -169,9 +196,12 @@ module _ {D : Type 0} {G : Ghosts D} where
   pub tried_then : (n : ℕ) (x : ExchangeState D G) (s : Option Sought) (h now : Hand D G) → ((o : Origin) (l : List Entry) → IsHand o l h → IsHand o l now) → IsSession x n s h → IsSession x n s now
   tried_then n x s h now after k = record { origin = k.origin; list = k.list; stands = k.stands; short = k.short; was_sought = k.was_sought; has = after k.origin k.list k.has }
 
-  done_at : (o : Origin) (l : List Entry) (first d : Errand D G) (written : Bool) → AreInTurn None l → IsOut o l first → IsTried first d written → IsDone o l (taking_of 0 first) d written
-  done_at o l first d written turn k t =
+  done_at : (o : Origin) (l : List Entry) (first d : Errand D G) (written : Bool) → AreInTurn None l → IsOut o l first ⊎ WasEntered o l first → IsTried first d written → IsDone o l (taking_of 0 first) d written
+  done_at o l first d written turn (inl k) t =
       subst (λ m. IsDone o m (taking_of 0 first) d written) (sym k.list_is) (tried_done o k.before k.more 0 first d written k.errand k.encodable t (subst (AreInTurn None) k.list_is turn) k.others)
+  done_at o l first d written turn (inr k) t =
+      subst (λ m. IsDone o m (taking_of 0 first) d written) (sym k.list_is)
+      (change_done o k.before k.more k.behind 0 1000 k.change k.reply first d written k.staged k.encodable t k.end (subst (AreInTurn None) k.list_is turn) k.others k.others_behind)
 
   -- one that was tried was put back
   pub put_then : (n : ℕ) (x y : ExchangeState D G) (s : Option Sought) (d : Errand D G) (written : Bool)
@@ -189,6 +219,94 @@ module _ {D : Type 0} {G : Ghosts D} where
         short = let long = length-append k.list (mark ∷ []) in let short = k.short in omega (arith, long, short);
         was_sought = still_sought k.origin k.list (mark ∷ []) s k.was_sought;
         has = fold-append (told_or out_of) None k.list (mark ∷ []);
+      }
+
+  -- ---- a change that is written first
+
+  -- it was staged, or was not
+  pub staged_then : {E : Type 0} (n : ℕ) (x y : ExchangeState D G) (s : Option Sought) (h : Hand D G) (change : Command) (r : Result (Option (Errand D G)) E) → IsTrue (is_simple change)
+      → ((o : Origin) (l : List Entry) → StandsFor o x l → IfOk r (λ e. IfSome e (IsStaged o l change 1000)))
+      → ((o : Origin) (l : List Entry) (w : ℕ) → StandsFor o x l → IfOk r (λ e. StandsFor o y (l ++ staging_marks w e)))
+      → ((o : Origin) (l : List Entry) → StandsFor o x l → OnErr r (StandsFor o y l)) → IsSession x n s h → IsSession y (n + 1) s (hand_staged r change h)
+  staged_then n x y s h change (Ok None) simple is after err k = not_taken n x y s h k (after k.origin k.list 0 k.stands)
+  staged_then n x y s h change (Ok (Some d)) simple is after err k = record {
+    origin = k.origin;
+    list = k.list ++ taking_mark 0 d ∷ [];
+    stands = after k.origin k.list 0 k.stands;
+    short = let long = length-append k.list (taking_mark 0 d ∷ []) in let short = k.short in omega (arith, long, short);
+    was_sought = still_sought k.origin k.list (taking_mark 0 d ∷ []) s k.was_sought;
+    has = record {
+      before = k.list;
+      more = [];
+      list_is = sym (append-nil (k.list ++ taking_mark 0 d ∷ []));
+      simple = simple;
+      staged = is k.origin k.list k.stands;
+      encodable = let stood = k.stands in stood.encodable;
+      others = refl;
+    };
+  }
+  staged_then n x y s h change (Err refused) simple is after err k = record {
+    origin = k.origin;
+    list = k.list;
+    stands = err k.origin k.list k.stands;
+    short = let short = k.short in omega (arith, short);
+    was_sought = k.was_sought;
+    has = k.has;
+  }
+
+  -- by the list, the journal is out with it
+  out_ahead : (o : Origin) (l : List Entry) (d : Errand D G) (change : Command) → AreInTurn None l → IsAhead o l d change → out l ≡ Some (taking_of 0 d)
+  out_ahead o l d change turn k =
+      let is : out (k.before ++ taking_mark 0 d ∷ []) ≡ Some (taking_of 0 d) = fold-append (told_or out_of) None k.before (taking_mark 0 d ∷ []) in
+      let same = left_alone o (taking_of 0 d) (k.before ++ taking_mark 0 d ∷ []) k.more (subst (AreInTurn None) k.list_is turn) is k.others in
+      ap out k.list_is ∙ same.same_out ∙ is
+
+  -- it was carried out, or was not
+  pub entered_then : (n : ℕ) (x y : ExchangeState D G) (s : Option Sought) (d : Errand D G) (written : Bool) (change : Command) (r : Option Settled)
+      → ((o : Origin) (l : List Entry) (w : ℕ) → StandsFor o x l → IfSome r (Enters o l w change 1000 y))
+      → ((o : Origin) (l : List Entry) (t : Taking) → StandsFor o x l → out l ≡ Some t → IfSome r (λ s. t.upto ≡ length (effects_after o (calls l)) + 1))
+      → ((o : Origin) (l : List Entry) → StandsFor o x l → r ≡ None → StandsFor o y l) → IsSession x n s (hand.Ahead d written change) → IsSession y (n + 1) s (hand_entered r d written change)
+  entered_then n x y s d written change None enters end none k = record {
+    origin = k.origin;
+    list = k.list;
+    stands = none k.origin k.list k.stands refl;
+    short = let short = k.short in omega (arith, short);
+    was_sought = k.was_sought;
+    has = k.has;
+  }
+  entered_then n x y s d written change (Some settled) enters end none k =
+      let h = k.has in
+      let first = h.0 in
+      let a = h.1 in
+      let stands = k.stands in
+      let e = enters k.origin k.list 0 k.stands in
+      let entry = called 0 change 1000 settled.reply in
+      let is_out = out_ahead k.origin k.list h.0 change stands.in_turn h.1 in
+      record {
+        origin = k.origin;
+        list = k.list ++ entry ∷ [];
+        stands = e.stands;
+        short = let long = length-append k.list (entry ∷ []) in let short = k.short in omega (arith, long, short);
+        was_sought = still_sought k.origin k.list (entry ∷ []) s k.was_sought;
+        has = (
+          first,
+          inr (
+              record {
+                before = a.before;
+                more = a.more;
+                behind = [];
+                change = change;
+                reply = settled.reply;
+                list_is = ap (λ m. m ++ entry ∷ []) a.list_is ∙ sym (append-nil (((a.before ++ taking_mark 0 first ∷ []) ++ a.more) ++ entry ∷ []));
+                staged = a.staged;
+                encodable = a.encodable;
+                end = subst (λ m. first.upto ≡ length (effects_after k.origin (calls m)) + 1) a.list_is (end k.origin k.list (taking_of 0 first) k.stands is_out);
+                others = a.others;
+                others_behind = refl;
+              }
+              ),
+          h.2,
+        );
       }
 
   -- ---- what calls ask for
@@ -220,6 +338,15 @@ module _ {D : Type 0} {G : Ghosts D} where
   may_try n x s hand.Empty k = tt
   may_try n x s (hand.Taken e) k = let has = k.has in let errand = has.errand in errand.broken
   may_try n x s (hand.Tried e written) k = tt
+  may_try n x s (hand.Staged e change) k = let has = k.has in let staged = has.staged in staged.broken ∙ sym staged.again
+  may_try n x s (hand.Ahead e written change) k = tt
+
+  pub may_enter : (n : ℕ) (x : ExchangeState D G) (s : Option Sought) (h : Hand D G) → IsSession x n s h → MayEnter h
+  may_enter n x s hand.Empty k = tt
+  may_enter n x s (hand.Taken e) k = tt
+  may_enter n x s (hand.Tried e written) k = tt
+  may_enter n x s (hand.Staged e change) k = tt
+  may_enter n x s (hand.Ahead e written change) k = let has = k.has in let ahead = has.1 in ahead.simple
 
   pub home : (x : ExchangeState D G) → IsInUse x hand.Empty → IsHome x
   home x u = let k = u.is in record { origin = k.origin; list = k.list; stands = k.stands; home = k.has }

@@ -33,8 +33,8 @@ pub fn put_numbered(word: &[u8], number: u64, out: &mut Txt) -> Result<(), Alloc
     write_decimal(number, out)
 }
 
-/// Appends the reply: what was done with which campaign, or what was sold, or another word.
-pub fn put_reply(reply: &Reply, out: &mut Txt) -> Result<(), AllocError> {
+// Appends the reply: what was done with which campaign, or what was sold, or another word.
+fn put_reply(reply: &Reply, out: &mut Txt) -> Result<(), AllocError> {
     match reply {
         Reply::Sold(all) => put_sold(all, out),
         Reply::NoBid => out.extend(b"no bid"),
@@ -44,6 +44,25 @@ pub fn put_reply(reply: &Reply, out: &mut Txt) -> Result<(), AllocError> {
         Reply::Resumed { n } => put_numbered(b"resumed", u64::from(*n), out),
         Reply::Billed { sale } => put_numbered(b"billed", *sale, out),
         _ => out.extend(b"other"),
+    }
+}
+
+/// What came of a command.
+#[derive(Drop)]
+pub enum Came {
+    Reply(Reply),
+    /// It has an effect, and a change is ahead of it.
+    Held,
+    /// There is no command.
+    Nothing,
+}
+
+/// Appends the reply, or `held`, or the word for where there is no command.
+pub fn put_came(came: &Came, nothing: &[u8], out: &mut Txt) -> Result<(), AllocError> {
+    match came {
+        Came::Reply(reply) => put_reply(reply, out),
+        Came::Held => out.extend(b"held"),
+        Came::Nothing => out.extend(nothing),
     }
 }
 

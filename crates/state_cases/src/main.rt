@@ -4,6 +4,7 @@
 //! `case_lines` says what a case is, and `steps.rt` what its commands do.
 #![tactic(auto)]
 
+mod ahead;
 mod answers;
 mod session;
 mod sold;

@@ -35,6 +35,10 @@ pub enum Hand<D: Disk> {
     Taken(Errand<D>),
     /// Its block was written, or a call of the disk failed in that.
     Tried(Errand<D>, bool),
+    /// It is out with the block of this change, which is not carried out yet. The block was not tried yet.
+    Staged(Errand<D>, Command),
+    /// The same, with the block tried.
+    Ahead(Errand<D>, bool, Command),
 }
 
 /// A state, and what the two workers have of it.

@@ -10,11 +10,11 @@ ghost use Rattle.exchange_state.specs.Views.{calls};
 ghost use Rattle.plain_exchange.specs.declared.commands.Command.TheVariants.{Auction as AnAuction};
 ghost use Rattle.state_cases.specs.Session.{GoesOn, MaySell, WasSought};
 
-use crate::answers::{put_mark, put_reply};
+use crate::answers::{Came, put_came, put_mark};
 use crate::session::{MOST_ENTRIES, Session, Sought};
-use crate::steps::{MOMENT, reply_of};
-use exchange_state::{ExchangeState, Found, Settled, Ticket};
-use plain_exchange::{Command, Reply};
+use crate::steps::{MOMENT, came_of};
+use exchange_state::{ExchangeState, Found, Ticket};
+use plain_exchange::Command;
 use rtb_base::Steps;
 use rtb_disk::Disk;
 use rtb_num::{List, Txt, write_decimal};
@@ -72,14 +72,14 @@ impl<D: Disk + Drop> Session<D> {
             Err(AllocError) => self.settle_once(steps),
             settled => settled,
         };
-        put_settled(settled, out)
+        let came = settled?;
+        let told = put_came(&came, b"nothing was sought", out);
+        drop(came);
+        told
     }
 
     #[tactic(auto, using(crate::proofs::Sessions::may_sell))]
-    fn settle_once<L: Ledger>(
-        &mut self,
-        steps: &mut Steps<L>,
-    ) -> Result<Option<Reply>, AllocError> {
+    fn settle_once<L: Ledger>(&mut self, steps: &mut Steps<L>) -> Result<Came, AllocError> {
         if self.entries >= MOST_ENTRIES {
             return Err(AllocError);
         }
@@ -143,18 +143,18 @@ fn put_numbers(numbers: &List<u32>, out: &mut Txt) -> Result<(), AllocError> {
     Ok(())
 }
 
-// The reply to the auction for which was found last; none where nothing was.
+// What came of the auction for which was found last; nothing where nothing was.
 fn settle_last<D: Disk + Drop, L: Ledger>(
     state: &mut ExchangeState<D>,
     sought: &Option<Sought>,
     steps: &mut Steps<L>,
-) -> Result<Option<Reply>, AllocError>
+) -> Result<Came, AllocError>
     requires may { MaySell state.old sought.now }
     ensures { GoesOn state.old state.new }
 {
     match sought {
         Some(sought) => sell(state, sought, steps),
-        None => Ok(None),
+        None => Ok(Came::Nothing),
     }
 }
 
@@ -162,7 +162,7 @@ fn sell<D: Disk + Drop, L: Ledger>(
     state: &mut ExchangeState<D>,
     sought: &Sought,
     steps: &mut Steps<L>,
-) -> Result<Option<Reply>, AllocError>
+) -> Result<Came, AllocError>
     requires valid { IsTrue (is_valid_command sought.now.auction) }
     requires may { MaySettle state.old (version_in sought.now.ticket) sought.now.found.lists sought.now.auction }
     ensures { GoesOn state.old state.new }
@@ -174,25 +174,5 @@ fn sell<D: Disk + Drop, L: Ledger>(
         MOMENT,
         steps,
     );
-    some_reply(settled)
-}
-
-fn some_reply(settled: Result<Settled, AllocError>) -> Result<Option<Reply>, AllocError> {
-    let reply = reply_of(settled)?;
-    Ok(Some(reply))
-}
-
-fn put_settled(
-    settled: Result<Option<Reply>, AllocError>,
-    out: &mut Txt,
-) -> Result<(), AllocError> {
-    match settled {
-        Ok(Some(reply)) => {
-            let told = put_reply(&reply, out);
-            drop(reply);
-            told
-        }
-        Ok(None) => out.extend(b"nothing was sought"),
-        Err(refused) => Err(refused),
-    }
+    came_of(settled)
 }

@@ -4,10 +4,10 @@ ghost use Rattle.auction_core.specs.Draft.{is_simple};
 ghost use Rattle.exchange_state.specs.Settling.{IsStanding};
 ghost use Rattle.state_cases.specs.Session.{GoesOn};
 
-use crate::answers::{number_at, put_mark, put_reply, word_at};
+use crate::answers::{Came, number_at, put_came, put_mark, word_at};
 use crate::session::{MOST_ENTRIES, Session, open};
 use case_messages::{REQUEST, campaign_named, command_of, is_no_auction};
-use exchange_state::{ExchangeState, Settled};
+use exchange_state::{ExchangeState, Settled, Unsettled};
 use journal_file::JournalFault;
 use plain_exchange::{Command, Reply};
 use rtb_base::Steps;
@@ -23,11 +23,12 @@ pub const MOMENT: u64 = 1000;
 
 /// Answers the commands, with `; ` between two answers. Every command has the moment 1000, and is that of worker 1.
 ///
-/// - `post TARGET NAME`: the reply to the command that the message asks for, in a word and its number; `case_messages` has
-///   the campaigns by name.
+/// - `post TARGET NAME`: the reply to the command that the message asks for, in a word and its number, or `held` where a
+///   change is ahead of it; `case_messages` has the campaigns by name.
 /// - `turn TIMES N`: campaign N is paused and resumed in turn so many times; says how often it was done.
 /// - `find`: looks at the version, and says its edit and the numbers of what it finds for the bid request.
-/// - `settle`: sells over what was found last; says the campaign and the price in micro-dollars, or `no bid`.
+/// - `settle`: sells over what was found last; says the campaign and the price in micro-dollars, `no bid`, or
+///   `held`.
 /// - `publish N`: builds a version where N edits stand, and publishes it; says its edit, or `not due`.
 /// - `behind`: how many edits came behind the version that was looked at last.
 /// - `edition` and `durable`: the edit of the version, and how many effects are durable.
@@ -35,6 +36,9 @@ pub const MOMENT: u64 = 1000;
 ///   before.
 /// - `write`: appends the block, or repairs the journal with it; says `written` or `failed`.
 /// - `put`: puts the journal back.
+/// - `stage TARGET NAME`: takes the journal with the block of the change that the message asks for, which is not carried
+///   out yet; says the length of the block and its end, or `none`.
+/// - `enter`: carries that change out, once its block was tried; says the reply to it.
 /// - `reopen`: the state is opened again from the disk that the journal leaves, where it is home; else all is let go.
 ///
 /// A call that finds no memory is made once more, so a single refusal of memory changes no answer (`tests/states`).
@@ -181,6 +185,9 @@ impl<D: Disk + Drop> Session<D> {
         if name == b"publish".as_slice() {
             return self.publish(alloc, number_at(command, 1), steps, out);
         }
+        if name == b"stage".as_slice() {
+            return self.stage(alloc, command, out);
+        }
         self.run_rest(name, out)
     }
 
@@ -203,6 +210,9 @@ impl<D: Disk + Drop> Session<D> {
         if name == b"put".as_slice() {
             return self.put(out);
         }
+        if name == b"enter".as_slice() {
+            return self.enter(out);
+        }
         out.extend(b"?")
     }
 
@@ -222,14 +232,14 @@ impl<D: Disk + Drop> Session<D> {
         if !is_no_auction(command) {
             return out.extend(b"an auction");
         }
-        let reply = self.carry_out(command)?;
-        let told = put_reply(&reply, out);
-        drop(reply);
+        let came = self.carry_out(command)?;
+        let told = put_came(&came, b"", out);
+        drop(came);
         told
     }
 
     // Worker 1 carries out a command other than an auction.
-    fn carry_out(&mut self, command: &Command) -> Result<Reply, AllocError>
+    fn carry_out(&mut self, command: &Command) -> Result<Came, AllocError>
         requires simple { IsTrue (is_simple command.now) }
     {
         match self.carry_out_once(command) {
@@ -239,7 +249,7 @@ impl<D: Disk + Drop> Session<D> {
     }
 
     #[tactic(auto, using(crate::proofs::Sessions::standing))]
-    fn carry_out_once(&mut self, command: &Command) -> Result<Reply, AllocError>
+    fn carry_out_once(&mut self, command: &Command) -> Result<Came, AllocError>
         requires simple { IsTrue (is_simple command.now) }
     {
         if self.entries >= MOST_ENTRIES {
@@ -261,11 +271,11 @@ impl<D: Disk + Drop> Session<D> {
 
     fn turn_at(&mut self, i: u64, n: u64) -> Result<bool, AllocError> {
         let command = turned(i, n);
-        let reply = self.carry_out(&command);
+        let came = self.carry_out(&command);
         drop(command);
-        let reply = reply?;
-        let done = is_turned(&reply);
-        drop(reply);
+        let came = came?;
+        let done = is_turned(&came);
+        drop(came);
         Ok(done)
     }
 
@@ -311,20 +321,21 @@ fn command_again(alloc: Global, target: &[u8], body: &[u8]) -> Result<Option<Com
 fn carry_out_in<D: Disk + Drop>(
     state: &mut ExchangeState<D>,
     command: &Command,
-) -> Result<Reply, AllocError>
+) -> Result<Came, AllocError>
     requires simple { IsTrue (is_simple command.now) }
     requires stands { IsStanding state.old }
     ensures { GoesOn state.old state.new }
 {
     let settled = state.simple(command, MOMENT);
-    reply_of(settled)
+    came_of(settled)
 }
 
-/// The reply, where the command was carried out.
-pub fn reply_of(settled: Result<Settled, AllocError>) -> Result<Reply, AllocError> {
+/// What came of a command, where memory was not refused.
+pub fn came_of(settled: Result<Settled, Unsettled>) -> Result<Came, AllocError> {
     match settled {
-        Ok(settled) => Ok(settled.reply),
-        Err(refused) => Err(refused),
+        Ok(settled) => Ok(Came::Reply(settled.reply)),
+        Err(Unsettled::Held) => Ok(Came::Held),
+        Err(Unsettled::Memory) => Err(AllocError),
     }
 }
 
@@ -337,6 +348,9 @@ fn turned(i: u64, n: u64) -> Command
     Command::Resume(n)
 }
 
-fn is_turned(reply: &Reply) -> bool {
-    matches!(reply, Reply::Paused { .. } | Reply::Resumed { .. })
+fn is_turned(came: &Came) -> bool {
+    match came {
+        Came::Reply(reply) => matches!(reply, Reply::Paused { .. } | Reply::Resumed { .. }),
+        _ => false,
+    }
 }

@@ -83,9 +83,10 @@ fn put_took<D: Disk + Drop>(took: Took, hand: &Hand<D>, out: &mut Txt) -> Result
     }
 }
 
-fn put_hand<D: Disk + Drop>(hand: &Hand<D>, out: &mut Txt) -> Result<(), AllocError> {
+/// Appends the length of the block that is out and was not tried yet, and its end.
+pub fn put_hand<D: Disk + Drop>(hand: &Hand<D>, out: &mut Txt) -> Result<(), AllocError> {
     match hand {
-        Hand::Taken(errand) => put_errand(errand, out),
+        Hand::Taken(errand) | Hand::Staged(errand, _) => put_errand(errand, out),
         _ => out.extend(b"no block"),
     }
 }
@@ -120,8 +121,11 @@ fn tried<D: Disk + Drop>(hand: Hand<D>) -> (Hand<D>, Option<bool>)
             let (errand, written) = try_errand(errand);
             (Hand::Tried(errand, written), Some(written))
         }
-        Hand::Tried(errand, written) => (Hand::Tried(errand, written), None),
-        Hand::Empty => (Hand::Empty, None),
+        Hand::Staged(errand, change) => {
+            let (errand, written) = try_errand(errand);
+            (Hand::Ahead(errand, written, change), Some(written))
+        }
+        hand => (hand, None),
     }
 }
 
@@ -176,8 +180,7 @@ fn returned<D: Disk + Drop>(state: &mut ExchangeState<D>, hand: Hand<D>) -> (Han
             state.put_journal(errand, written);
             (Hand::Empty, true)
         }
-        Hand::Taken(errand) => (Hand::Taken(errand), false),
-        Hand::Empty => (Hand::Empty, false),
+        hand => (hand, false),
     }
 }
 

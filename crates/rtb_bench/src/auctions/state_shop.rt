@@ -11,7 +11,7 @@ use super::campaigns::{Campaigns, next_command};
 use super::shop::{PUBLIC, refusal_in};
 use auction_core::{Command, Reply};
 use command_read::read_command;
-use exchange_state::{Errand, ExchangeState, Taken};
+use exchange_state::{Errand, ExchangeState, Settled, Taken, Unsettled};
 use http_wire::{Answer, Message};
 use journal_file::Reading;
 use rtb_base::Steps;
@@ -154,7 +154,15 @@ fn sell_once<L: Ledger>(
     let settled = state.settle(&ticket, &found, command, moment, &mut steps);
     drop(found);
     drop(ticket);
-    Ok(settled?.reply)
+    reply_of(settled)
+}
+
+// The reply. One worker alone has no change ahead of its commands.
+fn reply_of(settled: Result<Settled, Unsettled>) -> Result<Reply, AllocError> {
+    match settled {
+        Ok(settled) => Ok(settled.reply),
+        Err(_) => Err(AllocError),
+    }
 }
 
 // A disk with a journal of so many of the campaigns.
@@ -199,10 +207,20 @@ fn add(state: &mut ExchangeState<MemDisk>, command: &Command) -> Result<(), Allo
 {
     match command {
         Command::Add(_, _) => {
-            state.simple(command, 0)?;
-            Ok(())
+            let added = state.simple(command, 0);
+            done(added)
         }
         _ => Err(AllocError),
+    }
+}
+
+fn done(added: Result<Settled, Unsettled>) -> Result<(), AllocError> {
+    match added {
+        Ok(settled) => {
+            drop(settled);
+            Ok(())
+        }
+        Err(_) => Err(AllocError),
     }
 }
 

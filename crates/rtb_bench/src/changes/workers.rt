@@ -233,7 +233,7 @@ fn changed(i: u32, campaign: u32) -> Command
     Command::Resume(campaign)
 }
 
-// Whether the change was told durable.
+// Whether the change was told durable. No worker writes one first here, so none is held.
 fn change<D: Disk, R: Wait>(
     rt: &R,
     exchange: &Exchange<D>,

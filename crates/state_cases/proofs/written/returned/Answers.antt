@@ -7,8 +7,5 @@ put_journal-requires g c = record { done = may_put c.args.state.now c.in-Tried.e
 pub returns-in-Tried : goal.returns-in-Tried
 returns-in-Tried g c = λ n s k. put_then n c.args.state.now c.put_journal.new.self s c.in-Tried.errand c.in-Tried.written c.put_journal.ensures.stands (rw c.in-Tried.is at k)
 
-pub returns-in-Taken : goal.returns-in-Taken
-returns-in-Taken g c = λ n s k. stays c.args.state.now n s _ (rw c.in-Taken.is at k)
-
-pub returns-in-Empty : goal.returns-in-Empty
-returns-in-Empty g c = λ n s k. stays c.args.state.now n s _ (rw c.in-Empty.is at k)
+pub returns-in_default : goal.returns-in_default
+returns-in_default g c = λ n s k. stays c.args.state.now n s _ k

@@ -4,6 +4,8 @@ use Rattle.exchange_state.specs.Costs.{settled_cost}
 use Rattle.exchange_state.specs.Tickets.{version_in}
 use Rattle.exchange_state.specs.declared.entries.Entry.{Entry}
 use Rattle.exchange_state.specs.declared.entries.Origin.{Origin}
+use Rattle.exchange_state.specs.declared.state.Unsettled.{Unsettled}
+use Rattle.exchange_state.specs.Settling.{IsHeld}
 use Rattle.exchange_state.specs.Views.{called}
 use Rattle.exchange_shared.proofs.Seats.{gains, lent, ordered_at, still, still_gains, waits, worker_stays}
 use Rattle.exchange_shared.proofs.Histories.{may_settle, snoc_init}
@@ -28,15 +30,20 @@ returns-in-Ok-clause-cost g c r l is at =
     (subst (λ (o : Origin). c.settle-settled.new.steps ≤ c.args.steps.now + settled_cost o c.enter-seat.result.0.seen (version_in c.args.ticket).edit r) org
     (c.settle-settled.ensures.cost _ _ r (lent _ _ _ _ c.deref_mut.ensures.value c.enter-seat.ensures.value) is))
 
-pub leave-requires-clause-value : goal.leave-requires-clause-value
-leave-requires-clause-value g c = c.in-Err.ensures.unsettled c.enter-seat.result.0.origin c.enter-seat.result.0.seen (lent _ _ _ _ c.deref_mut.ensures.value c.enter-seat.ensures.value)
+pub leave_unsettled-requires-clause-value : goal.leave_unsettled-requires-clause-value
+leave_unsettled-requires-clause-value g c = c.in-Err.ensures.unsettled c.enter-seat.result.0.origin c.enter-seat.result.0.seen (lent _ _ _ _ c.deref_mut.ensures.value c.enter-seat.ensures.value)
 
 pub returns-in-Err-clause-seat : goal.returns-in-Err-clause-seat
-returns-in-Err-clause-seat g c = still _ _ _ c.requires.seat (waits _ _ _ c.enter-seat.ensures.seat c.leave.ensures)
+returns-in-Err-clause-seat g c = still _ _ _ c.requires.seat (waits _ _ _ c.enter-seat.ensures.seat c.leave_unsettled.ensures)
 
 pub returns-in-Ok-clause-order : goal.returns-in-Ok-clause-order
 returns-in-Ok-clause-order g c =
     ordered_at _ c.enter-seat.result.0 _ _ (c.in-Ok.ensures.settled c.enter-seat.result.0.origin c.enter-seat.result.0.seen c.enter-seat.result.0.worker (lent _ _ _ _ c.deref_mut.ensures.value c.enter-seat.ensures.value)).stands c.leave_called-seat.ensures
 
 pub returns-in-Err-clause-order : goal.returns-in-Err-clause-order
-returns-in-Err-clause-order g c = ordered_at _ c.enter-seat.result.0 _ _ c.enter-seat.ensures.value c.leave.ensures
+returns-in-Err-clause-order g c = ordered_at _ c.enter-seat.result.0 _ _ c.enter-seat.ensures.value c.leave_unsettled.ensures
+
+pub returns-in-Err-clause-held : goal.returns-in-Err-clause-held
+returns-in-Err-clause-held g c =
+    subst (λ (s : Seat). c.in-Err.why ≡ Unsettled.Held → IsHeld s.origin s.seen c.args.command.now c.args.moment) (sym c.leave_unsettled.ensures)
+    (c.in-Err.ensures.held c.enter-seat.result.0.origin c.enter-seat.result.0.seen (lent _ _ _ _ c.deref_mut.ensures.value c.enter-seat.ensures.value))

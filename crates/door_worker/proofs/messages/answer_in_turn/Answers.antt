@@ -3,7 +3,7 @@ use Rattle.std.specs.Prelude.{IfOk, OnErr}
 use Rattle.door_worker.specs.Answers.{Goes}
 use Rattle.door_worker.specs.Working.{Entered}
 use Rattle.door_worker.proofs.Answering.{answered, unanswered}
-use Rattle.door_worker.proofs.messages.answer_command.Goals as goal
+use Rattle.door_worker.proofs.messages.answer_in_turn.Goals as goal
 
 pub returns-in-Ok-clause-answers : goal.returns-in-Ok-clause-answers
 returns-in-Ok-clause-answers g c = λ message read.

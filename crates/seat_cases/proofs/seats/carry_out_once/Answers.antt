@@ -1,7 +1,7 @@
 use Rattle.std.proofs.Common.{IfOk, OnErr, subst}
 use Rattle.exchange_shared.specs.Seats.{Calls, Waits}
 use Rattle.seat_cases.proofs.Hands.{goes_calling, goes_waiting}
-use Rattle.seat_cases.proofs.seats.carry_out.Goals as goal
+use Rattle.seat_cases.proofs.seats.carry_out_once.Goals as goal
 
 pub returns-in-Ok : goal.returns-in-Ok
 returns-in-Ok g c =

@@ -1,0 +1,154 @@
+//! A change that is written before it is carried out, so that nobody else waits for the disk because of it.
+use crate::exchange::{Exchange, Seat};
+use crate::naming::{leave_called, leave_put, leave_taken};
+use crate::writing::write;
+use exchange_state::{Errand, Settled, a_change_may_be_put_back};
+use plain_exchange::Command;
+use rtb_disk::Disk;
+use std::alloc::AllocError;
+use std::marker::Brand;
+use std::sync::Wait;
+
+/// What comes of a change that is to be written first.
+#[derive(Drop)]
+pub enum Changed {
+    /// It is carried out and durable.
+    Durable(Settled),
+    /// It is carried out, and a call of the disk failed, so that it is not durable yet.
+    StoreFailed(Settled),
+    /// It is not carried out: the journal is out or broken, other effects are not durable, or it has none.
+    NotAlone,
+}
+
+// The same before the block is written.
+enum Staged<D: Disk> {
+    Errand(Errand<D>),
+    NotAlone,
+}
+
+impl<D: Disk> Exchange<D> {
+    ghost use Rattle.std.specs.Prelude.{◌≡◌, IfOk, OnErr, IsTrue};
+    ghost use Rattle.auction_core.specs.Draft.{is_simple};
+    ghost use Rattle.exchange_shared.specs.Errands.{HasEntered, HasStaged, Puts, Stages};
+    ghost use Rattle.exchange_shared.specs.Seats.{Changes, IsOrdered, MayCall, Waits, lock_of};
+    ghost use Rattle.exchange_state.specs.declared.errand.Errand.{Errand as AnErrand};
+
+    /// Whether effects of several workers came together lately, so that a change lands sooner with others than alone.
+    pub fn is_shared(&self) -> bool {
+        self.landings.is_shared()
+    }
+
+    /// Carries out a command other than an auction once its effect is written. While it is, nothing else that has an effect
+    /// is carried out, and what has none does not wait for it.
+    pub fn change<R: Wait>(
+        &self,
+        rt: &R,
+        seat: Seat<D>,
+        command: &Command,
+        moment: u64,
+    ) -> (Seat<D>, Result<Changed, AllocError>)
+        requires seat { MayCall (lock_of self.now) seat }
+        requires simple { IsTrue (is_simple command.now) }
+        ensures seat { MayCall (lock_of self.now) result.0 }
+        ensures order { IsOrdered result.0.origin result.0.seen }
+        ensures changed { IfOk result.1 (Changes command.now moment seat result.0) }
+        ensures none { OnErr result.1 (Waits seat result.0) }
+    {
+        let (seat, staged) = self.stage(rt, seat, command, moment);
+        match staged {
+            Ok(Staged::Errand(errand)) => {
+                let (seat, changed) = self.carry_ahead(rt, seat, errand, command, moment);
+                (seat, Ok(changed))
+            }
+            Ok(Staged::NotAlone) => (seat, Ok(Changed::NotAlone)),
+            Err(AllocError) => (seat, Err(AllocError)),
+        }
+    }
+
+    // One turn: the journal is taken with the change's block.
+    fn stage<R: Wait>(
+        &self,
+        rt: &R,
+        seat: Seat<D>,
+        command: &Command,
+        moment: u64,
+    ) -> (Seat<D>, Result<Staged<D>, AllocError>)
+        requires seat { MayCall (lock_of self.now) seat }
+        requires simple { IsTrue (is_simple command.now) }
+        ensures staged { IfOk result.1 (Stages (lock_of self.now) command.now moment seat result.0) }
+        ensures none { OnErr result.1 (Waits seat result.0) }
+        ensures order { IsOrdered result.0.origin result.0.seen }
+    {
+        let (seat, mut turn) = self.lock.enter(rt, seat);
+        match turn.value.stage(command, moment) {
+            Ok(Some(errand)) => {
+                self.landings.depart(errand.upto);
+                let seat = leave_taken::<D, Brand>(&self.lock, seat, turn, &errand);
+                (seat, Ok(Staged::Errand(errand)))
+            }
+            Ok(None) => (self.lock.leave(seat, turn), Ok(Staged::NotAlone)),
+            Err(AllocError) => (self.lock.leave(seat, turn), Err(AllocError)),
+        }
+    }
+
+    // Writes the block without the turn, carries the change out, and puts the journal back.
+    fn carry_ahead<R: Wait>(
+        &self,
+        rt: &R,
+        seat: Seat<D>,
+        errand: Errand<D>,
+        command: &Command,
+        moment: u64,
+    ) -> (Seat<D>, Changed)
+        requires simple { IsTrue (is_simple command.now) }
+        requires staged { HasStaged (lock_of self.now) seat command.now moment errand }
+        ensures seat { MayCall (lock_of self.now) result.0 }
+        ensures order { IsOrdered result.0.origin result.0.seen }
+        ensures changed { Puts command.now moment seat errand result.0 result.1 }
+    {
+        a_change_may_be_put_back::<D>();
+        let mut errand = errand;
+        let written = write(&mut errand);
+        let (seat, settled) = self.enter_ahead(rt, seat, command, moment);
+        let (seat, turn) = self.lock.enter(rt, seat);
+        let landed = self.landings.land();
+        let seat = leave_put::<D, Brand>(&self.lock, seat, turn, errand, written);
+        self.landings.wake(landed);
+        if written {
+            (seat, Changed::Durable(settled))
+        } else {
+            (seat, Changed::StoreFailed(settled))
+        }
+    }
+
+    // Carries the change out, in the first turn that finds it ahead and memory at hand. That is the first turn but where
+    // memory is short, since nobody else carries out what has an effect.
+    fn enter_ahead<R: Wait>(
+        &self,
+        rt: &R,
+        seat: Seat<D>,
+        command: &Command,
+        moment: u64,
+    ) -> (Seat<D>, Settled)
+        requires simple { IsTrue (is_simple command.now) }
+        requires staged { (e : AnErrand D D.Disk) × HasStaged (lock_of self.now) seat command.now moment e }
+        ensures entered { (e : AnErrand D D.Disk) → HasStaged (lock_of self.now) seat command.now moment e → HasEntered (lock_of self.now) seat result.0 command.now moment e result.1 }
+        ensures order { IsOrdered result.0.origin result.0.seen }
+    {
+        let mut seat = seat;
+        for _ in rt.forever() {
+            let (now, mut turn) = self.lock.enter(rt, seat);
+            match turn.value.enter_ahead(command, moment) {
+                Some(settled) => {
+                    let reply = &settled.reply;
+                    let seat = leave_called::<D, Brand>(
+                        &self.lock, now, turn, command, moment, reply,
+                    );
+                    return (seat, settled);
+                }
+                None => seat = self.lock.leave(now, turn),
+            }
+        }
+        unreachable!()
+    }
+}
