@@ -1,13 +1,11 @@
 -- Effects that fit, and what they lead to.
-use Rattle.std.proofs.Common.{◌≡◌, ℕ, ◌+◌, ◌-◌, ◌^◌, ◌<◌, ◌≤◌, ◌&&◌, ◌||◌, min, cond, eqb, Bool, true, false, List, [], ◌∷◌, ◌++◌, length, take, drop, map, get_or, refl, sym, ◌∙◌, ap, subst, arith, append-nil, append_assoc, Option, Some, None, Ok}
+use Rattle.std.proofs.Common.{◌≡◌, ℕ, ◌+◌, ◌-◌, ◌^◌, ◌<◌, ◌≤◌, ◌&&◌, ◌||◌, min, cond, eqb, Bool, true, false, List, [], ◌∷◌, ◌++◌, length, take, drop, map, get_or, refl, sym, ◌∙◌, ap, subst, arith, append-nil, append_assoc, Option, Some, None}
 use Rattle.std.specs.Prelude.{is_some, nat_le, option_and_then, option_map, sum_by}
 use Rattle.std.specs.Option.{option_map_or}
 use Rattle.std.proofs.lemmas.Bool.{and_parts, false≢true, ltb-true}
 use Rattle.std.proofs.lemmas.List.{length-append, length-map, map-append, take-append-drop, take_more}
 use Rattle.std.proofs.lemmas.List.Sums.{sum_by-append, sum_by-cons}
-use Rattle.auction_core.specs.Applying.{Applies, items_cost, holding_for, with_sold}
-use Rattle.auction_core.specs.Core.{CoreState}
-use Rattle.auction_core.specs.Draft.{row_of}
+use Rattle.auction_core.specs.Applying.{items_cost, with_sold}
 use Rattle.budget_book.specs.declared.sales.Gone.{Gone}
 use Rattle.budget_book.specs.declared.sales.SaleRow.{SaleRow}
 use Rattle.budget_book.specs.Sales.{committed_of, expired_at, is_billed_of, is_held_of}
@@ -16,11 +14,6 @@ use Rattle.plain_exchange.specs.Effects.{can_pay, has_room, only_if, sale_by, wi
 use Rattle.plain_exchange.specs.State.{Campaign, State, campaign_at, free, most_sales, swept, with_sales}
 use Rattle.plain_exchange.proofs.Each.{none_some, some_same}
 use Rattle.plain_exchange.proofs.Keeping.{chosen}
-
--- ---- what comes of an effect
-
-pub done : {A : Type 0} (x : A) (after : Option State) (edits : ℕ) (old new : CoreState) → after ≡ Some new.state → new.ttl ≡ old.ttl → new.edits ≡ old.edits + edits → Applies after edits old new (Ok x)
-done x after edits old new e t d = record { after_is = e; fault = tt; unchanged = tt; ttl = t; edited = d; unedited = tt }
 
 pub fit : (b : Bool) (s : State) → b ≡ true → only_if b s ≡ Some s
 fit b s e = ap (λ c. only_if c s) e
@@ -127,23 +120,9 @@ mapped_same k (Some x) y e = (sym (some_same k y e), refl)
 
 -- ---- all items, one after the other
 
-none_of : {A : Type 0} (o : Option A) → is_some o ≡ false → o ≡ None
-none_of None e = refl
-none_of (Some x) e = absurd (false≢true (sym e))
-
-some_of : {A : Type 0} (o : Option A) → is_some o ≡ true → (x : A) × (o ≡ Some x)
+pub some_of : {A : Type 0} (o : Option A) → is_some o ≡ true → (x : A) × (o ≡ Some x)
 some_of None e = absurd (false≢true e)
 some_of (Some x) e = (x, refl)
-
-pub items_unfit : (m : ℕ) (user : Option (List ℕ)) (items : List SoldItem) (s : State) (b : Bool) → b ≡ is_some (with_items m user items s) → b ≡ false → with_items m user items s ≡ None
-items_unfit m user items s b e f = none_of (with_items m user items s) (sym e ∙ f)
-
-pub items_sold : (m : ℕ) (user : Option (List ℕ)) (items : List SoldItem) (s : State) (b : Bool) → b ≡ is_some (with_items m user items s) → b ≡ true → with_items m user items s ≡ Some (with_sold m user items s)
-items_sold m user items s b e f = let (u, is) = some_of (with_items m user items s) (sym e ∙ f) in is ∙ ap Some (sym (items_are m user items s u is))
-
-pub rows_are : (m : ℕ) (user : Option (List ℕ)) (items : List SoldItem) → map (row_of m) (map (holding_for user) items) ≡ map (sale_by m user) items
-rows_are m user [] = refl
-rows_are m user (item ∷ items) = ap (λ rows. sale_by m user item ∷ rows) (rows_are m user items)
 
 pub nothing_sold : (m : ℕ) (user : Option (List ℕ)) (s : State) → with_items m user [] s ≡ Some (with_sold m user [] s)
 nothing_sold m user s = ap (λ rows. Some (record s { sales = rows })) (sym (append-nil s.sales))

@@ -6,7 +6,7 @@ use Rattle.std.proofs.lemmas.Bool.{and_parts, eqb-true, leb-true, ne_eqb}
 use Rattle.std.proofs.lemmas.List.{length-map, map-append, nil_from_length}
 use Rattle.std.proofs.lemmas.Option.{slice_get-map}
 use Rattle.auction_core.specs.Core.{IsCore, IsStateOf}
-use Rattle.auction_core.specs.Draft.{IsAt, changed_at}
+use Rattle.auction_core.specs.Putting.{IsAt, changed_at}
 use Rattle.budget_book.specs.Book.{Funds, forgotten_of}
 use Rattle.budget_book.specs.declared.sales.Gone.{Gone}
 use Rattle.budget_book.specs.declared.sales.SaleRow.{SaleRow}

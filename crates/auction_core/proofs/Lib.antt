@@ -1,9 +1,12 @@
 pub mod Auctioning
 pub mod Below
+pub mod Editing
 pub mod Fitting
 pub mod Keeping
+pub mod Leading
 pub mod Payable
 pub mod Planning
 pub mod Preparing
 pub mod Scanning
+pub mod Selling
 pub mod Stating

@@ -1,33 +1,31 @@
 -- What each command is prepared to do.
-use Rattle.std.proofs.Common.{◌≡◌, ℕ, ◌-◌, ◌&&◌, cond, Bool, true, false, List, map, set, refl, sym, ◌∙◌, ap, subst, Option, Some, None}
+use Rattle.std.proofs.Common.{◌≡◌, ℕ, ◌-◌, ◌&&◌, cond, Bool, true, false, List, map, refl, sym, ◌∙◌, ap, subst, Option, Some, None}
 use Rattle.std.specs.Prelude.{nat_le, option_map, slice_get}
 use Rattle.std.specs.Option.{option_map_or}
 use Rattle.std.proofs.lemmas.Option.{slice_get-map}
-use Rattle.auction_core.specs.Draft.{carried, settled, edits_planned}
 use Rattle.auction_core.specs.Outcomes.{IsOutcome, does, told_alone}
 use Rattle.auction_core.specs.declared.draft.Answer.TheVariants as answer
-use Rattle.auction_core.specs.declared.draft.Plan.{Plan}
-use Rattle.auction_core.specs.declared.draft.Plan.TheVariants as plan
 use Rattle.auction_core.specs.declared.outcome.Outcome.{Outcome}
 use Rattle.budget_book.specs.declared.sales.SaleRow.{SaleRow}
 use Rattle.budget_book.specs.declared.sales.SaleState.{SaleState}
 use Rattle.budget_book.specs.declared.sales.SaleState.TheVariants as state
-use Rattle.budget_book.specs.Sales.{expired_at, in_state, is_held, state_at}
+use Rattle.budget_book.specs.Sales.{expired_at, state_at}
 use Rattle.plain_exchange.specs.declared.changes.Change.{Change}
 use Rattle.plain_exchange.specs.declared.changes.Change.TheVariants as change
 use Rattle.plain_exchange.specs.declared.commands.Reply.{Reply}
 use Rattle.plain_exchange.specs.declared.commands.Reply.TheVariants as reply
-use Rattle.plain_exchange.specs.Effects.{edits_in}
-use Rattle.plain_exchange.specs.State.{Campaign, State, campaign_at, forgotten, sale_numbered, swept, with_campaign, with_sale}
+use Rattle.plain_exchange.specs.State.{Campaign, State, campaign_at, forgotten, sale_numbered, swept, with_campaign}
 use Rattle.plain_exchange.specs.Step.{Transition, at_campaign, at_sale, bill_sale, billed_by, changing, lose_sale, lost_by, pause_campaign, report_campaign, resume_campaign, unchanged, with_live}
 use Rattle.plain_exchange.proofs.Each.{none_some, some_same}
-use Rattle.auction_core.proofs.Stating.{changed_is}
 
-pub told_is : (m : ℕ) (s : State) (r : Reply) → IsOutcome m s (unchanged s r) (told_alone r)
-told_is m s r = record { reply = refl; after = refl; change = refl; edits_are = refl }
+pub told_is : (s : State) (r : Reply) → IsOutcome (unchanged s r) (told_alone r)
+told_is s r = record { reply = refl; change = refl }
 
-pub same_outcome : (m : ℕ) (s : State) (t u : Transition) (o : Outcome) → t ≡ u → IsOutcome m s u o → IsOutcome m s t o
-same_outcome m s t u o e h = subst (λ v. IsOutcome m s v o) (sym e) h
+done_is : (after : State) (r : Reply) (ch : Change) → IsOutcome (changing after r ch) (does r ch)
+done_is after r ch = record { reply = refl; change = refl }
+
+pub same_outcome : (t u : Transition) (o : Outcome) → t ≡ u → IsOutcome u o → IsOutcome t o
+same_outcome t u o e h = subst (λ v. IsOutcome v o) (sym e) h
 
 -- ---- campaigns
 
@@ -37,43 +35,45 @@ at_none s n act e = ap (λ o. option_map_or act o (unchanged s reply.NoSuchCampa
 pub at_some : (s : State) (n : ℕ) (act : Campaign → Transition) (c : Campaign) → campaign_at s n ≡ Some c → at_campaign s n act ≡ act c
 at_some s n act c e = ap (λ o. option_map_or act o (unchanged s reply.NoSuchCampaign)) e
 
-pub none_there : (m : ℕ) (s : State) (n : ℕ) (act : Campaign → Transition) → campaign_at s n ≡ None → IsOutcome m s (at_campaign s n act) (told_alone reply.NoSuchCampaign)
-none_there m s n act e = same_outcome m s (at_campaign s n act) (unchanged s reply.NoSuchCampaign) (told_alone reply.NoSuchCampaign) (at_none s n act e) (told_is m s reply.NoSuchCampaign)
+pub none_there : (s : State) (n : ℕ) (act : Campaign → Transition) → campaign_at s n ≡ None → IsOutcome (at_campaign s n act) (told_alone reply.NoSuchCampaign)
+none_there s n act e = same_outcome (at_campaign s n act) (unchanged s reply.NoSuchCampaign) (told_alone reply.NoSuchCampaign) (at_none s n act e) (told_is s reply.NoSuchCampaign)
 
-pub told_there : (m : ℕ) (s : State) (n : ℕ) (act : Campaign → Transition) (c : Campaign) (r : Reply) → campaign_at s n ≡ Some c → act c ≡ unchanged s r → IsOutcome m s (at_campaign s n act) (told_alone r)
-told_there m s n act c r at e = same_outcome m s (at_campaign s n act) (unchanged s r) (told_alone r) (at_some s n act c at ∙ e) (told_is m s r)
+pub told_there : (s : State) (n : ℕ) (act : Campaign → Transition) (c : Campaign) (r : Reply) → campaign_at s n ≡ Some c → act c ≡ unchanged s r → IsOutcome (at_campaign s n act) (told_alone r)
+told_there s n act c r at e = same_outcome (at_campaign s n act) (unchanged s r) (told_alone r) (at_some s n act c at ∙ e) (told_is s r)
 
-pub done_there : (m : ℕ) (s after : State) (n : ℕ) (act : Campaign → Transition) (c : Campaign) (p : Plan) (r : Reply) (ch : Change) → campaign_at s n ≡ Some c → act c ≡ changing after r ch → carried p m s ≡ after
-    → edits_planned p ≡ edits_in ch → IsOutcome m s (at_campaign s n act) (does p r ch)
-done_there m s after n act c p r ch at e f one = same_outcome m s (at_campaign s n act) (changing after r ch) (does p r ch) (at_some s n act c at ∙ e) (record { reply = refl; after = f; change = refl; edits_are = one })
+pub done_there : (s after : State) (n : ℕ) (act : Campaign → Transition) (c : Campaign) (r : Reply) (ch : Change) → campaign_at s n ≡ Some c → act c ≡ changing after r ch → IsOutcome (at_campaign s n act) (does r ch)
+done_there s after n act c r ch at e = same_outcome (at_campaign s n act) (changing after r ch) (does r ch) (at_some s n act c at ∙ e) (done_is after r ch)
 
-pub pause_live : (m : ℕ) (s : State) (n : ℕ) (c : Campaign) → campaign_at s n ≡ Some c → c.live ≡ true → IsOutcome m s (at_campaign s n (pause_campaign n s)) (does (plan.Pause n) (reply.Paused n) (change.Paused n))
-pause_live m s n c at live =
-    done_there m s (with_campaign s n (with_live false c)) n (pause_campaign n s) c (plan.Pause n) (reply.Paused n) (change.Paused n) at
-    (ap (λ b. cond b (changing (with_campaign s n (with_live false c)) (reply.Paused n) (change.Paused n)) (unchanged s (reply.Paused n))) live) (changed_is n (with_live false) s c at) refl
-
-pub pause_paused : (m : ℕ) (s : State) (n : ℕ) (c : Campaign) → campaign_at s n ≡ Some c → c.live ≡ false → IsOutcome m s (at_campaign s n (pause_campaign n s)) (told_alone (reply.Paused n))
-pause_paused m s n c at live =
-    told_there m s n (pause_campaign n s) c (reply.Paused n) at
+pub pause_live : (s : State) (n : ℕ) (c : Campaign) → campaign_at s n ≡ Some c → c.live ≡ true → IsOutcome (at_campaign s n (pause_campaign n s)) (does (reply.Paused n) (change.Paused n))
+pause_live s n c at live =
+    done_there s (with_campaign s n (with_live false c)) n (pause_campaign n s) c (reply.Paused n) (change.Paused n) at
     (ap (λ b. cond b (changing (with_campaign s n (with_live false c)) (reply.Paused n) (change.Paused n)) (unchanged s (reply.Paused n))) live)
 
-pub resume_paused : (m : ℕ) (s : State) (n : ℕ) (c : Campaign) → campaign_at s n ≡ Some c → c.live ≡ false → IsOutcome m s (at_campaign s n (resume_campaign n s)) (does (plan.Resume n) (reply.Resumed n) (change.Resumed n))
-resume_paused m s n c at live =
-    done_there m s (with_campaign s n (with_live true c)) n (resume_campaign n s) c (plan.Resume n) (reply.Resumed n) (change.Resumed n) at
-    (ap (λ b. cond b (unchanged s (reply.Resumed n)) (changing (with_campaign s n (with_live true c)) (reply.Resumed n) (change.Resumed n))) live) (changed_is n (with_live true) s c at) refl
+pub pause_paused : (s : State) (n : ℕ) (c : Campaign) → campaign_at s n ≡ Some c → c.live ≡ false → IsOutcome (at_campaign s n (pause_campaign n s)) (told_alone (reply.Paused n))
+pause_paused s n c at live =
+    told_there s n (pause_campaign n s) c (reply.Paused n) at
+    (ap (λ b. cond b (changing (with_campaign s n (with_live false c)) (reply.Paused n) (change.Paused n)) (unchanged s (reply.Paused n))) live)
 
-pub resume_live : (m : ℕ) (s : State) (n : ℕ) (c : Campaign) → campaign_at s n ≡ Some c → c.live ≡ true → IsOutcome m s (at_campaign s n (resume_campaign n s)) (told_alone (reply.Resumed n))
-resume_live m s n c at live =
-    told_there m s n (resume_campaign n s) c (reply.Resumed n) at
+pub resume_paused : (s : State) (n : ℕ) (c : Campaign) → campaign_at s n ≡ Some c → c.live ≡ false → IsOutcome (at_campaign s n (resume_campaign n s)) (does (reply.Resumed n) (change.Resumed n))
+resume_paused s n c at live =
+    done_there s (with_campaign s n (with_live true c)) n (resume_campaign n s) c (reply.Resumed n) (change.Resumed n) at
+    (ap (λ b. cond b (unchanged s (reply.Resumed n)) (changing (with_campaign s n (with_live true c)) (reply.Resumed n) (change.Resumed n))) live)
+
+pub resume_live : (s : State) (n : ℕ) (c : Campaign) → campaign_at s n ≡ Some c → c.live ≡ true → IsOutcome (at_campaign s n (resume_campaign n s)) (told_alone (reply.Resumed n))
+resume_live s n c at live =
+    told_there s n (resume_campaign n s) c (reply.Resumed n) at
     (ap (λ b. cond b (unchanged s (reply.Resumed n)) (changing (with_campaign s n (with_live true c)) (reply.Resumed n) (change.Resumed n))) live)
 
 -- the transition of a report changes nothing
-pub report_any : (m : ℕ) (s : State) (n : ℕ) → IsOutcome m s (at_campaign s n (report_campaign n s)) (record { plan = plan.Nothing; answer = answer.Report n; change = None })
-report_any m s n = by_campaign (campaign_at s n) refl
+pub report_any : (s : State) (n : ℕ) → IsOutcome (at_campaign s n (report_campaign n s)) (record { answer = answer.Report n; change = None })
+report_any s n = by_campaign (campaign_at s n) refl
   where
-    by_campaign : (o : Option Campaign) → campaign_at s n ≡ o → IsOutcome m s (at_campaign s n (report_campaign n s)) (record { plan = plan.Nothing; answer = answer.Report n; change = None })
-    by_campaign None e = record { reply = refl; after = sym (ap (λ (t : Transition). t.after) (at_none s n (report_campaign n s) e)); change = sym (ap (λ (t : Transition). t.change) (at_none s n (report_campaign n s) e)); edits_are = refl }
-    by_campaign (Some c) e = record { reply = refl; after = sym (ap (λ (t : Transition). t.after) (at_some s n (report_campaign n s) c e)); change = sym (ap (λ (t : Transition). t.change) (at_some s n (report_campaign n s) c e)); edits_are = refl }
+    by_act : (o : Reply) → at_campaign s n (report_campaign n s) ≡ unchanged s o → IsOutcome (at_campaign s n (report_campaign n s)) (record { answer = answer.Report n; change = None })
+    by_act o e = record { reply = ap (λ (u : Transition). (at_campaign u.after n (report_campaign n u.after)).reply) e; change = sym (ap (λ (u : Transition). u.change) e) }
+
+    by_campaign : (o : Option Campaign) → campaign_at s n ≡ o → IsOutcome (at_campaign s n (report_campaign n s)) (record { answer = answer.Report n; change = None })
+    by_campaign None e = by_act reply.NoSuchCampaign (at_none s n (report_campaign n s) e)
+    by_campaign (Some c) e = by_act (report_campaign n s c).reply (at_some s n (report_campaign n s) c e)
 
 -- ---- sales
 
@@ -115,52 +115,47 @@ one_of : (b : Bool) (s : State) → cond b (unchanged s reply.Forgotten) (unchan
 one_of true s = refl
 one_of false s = refl
 
-pub missing_outcome : (m : ℕ) (s : State) (n : ℕ) (act : SaleRow → Transition) → sale_numbered s n ≡ None → IsOutcome m s (at_sale s n act) (told_alone (missing_as s n))
-missing_outcome m s n act e =
-    same_outcome m s (at_sale s n act) (unchanged s (missing_as s n)) (told_alone (missing_as s n))
+pub missing_outcome : (s : State) (n : ℕ) (act : SaleRow → Transition) → sale_numbered s n ≡ None → IsOutcome (at_sale s n act) (told_alone (missing_as s n))
+missing_outcome s n act e =
+    same_outcome (at_sale s n act) (unchanged s (missing_as s n)) (told_alone (missing_as s n))
     (ap (λ o. cond (nat_le 1 n && nat_le n (forgotten s)) (unchanged s reply.Forgotten) (option_map_or act o (unchanged s reply.NoSuchSale))) e ∙ one_of (nat_le 1 n && nat_le n (forgotten s)) s)
-    (told_is m s (missing_as s n))
-
-pub settled_is : (to : SaleState) (s : State) (n : ℕ) (sale : SaleRow) → sale_numbered s n ≡ Some sale → sale.state ≡ state.Held → settled to n s ≡ with_sale s n (in_state to sale)
-settled_is to s n sale e held =
-    ap (λ o. record s { sales = option_map_or (λ (x : SaleRow). cond (is_held x.state) (set s.sales (n - forgotten s - 1) (in_state to x)) s.sales) o s.sales }) e
-    ∙ ap (λ st. record s { sales = cond (is_held st) (set s.sales (n - forgotten s - 1) (in_state to sale)) s.sales }) held
+    (told_is s (missing_as s n))
 
 -- by the state of the sale
-abbrev pub bill_outcome : ℕ → State → ℕ → SaleState → Outcome
-bill_outcome m s n state.Held = does (plan.Bill n) (reply.Billed n) (change.Billed n)
-bill_outcome m s n state.Billed = told_alone (reply.Billed n)
-bill_outcome m s n state.Lost = told_alone reply.WasLost
-bill_outcome m s n state.Expired = told_alone reply.WasExpired
+abbrev pub bill_outcome : ℕ → SaleState → Outcome
+bill_outcome n state.Held = does (reply.Billed n) (change.Billed n)
+bill_outcome n state.Billed = told_alone (reply.Billed n)
+bill_outcome n state.Lost = told_alone reply.WasLost
+bill_outcome n state.Expired = told_alone reply.WasExpired
 
-billed_as : (m : ℕ) (s : State) (n : ℕ) (sale : SaleRow) (st : SaleState) → sale_numbered s n ≡ Some sale → sale.state ≡ st → IsOutcome m s (billed_by st n s sale) (bill_outcome m s n st)
-billed_as m s n sale state.Held there e = record { reply = refl; after = settled_is state.Billed s n sale there e; change = refl; edits_are = refl }
-billed_as m s n sale state.Billed there e = told_is m s (reply.Billed n)
-billed_as m s n sale state.Lost there e = told_is m s reply.WasLost
-billed_as m s n sale state.Expired there e = told_is m s reply.WasExpired
+billed_as : (s : State) (n : ℕ) (sale : SaleRow) (st : SaleState) → sale_numbered s n ≡ Some sale → sale.state ≡ st → IsOutcome (billed_by st n s sale) (bill_outcome n st)
+billed_as s n sale state.Held there e = record { reply = refl; change = refl }
+billed_as s n sale state.Billed there e = told_is s (reply.Billed n)
+billed_as s n sale state.Lost there e = told_is s reply.WasLost
+billed_as s n sale state.Expired there e = told_is s reply.WasExpired
 
-pub bill_by : (m : ℕ) (s : State) (n : ℕ) (st : SaleState) → option_map (λ (x : SaleRow). state_at m x) (sale_numbered s n) ≡ Some st → IsOutcome m (swept m s) (at_sale (swept m s) n (bill_sale n (swept m s))) (bill_outcome m (swept m s) n st)
+pub bill_by : (m : ℕ) (s : State) (n : ℕ) (st : SaleState) → option_map (λ (x : SaleRow). state_at m x) (sale_numbered s n) ≡ Some st → IsOutcome (at_sale (swept m s) n (bill_sale n (swept m s))) (bill_outcome n st)
 bill_by m s n st e =
     let (sale, there, is) = sale_in m s n st e in
-    same_outcome m (swept m s) (at_sale (swept m s) n (bill_sale n (swept m s))) (billed_by st n (swept m s) sale) (bill_outcome m (swept m s) n st)
+    same_outcome (at_sale (swept m s) n (bill_sale n (swept m s))) (billed_by st n (swept m s) sale) (bill_outcome n st)
     (at_listed_sale (swept m s) n (bill_sale n (swept m s)) sale there ∙ ap (λ t. billed_by t n (swept m s) sale) is)
-    (billed_as m (swept m s) n sale st there is)
+    (billed_as (swept m s) n sale st there is)
 
-abbrev pub lose_outcome : ℕ → State → ℕ → SaleState → Outcome
-lose_outcome m s n state.Held = does (plan.Lose n) (reply.Lost n) (change.Lost n)
-lose_outcome m s n state.Billed = told_alone reply.WasBilled
-lose_outcome m s n state.Lost = told_alone (reply.Lost n)
-lose_outcome m s n state.Expired = told_alone reply.WasExpired
+abbrev pub lose_outcome : ℕ → SaleState → Outcome
+lose_outcome n state.Held = does (reply.Lost n) (change.Lost n)
+lose_outcome n state.Billed = told_alone reply.WasBilled
+lose_outcome n state.Lost = told_alone (reply.Lost n)
+lose_outcome n state.Expired = told_alone reply.WasExpired
 
-lost_as : (m : ℕ) (s : State) (n : ℕ) (sale : SaleRow) (st : SaleState) → sale_numbered s n ≡ Some sale → sale.state ≡ st → IsOutcome m s (lost_by st n s sale) (lose_outcome m s n st)
-lost_as m s n sale state.Held there e = record { reply = refl; after = settled_is state.Lost s n sale there e; change = refl; edits_are = refl }
-lost_as m s n sale state.Billed there e = told_is m s reply.WasBilled
-lost_as m s n sale state.Lost there e = told_is m s (reply.Lost n)
-lost_as m s n sale state.Expired there e = told_is m s reply.WasExpired
+lost_as : (s : State) (n : ℕ) (sale : SaleRow) (st : SaleState) → sale_numbered s n ≡ Some sale → sale.state ≡ st → IsOutcome (lost_by st n s sale) (lose_outcome n st)
+lost_as s n sale state.Held there e = record { reply = refl; change = refl }
+lost_as s n sale state.Billed there e = told_is s reply.WasBilled
+lost_as s n sale state.Lost there e = told_is s (reply.Lost n)
+lost_as s n sale state.Expired there e = told_is s reply.WasExpired
 
-pub lose_by : (m : ℕ) (s : State) (n : ℕ) (st : SaleState) → option_map (λ (x : SaleRow). state_at m x) (sale_numbered s n) ≡ Some st → IsOutcome m (swept m s) (at_sale (swept m s) n (lose_sale n (swept m s))) (lose_outcome m (swept m s) n st)
+pub lose_by : (m : ℕ) (s : State) (n : ℕ) (st : SaleState) → option_map (λ (x : SaleRow). state_at m x) (sale_numbered s n) ≡ Some st → IsOutcome (at_sale (swept m s) n (lose_sale n (swept m s))) (lose_outcome n st)
 lose_by m s n st e =
     let (sale, there, is) = sale_in m s n st e in
-    same_outcome m (swept m s) (at_sale (swept m s) n (lose_sale n (swept m s))) (lost_by st n (swept m s) sale) (lose_outcome m (swept m s) n st)
+    same_outcome (at_sale (swept m s) n (lose_sale n (swept m s))) (lost_by st n (swept m s) sale) (lose_outcome n st)
     (at_listed_sale (swept m s) n (lose_sale n (swept m s)) sale there ∙ ap (λ t. lost_by t n (swept m s) sale) is)
-    (lost_as m (swept m s) n sale st there is)
+    (lost_as (swept m s) n sale st there is)

@@ -8,7 +8,7 @@ use Rattle.std.proofs.lemmas.List.{length-map, map-append, map-set}
 use Rattle.std.proofs.lemmas.List.Sums.{sum_by-cons}
 use Rattle.std.proofs.lemmas.Option.{get_or_from_slice_get, slice_get-map}
 use Rattle.auction_core.specs.Core.{IsCore, IsStateOf, campaigns_of, funds, funds_for, listed, listed_as}
-use Rattle.auction_core.specs.Draft.{can_change, changed_at, settled}
+use Rattle.auction_core.specs.Putting.{can_change, changed_at, settled}
 use Rattle.budget_book.specs.Book.{Funds, forgotten_of}
 use Rattle.budget_book.specs.declared.sales.Gone.{Gone}
 use Rattle.budget_book.specs.declared.sales.SaleRow.{SaleRow}

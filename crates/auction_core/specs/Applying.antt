@@ -1,7 +1,5 @@
 -- What comes of carrying out an effect.
-use Rattle.std.specs.Prelude.{◌≡◌, ℕ, ◌+◌, ◌==◌, if◌then◌else◌, IsTrue, List, Option, None, Some, is_some, IfErr, OnErr, OnOk, Result, map, sum_by}
-use Rattle.auction_core.specs.Core.{CoreState}
-use Rattle.auction_core.specs.declared.draft.Holding.{Holding}
+use Rattle.std.specs.Prelude.{◌≡◌, ℕ, ◌==◌, if◌then◌else◌, IsTrue, List, Option, None, is_some, map, sum_by}
 use Rattle.auction_core.specs.declared.fault.ApplyFault.{ApplyFault}
 use Rattle.auction_core.specs.declared.fault.ApplyFault.TheVariants as fault
 use Rattle.plain_exchange.specs.declared.changes.SoldItem.{SoldItem}
@@ -15,15 +13,6 @@ Explains after fault.Memory = IsTrue (is_some after)
 
 -- ---- Only private clauses cite what follows.
 
--- the exchange came to that state by so many edits, or stayed as it was
-pub record Applies {A : Type 0} (after : Option State) (edits : ℕ) (old new : CoreState) (r : Result A ApplyFault) : Type 0 where
-  pub after_is : OnOk r (after ≡ Some new.state)
-  pub fault : IfErr r (Explains after)
-  pub unchanged : OnErr r (new.state ≡ old.state)
-  pub ttl : new.ttl ≡ old.ttl
-  pub edited : OnOk r (new.edits ≡ old.edits + edits)
-  pub unedited : OnErr r (new.edits ≡ old.edits)
-
 -- to whom sales are made, where that is known
 abbrev pub User : Type 0
 User = Option (List ℕ)
@@ -35,7 +24,3 @@ with_sold moment user items s = with_sales s (map (sale_by moment user) items)
 -- what they take of the budget of campaign n
 abbrev pub items_cost : ℕ → List SoldItem → ℕ
 items_cost n items = sum_by (λ (item : SoldItem). if item.campaign == n then item.price else 0) items
-
--- an item as a sale that is to be made
-abbrev pub holding_for : User → SoldItem → Holding
-holding_for user item = record { campaign = item.campaign; price = item.price; due = item.due; user = user }

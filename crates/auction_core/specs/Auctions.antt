@@ -1,10 +1,8 @@
 -- Only private clauses cite this file. What is free beside awards of the same request, and what is offered.
-use Rattle.std.specs.Prelude.{ℕ, ◌+◌, ◌==◌, nat_lt, if◌then◌else◌, List, Option, filter, length, map, sum_by, count_by}
+use Rattle.std.specs.Prelude.{ℕ, ◌+◌, ◌==◌, nat_lt, if◌then◌else◌, List, filter, length, map, sum_by, count_by}
 use Rattle.std.specs.List.{enumerate_from}
 use Rattle.auction_core.specs.Draft.{is_reached}
 use Rattle.auction_core.specs.Outcomes.{does, told_alone}
-use Rattle.auction_core.specs.declared.draft.Holding.{Holding}
-use Rattle.auction_core.specs.declared.draft.Plan.TheVariants.{Sell}
 use Rattle.auction_core.specs.declared.outcome.Outcome.{Outcome}
 use Rattle.campaign_store.specs.declared.limit.Limit.TheVariants.{Sales}
 use Rattle.clearing.specs.declared.Offer.{Offer}
@@ -12,7 +10,7 @@ use Rattle.deal_rules.specs.Offers.{offers_of}
 use Rattle.plain_exchange.specs.declared.changes.SoldItem.{SoldItem}
 use Rattle.deal_rules.specs.Terms.{user_of}
 use Rattle.plain_exchange.specs.declared.commands.Reply.TheVariants as reply
-use Rattle.plain_exchange.specs.Auction.{Award, due_at, opportunity, sales_of}
+use Rattle.plain_exchange.specs.Auction.{Award, opportunity, sales_of}
 use Rattle.plain_exchange.specs.State.{Campaign, State, most_sales, swept, with_sales}
 use Rattle.plain_exchange.specs.Step.{all_sold_as, item_of, sold_change}
 use Rattle.rtb_types.specs.declared.request.BidRequest.{BidRequest}
@@ -38,16 +36,13 @@ reached s r imp = filter (is_reached r imp) (enumerate_from 1 s.campaigns)
 abbrev pub offering : State → BidRequest → Imp → ℕ → ℕ × Campaign → List Offer
 offering s r imp moment p = offers_of p.0 (opportunity s r imp moment p.0 p.1)
 
--- an award as a sale that is to be made, and as an item of an effect
-abbrev pub holding_of : ℕ → Option (List ℕ) → Award → Holding
-holding_of due user a = record { campaign = a.1.campaign; price = a.1.price; due = due; user = user }
-
+-- an award as an item of an effect
 abbrev pub item_due : ℕ → Award → SoldItem
 item_due due a = record { campaign = a.1.campaign; price = a.1.price; due = due }
 
 -- all awards are sold
 abbrev pub selling : ℕ → ℕ → BidRequest → State → List Award → Outcome
-selling ttl moment r s awards = does (Sell (map (holding_of (due_at ttl moment) (user_of r)) awards)) (reply.Sold (all_sold_as s r awards)) (sold_change (user_of r) (map (item_of ttl moment) awards))
+selling ttl moment r s awards = does (reply.Sold (all_sold_as s r awards)) (sold_change (user_of r) (map (item_of ttl moment) awards))
 
 -- what comes of the awards
 abbrev pub award_outcome : ℕ → ℕ → BidRequest → State → List Award → Outcome

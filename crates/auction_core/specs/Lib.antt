@@ -4,4 +4,5 @@ pub mod Core
 pub mod Draft
 pub mod Frames
 pub mod Outcomes
+pub mod Putting
 pub mod Scan

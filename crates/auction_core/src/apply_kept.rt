@@ -1,49 +1,34 @@
-//! Effects of a compacted journal are carried out.
-ghost use Rattle.std.specs.Prelude.{◌≡◌, ◌≤◌, ◌<◌, ◌+◌, ◌-◌, ◌^◌, ◌==◌, ◌&&◌, if◌then◌else◌, false, true, [], ◌∷◌, IfOk, IsTrue, None, Some, length, min, nat_le};
-ghost use Rattle.std.specs.Option.{option_copied, option_map_or};
-ghost use Rattle.auction_core.specs.Applying.{Applies};
+//! Effects of a compacted journal: whether they fit, and how they are put into the state.
+ghost use Rattle.std.specs.Prelude.{◌≡◌, ◌≤◌, ◌<◌, ◌+◌, ◌-◌, ◌^◌, ◌==◌, ◌&&◌, if◌then◌else◌, false, true, [], ◌∷◌, IsTrue, None, Some, is_some, length, min, nat_le};
+ghost use Rattle.std.specs.Option.{option_map_or};
+ghost use Rattle.auction_core.specs.Putting.{Puts};
 ghost use Rattle.auction_core.specs.Frames.{OnlyState};
 ghost use Rattle.plain_exchange.specs.Effects.{campaign_of, can_keep, can_keep_sale, charge_of, edits_of_kept, with_kept, with_kept_sale};
 ghost use Rattle.budget_book.specs.Sales.{gone_count, most_forgotten};
 ghost use Rattle.plain_exchange.specs.State.{Campaign, campaign_at, forgotten, free, with_campaigns, with_sales};
 
 use crate::exchange::Core;
-use crate::fault::ApplyFault;
-use crate::prepare_records::{copy_entry, nanos};
-use crate::sell::key_of;
+use crate::prepare_records::nanos;
 use budget_book::{Gone, MOST_SALES, SaleRow, SaleState, UserKey};
 use plain_exchange::{KeptCampaign, SharedRecord};
-use rtb_num::{Nanos, Txt};
-use std::alloc::{AllocError, Global};
+use rtb_num::Nanos;
 
 // The most sales that are ever forgotten.
 const MOST_FORGOTTEN: u64 = 1 << 62;
 
 impl Core {
     // A campaign as it was, before any sale.
-    pub(crate) fn apply_kept(
-        &mut self,
-        alloc: Global,
-        kept: &KeptCampaign,
-        moment: u64,
-    ) -> Result<(), ApplyFault>
-        requires few { self.old.edits + edits_of_kept kept.now ≤ 2 ^ 63 }
-        ensures { Applies (if moment == 0 then with_kept kept.now self.old.state else None) (edits_of_kept kept.now) self.old self.new result }
+    pub(crate) fn put_kept(&mut self, entry: SharedRecord, live: bool, gone: Gone, moment: u64)
+        requires fits { IsTrue (is_some (if moment == 0 then with_kept (record { live = live; facts = entry.facts; expr = entry.expr; gone = gone }) self.old.state else None)) }
+        requires room { 1 ≤ self.old.campaign_room }
+        requires few { self.old.edits + edits_of_kept (record { live = live; facts = entry.facts; expr = entry.expr; gone = gone }) ≤ 2 ^ 63 }
+        ensures { Puts (if moment == 0 then with_kept (record { live = live; facts = entry.facts; expr = entry.expr; gone = gone }) self.old.state else None) (edits_of_kept (record { live = live; facts = entry.facts; expr = entry.expr; gone = gone })) self.old self.new }
     {
-        if moment != 0 {
-            return Err(ApplyFault::Unfit);
-        }
-        if !self.can_keep(kept) {
-            return Err(ApplyFault::Unfit);
-        }
-        self.reserve_campaign()?;
-        let entry = copy_entry(alloc, &kept.facts, &kept.expr)?;
-        self.keep(entry, kept.live, kept.gone);
-        Ok(())
+        self.keep(entry, live, gone);
     }
 
     // Whether there is no sale yet, and the campaign can be added as it was.
-    fn can_keep(&self, kept: &KeptCampaign) -> bool
+    pub(crate) fn can_keep(&self, kept: &KeptCampaign) -> bool
         ensures { result ≡ can_keep self.now.state kept.now }
     {
         let sales = self.sales();
@@ -99,29 +84,18 @@ impl Core {
         self.table.add(entry)
     }
 
-    // A sale as it was.
-    pub(crate) fn apply_kept_sale(
-        &mut self,
-        alloc: Global,
-        row: &SaleRow,
-        moment: u64,
-    ) -> Result<(), ApplyFault>
-        ensures { Applies (if moment == 0 then with_kept_sale row.now self.old.state else None) 0 self.old self.new result }
+    // A sale as it was, with its user's key.
+    pub(crate) fn put_kept_sale(&mut self, sale: (SaleRow, Option<UserKey>), moment: u64)
+        requires fits { IsTrue (is_some (if moment == 0 then with_kept_sale sale.0 self.old.state else None)) }
+        requires user { sale.1 ≡ sale.0.user }
+        requires room { 1 ≤ self.old.sale_room }
+        ensures { Puts (if moment == 0 then with_kept_sale sale.0 self.old.state else None) 0 self.old self.new }
     {
-        if moment != 0 {
-            return Err(ApplyFault::Unfit);
-        }
-        if !self.can_keep_sale(row) {
-            return Err(ApplyFault::Unfit);
-        }
-        self.reserve_sales(1)?;
-        let (copy, key) = copy_sale(alloc, row)?;
-        self.keep_sale(copy, key);
-        Ok(())
+        self.keep_sale(sale.0, sale.1);
     }
 
     // Whether the campaign of the sale can pay it, and one more sale can be kept.
-    fn can_keep_sale(&self, row: &SaleRow) -> bool
+    pub(crate) fn can_keep_sale(&self, row: &SaleRow) -> bool
         ensures { result ≡ can_keep_sale self.now.state row.now }
     {
         let covered = self.can_cover(row);
@@ -181,37 +155,5 @@ fn charge_of(row: &SaleRow) -> Nanos
     match row.state {
         SaleState::Held | SaleState::Billed => row.price,
         SaleState::Lost | SaleState::Expired => nanos(0),
-    }
-}
-
-// The sale, and the key of its user.
-fn copy_sale(alloc: Global, row: &SaleRow) -> Result<(SaleRow, Option<UserKey>), AllocError>
-    ensures { IfOk result (λ p. p ≡ (row.now, row.now.user)) }
-{
-    let copy = copy_row(row)?;
-    let key = key_of(alloc, row.user.as_ref())?;
-    Ok((copy, key))
-}
-
-fn copy_row(row: &SaleRow) -> Result<SaleRow, AllocError>
-    ensures { IfOk result (λ r. r ≡ row.now) }
-{
-    let user = copy_user(row.user.as_ref())?;
-    Ok(SaleRow {
-        campaign: row.campaign,
-        price: row.price,
-        moment: row.moment,
-        due: row.due,
-        state: row.state,
-        user,
-    })
-}
-
-fn copy_user(user: Option<&Txt>) -> Result<Option<Txt>, AllocError>
-    ensures { IfOk result (λ u. u ≡ option_copied user.entry) }
-{
-    match user {
-        None => Ok(None),
-        Some(user) => Ok(Some(user.copy()?)),
     }
 }

@@ -1,15 +1,15 @@
 //! What was prepared is carried out.
-ghost use Rattle.std.specs.Prelude.{◌≡◌, ◌≤◌, ◌<◌, ◌+◌, ◌^◌, ℕ, IsTrue, is_some, length, map};
-ghost use Rattle.auction_core.specs.Draft.{CanCarry, CanHoldAll, IsDraftOf, IsReady, answered, after_of, carried, edits_made, edits_planned, reply_of, row_of};
-ghost use Rattle.auction_core.specs.Frames.{OnlyState};
+ghost use Rattle.std.specs.Prelude.{◌≡◌, ◌<◌, ◌+◌, ◌^◌, ℕ, IfSome, IsTrue, is_some};
+ghost use Rattle.std.specs.Option.{option_copied};
+ghost use Rattle.auction_core.specs.Draft.{CanPut, IsDraftOf, IsReady, answered, edits_made, effect_edits};
+ghost use Rattle.auction_core.specs.Putting.{Leads};
 ghost use Rattle.plain_exchange.specs.declared.commands.Command.{Command};
-ghost use Rattle.plain_exchange.specs.State.{campaign_at, with_sales};
+ghost use Rattle.plain_exchange.specs.State.{campaign_at};
 ghost use Rattle.plain_exchange.specs.Step.{at_campaign, report_campaign, step};
 
-use crate::draft::{Answer, Draft, Holding, Plan};
+use crate::draft::{Answer, Draft, Memory};
 use crate::exchange::Core;
-use plain_exchange::Reply;
-use rtb_num::List;
+use plain_exchange::{Effect, Reply};
 
 impl Core {
     /// Carries out what was prepared, and answers it. It takes no memory.
@@ -23,55 +23,23 @@ impl Core {
         ensures ttl { self.new.ttl ≡ self.old.ttl }
         ensures edits { self.new.edits ≡ self.old.edits + edits_made draft }
     {
-        self.carry_draft(draft)
-    }
-
-    // The same, by what the draft says.
-    fn carry_draft(&mut self, draft: Draft) -> Reply
-        requires ready { IsReady draft self.old }
-        requires few { self.old.edits < 2 ^ 63 }
-        ensures reply { result ≡ reply_of draft self.old.state }
-        ensures state { self.new.state ≡ after_of draft self.old.state }
-        ensures ttl { self.new.ttl ≡ self.old.ttl }
-        ensures edits { self.new.edits ≡ self.old.edits + edits_made draft }
-    {
+        let memory = draft.memory;
+        self.enter(draft.effect.as_ref(), memory);
         drop(draft.effect);
-        self.sweep(draft.moment);
-        self.carry(draft.plan, draft.moment);
         self.answer(draft.answer)
     }
 
-    // Carries the plan out on a state in which nothing is due.
-    fn carry(&mut self, plan: Plan, moment: u64)
-        requires possible { CanCarry plan moment self.old.state self.old.sale_room self.old.campaign_room }
+    // Carries the effect out, where there is one.
+    fn enter(&mut self, effect: Option<&Effect>, memory: Memory)
+        requires ready { IfSome (option_copied effect) (λ e. CanPut e memory self.old) }
         requires few { self.old.edits < 2 ^ 63 }
-        ensures state { self.new.state ≡ carried plan moment self.old.state }
+        ensures state { Leads (option_copied effect.entry) self.old.state self.new.state }
         ensures ttl { self.new.ttl ≡ self.old.ttl }
-        ensures edits { self.new.edits ≡ self.old.edits + edits_planned plan }
+        ensures edits { self.new.edits ≡ self.old.edits + effect_edits (option_copied effect.entry) }
     {
-        match plan {
-            Plan::Nothing => {}
-            Plan::Sell(holdings) => self.hold_all(holdings, moment),
-            Plan::Add(entry) => self.add(entry),
-            Plan::Change(n, entry) => self.change(n, entry),
-            Plan::Pause(n) => self.pause(n),
-            Plan::Resume(n) => self.resume(n),
-            Plan::Bill(sale) => self.bill(sale),
-            Plan::Lose(sale) => self.lose(sale),
-        }
-    }
-
-    // Makes the sales in their order.
-    pub(crate) fn hold_all(&mut self, holdings: List<Holding>, moment: u64)
-        requires payable { CanHoldAll moment self.old.state holdings }
-        requires room { length holdings ≤ self.old.sale_room }
-        ensures state { self.new.state ≡ with_sales self.old.state (map (row_of moment) holdings) }
-        ensures rest { OnlyState 0 (length holdings) 0 self.old self.new }
-    {
-        let mut rest = holdings.into_vec();
-        rest.reverse();
-        while let Some(holding) = rest.pop() {
-            self.hold(holding, moment);
+        match effect {
+            None => drop(memory),
+            Some(effect) => self.put(effect, memory),
         }
     }
 

@@ -2,40 +2,29 @@
 ghost use Rattle.std.specs.Prelude.{◌≡◌};
 ghost use Rattle.std.specs.Option.{option_copied};
 
-use budget_book::UserKey;
+use budget_book::{SaleRow, UserKey};
 use plain_exchange::{Effect, Reply, SharedRecord};
-use rtb_num::{List, Nanos};
+use rtb_num::List;
 
 /// What a command will do, with all the memory that it takes. Nothing of the exchange is in it.
 #[derive(Drop)]
 pub struct Draft {
-    // The moment of the command.
-    pub(crate) moment: u64,
-    pub(crate) plan: Plan,
     pub(crate) answer: Answer,
     pub(crate) effect: Option<Effect>,
+    // What carrying the effect out takes.
+    pub(crate) memory: Memory,
 }
 
-// What is done once held sales that are due have expired.
+// What carrying out an effect takes of memory.
 #[derive(Drop)]
-pub(crate) enum Plan {
+pub(crate) enum Memory {
     Nothing,
-    Sell(List<Holding>),
-    Add(SharedRecord),
-    Change(u32, SharedRecord),
-    Pause(u32),
-    Resume(u32),
-    Bill(u64),
-    Lose(u64),
-}
-
-// A sale that is to be made.
-#[derive(Drop)]
-pub(crate) struct Holding {
-    pub campaign: u32,
-    pub price: Nanos,
-    pub due: u64,
-    pub user: Option<UserKey>,
+    // What a campaign states.
+    Entry(SharedRecord),
+    // The user of each sale, where there is one.
+    Keys(List<UserKey>),
+    // A sale of a compacted journal, and its user.
+    Sale(SaleRow, Option<UserKey>),
 }
 
 // What will be answered.

@@ -1,19 +1,18 @@
 //! Single changes of the state. None takes memory.
 ghost use Rattle.std.proofs.Common.{get_or, set};
 ghost use Rattle.std.specs.Prelude.{◌≡◌, ◌-◌, length, ◌+◌, ◌<◌, ◌≤◌, ◌^◌, [], ◌∷◌, false, true, IsTrue, not};
-ghost use Rattle.auction_core.specs.Draft.{IsAt, can_change, changed_at, row_of, settled};
+ghost use Rattle.auction_core.specs.Putting.{IsAt, can_change, changed_at, settled};
 ghost use Rattle.auction_core.specs.Frames.{OnlyState};
 ghost use Rattle.budget_book.specs.Book.{Funds};
 ghost use Rattle.budget_book.specs.declared.sales.SaleState.{SaleState};
 ghost use Rattle.budget_book.specs.Sales.{committed_of};
-ghost use Rattle.plain_exchange.specs.Effects.{can_pay, has_room, is_within_limits};
+ghost use Rattle.plain_exchange.specs.Effects.{can_pay, has_room, is_within_limits, sale_by};
 ghost use Rattle.plain_exchange.specs.State.{forget, swept, with_campaigns, with_sales};
 ghost use Rattle.plain_exchange.specs.Step.{new_campaign, with_live, with_record};
 
-use crate::draft::Holding;
 use crate::exchange::Core;
-use budget_book::Book;
-use plain_exchange::SharedRecord;
+use budget_book::{Book, UserKey};
+use plain_exchange::{SharedRecord, SoldItem};
 use rtb_num::Nanos;
 
 impl Core {
@@ -25,21 +24,16 @@ impl Core {
         self.book.sweep(moment);
     }
 
-    // Makes one sale.
-    pub(crate) fn hold(&mut self, holding: Holding, moment: u64)
-        requires pays { IsTrue (can_pay self.old.state holding.campaign holding.price) }
+    // Makes one sale, to the user of the key, where there is one.
+    pub(crate) fn hold(&mut self, item: &SoldItem, moment: u64, key: Option<UserKey>)
+        requires pays { IsTrue (can_pay self.old.state item.now.campaign item.now.price) }
         requires few { IsTrue (has_room self.old.state) }
         requires room { 1 ≤ self.old.sale_room }
-        ensures state { self.new.state ≡ with_sales self.old.state (row_of moment holding ∷ []) }
+        ensures state { self.new.state ≡ with_sales self.old.state (sale_by moment key item.now ∷ []) }
         ensures rest { OnlyState 0 1 0 self.old self.new }
     {
-        self.book.sell(
-            holding.campaign,
-            holding.price,
-            moment,
-            holding.due,
-            holding.user,
-        );
+        self.book
+            .sell(item.campaign, item.price, moment, item.due, key);
     }
 
     // Adds a live campaign.

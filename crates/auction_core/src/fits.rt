@@ -1,24 +1,48 @@
 //! Whether effects of a journal fit the state.
-ghost use Rattle.std.specs.Prelude.{◌≡◌, ◌≤◌, ◌-◌, ◌^◌, ◌==◌, ◌&&◌, if◌then◌else◌, [], IfOk, IsTrue, OnOk, false, is_some, length, map, min, not};
-ghost use Rattle.std.specs.Option.{option_copied, option_map_or};
-ghost use Rattle.auction_core.specs.Applying.{User, items_cost, holding_for, with_sold};
-ghost use Rattle.auction_core.specs.Draft.{can_change};
+ghost use Rattle.std.specs.Prelude.{◌≡◌, ◌≤◌, ◌-◌, ◌^◌, ◌==◌, ◌&&◌, if◌then◌else◌, IsTrue, false, is_some, length, min, not};
+ghost use Rattle.std.specs.Option.{option_map_or};
+ghost use Rattle.auction_core.specs.Applying.{User, items_cost, with_sold};
+ghost use Rattle.auction_core.specs.Putting.{can_change, sales_in};
 ghost use Rattle.budget_book.specs.declared.sales.SaleRow.{SaleRow};
 ghost use Rattle.budget_book.specs.Sales.{is_held};
-ghost use Rattle.plain_exchange.specs.Effects.{can_pay, has_room, with_items};
+ghost use Rattle.plain_exchange.specs.Effects.{can_pay, change_applied, fits, has_room, with_items};
 ghost use Rattle.plain_exchange.specs.State.{Campaign, campaign_at, free, sale_numbered, swept};
 
-use crate::draft::Holding;
 use crate::exchange::Core;
-use crate::sell::{filled, key_of};
 use budget_book::{MOST_SALES, SaleState};
 use campaign::Facts;
-use plain_exchange::SoldItem;
-use rtb_num::{List, Txt};
-use std::alloc::{AllocError, Global};
+use plain_exchange::{Change, Effect, SoldItem};
 use target_expr::Expr;
 
 impl Core {
+    // Whether the effect fits the state.
+    pub(crate) fn fits(&self, effect: &Effect) -> bool
+        ensures value { result ≡ fits effect.now self.now.state }
+        ensures few { IsTrue result → sales_in effect.now.change ≤ 4194304 }
+    {
+        self.fits_change(&effect.change, effect.moment)
+    }
+
+    // The same, by the change and its moment.
+    fn fits_change(&self, change: &Change, moment: u64) -> bool
+        ensures value { result ≡ is_some (change_applied change.now moment self.now.state) }
+        ensures few { IsTrue result → sales_in change.now ≤ 4194304 }
+    {
+        match change {
+            Change::Swept => self.is_any_due(moment),
+            Change::Sold(items) => self.can_sell(items.as_slice(), moment),
+            Change::Added(facts, expr) => self.limit_with(facts, expr).is_none(),
+            Change::Changed(n, facts, expr) => self.can_change(*n, facts, expr, moment),
+            Change::Paused(n) => self.can_pause(*n),
+            Change::Resumed(n) => self.can_resume(*n),
+            Change::Billed(sale) => self.can_settle(*sale, moment),
+            Change::Lost(sale) => self.can_settle(*sale, moment),
+            Change::SoldTo(_, items) => self.can_sell(items.as_slice(), moment),
+            Change::Kept(kept) => moment == 0 && self.can_keep(kept),
+            Change::KeptSale(row) => moment == 0 && self.can_keep_sale(row),
+        }
+    }
+
     // Whether campaign `n` is there and live.
     pub(crate) fn can_pause(&self, n: u32) -> bool
         ensures { result ≡ option_map_or (λ (c : Campaign). c.live) (campaign_at self.now.state n) false }
@@ -129,45 +153,4 @@ fn price_of(n: u32, item: &SoldItem) -> u64
     } else {
         0
     }
-}
-
-// The items as sales that are to be made.
-pub(crate) fn item_holdings(
-    alloc: Global,
-    user: Option<&Txt>,
-    items: &[SoldItem],
-) -> Result<List<Holding>, AllocError>
-    ensures { IfOk result (λ hs. hs ≡ map (holding_for (option_copied user.entry)) items.now) }
-{
-    let mut all = List::with_capacity(alloc, items.len())?;
-    let done = put_holdings(&mut all, alloc, user, items);
-    filled(all, done)
-}
-
-fn put_holdings(
-    all: &mut List<Holding>,
-    alloc: Global,
-    user: Option<&Txt>,
-    items: &[SoldItem],
-) -> Result<(), AllocError>
-    requires { all.old ≡ [] }
-    ensures { OnOk result (all.new ≡ map (holding_for (option_copied user.entry)) items.now) }
-{
-    for item in items {
-        let holding = item_holding(alloc, user, item)?;
-        all.push(holding)?;
-    }
-    Ok(())
-}
-
-fn item_holding(alloc: Global, user: Option<&Txt>, item: &SoldItem) -> Result<Holding, AllocError>
-    ensures { IfOk result (λ h. h ≡ holding_for (option_copied user.entry) item.now) }
-{
-    let user = key_of(alloc, user)?;
-    Ok(Holding {
-        campaign: item.campaign,
-        price: item.price,
-        due: item.due,
-        user,
-    })
 }

@@ -22,6 +22,8 @@ mod prepare_auctions;
 mod prepare_campaigns;
 mod prepare_records;
 mod prepare_sales;
+mod put;
+mod ready;
 mod scan;
 mod sell;
 

@@ -1,15 +1,13 @@
-//! What comes of preparing a command: its reply, and what is to be done.
-ghost use Rattle.std.specs.Prelude.{◌≡◌, None};
-ghost use Rattle.auction_core.specs.declared.draft.Answer.TheVariants.{Told};
-ghost use Rattle.auction_core.specs.declared.draft.Plan.TheVariants.{Nothing};
+//! What comes of preparing a command: its reply, and what it changes.
+ghost use Rattle.std.specs.Prelude.{◌≡◌};
+ghost use Rattle.auction_core.specs.Outcomes.{does, told_alone};
 
-use crate::draft::{Answer, Plan};
+use crate::draft::Answer;
 use plain_exchange::{Change, Reply};
 
 // What a command does to a state in which nothing is due.
 #[derive(Drop)]
 pub(crate) struct Outcome {
-    pub plan: Plan,
     pub answer: Answer,
     // What the command itself changes.
     pub change: Option<Change>,
@@ -17,11 +15,20 @@ pub(crate) struct Outcome {
 
 // Nothing but the reply.
 pub(crate) fn reply_alone(reply: Reply) -> Outcome
-    ensures { result ≡ record { plan = Nothing; answer = Told reply; change = None } }
+    ensures { result ≡ told_alone reply }
 {
     Outcome {
-        plan: Plan::Nothing,
         answer: Answer::Told(reply),
         change: None,
+    }
+}
+
+// The change, and the reply to it.
+pub(crate) fn reply_to(change: Change, reply: Reply) -> Outcome
+    ensures { result ≡ does reply change }
+{
+    Outcome {
+        answer: Answer::Told(reply),
+        change: Some(change),
     }
 }

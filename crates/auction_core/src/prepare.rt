@@ -1,16 +1,17 @@
 //! Commands are prepared.
-ghost use Rattle.std.specs.Prelude.{◌≡◌, ◌≤◌, ℕ, IfOk, IsTrue, None, Option, Some, if◌then◌else◌, option_map};
-ghost use Rattle.std.specs.Option.{option_or};
-ghost use Rattle.auction_core.specs.Draft.{IsDraftOf, IsReady, found_of, is_simple, is_valid_command};
+ghost use Rattle.std.specs.Prelude.{◌≡◌, ◌≤◌, ℕ, IfOk, IfSome, IsTrue, None, Ok, Option, Some, if◌then◌else◌, option_map};
+ghost use Rattle.std.specs.Option.{option_copied, option_or};
+ghost use Rattle.auction_core.specs.Draft.{CanPut, IsDraftOf, IsReady, found_of, is_simple, is_valid_command};
 ghost use Rattle.auction_core.specs.Frames.{OnlyRooms};
-ghost use Rattle.auction_core.specs.Outcomes.{IsOutcome, IsPossible};
+ghost use Rattle.auction_core.specs.Outcomes.{IsOutcome};
 ghost use Rattle.plain_exchange.specs.declared.changes.Change.{Change as AChange};
 ghost use Rattle.plain_exchange.specs.declared.changes.Change.TheVariants.{Swept};
 ghost use Rattle.plain_exchange.specs.declared.commands.Command.{Command as ACommand};
-ghost use Rattle.plain_exchange.specs.State.{is_any_due, swept};
+ghost use Rattle.plain_exchange.specs.State.{is_any_due};
+ghost use Rattle.plain_exchange.specs.Effects.{edits_in, fits};
 ghost use Rattle.plain_exchange.specs.Step.{step};
 
-use crate::draft::Draft;
+use crate::draft::{Answer, Draft, Memory};
 use crate::exchange::Core;
 use crate::outcome::Outcome;
 use plain_exchange::{Change, Command, Effect};
@@ -61,28 +62,19 @@ impl Core {
         ensures sale_room { self.old.sale_room ≤ self.new.sale_room }
         ensures campaign_room { self.old.campaign_room ≤ self.new.campaign_room }
     {
-        let outcome = self.outcome(alloc, command, moment)?;
-        Ok(self.draft(outcome, moment))
+        let outcome = self.outcome(command, moment)?;
+        self.draft(alloc, outcome, moment)
     }
 
     // What the command does to the state in which nothing is due.
-    fn outcome(
-        &mut self,
-        alloc: Global,
-        command: &Command,
-        moment: u64,
-    ) -> Result<Outcome, AllocError>
+    fn outcome(&self, command: &Command, moment: u64) -> Result<Outcome, AllocError>
         requires simple { IsTrue (is_simple command.now) }
-        ensures outcome { IfOk result (λ o. IsOutcome moment (swept moment self.old.state) (step self.old.ttl moment self.old.state command.now) o) }
-        ensures possible { IfOk result (λ o. IsPossible moment (swept moment self.old.state) self.new.sale_room self.new.campaign_room o) }
-        ensures rooms { OnlyRooms self.old self.new }
+        ensures { IfOk result (λ o. IsOutcome (step self.now.ttl moment self.now.state command.now) o) }
     {
         match command {
             Command::Auction(_) => unreachable!(),
-            Command::Add(facts, expr) => self.add_outcome(alloc, facts, expr),
-            Command::Change(n, facts, expr) => {
-                self.change_outcome(alloc, *n, facts, expr, moment)
-            }
+            Command::Add(facts, expr) => self.add_outcome(facts, expr),
+            Command::Change(n, facts, expr) => self.change_outcome(*n, facts, expr, moment),
             Command::Pause(n) => Ok(self.pause_outcome(*n)),
             Command::Resume(n) => Ok(self.resume_outcome(*n)),
             Command::Report(n) => Ok(self.report_outcome(*n)),
@@ -91,19 +83,44 @@ impl Core {
         }
     }
 
-    // The draft of the outcome.
-    pub(crate) fn draft(&self, outcome: Outcome, moment: u64) -> Draft
-        ensures draft { (ttl : ℕ) (command : ACommand) → IsOutcome moment (swept moment self.now.state) (step ttl moment self.now.state command) outcome → IsDraftOf ttl self.now.state command moment result }
-        ensures plan { result.plan ≡ outcome.plan }
-        ensures moment { result.moment ≡ moment }
+    // The draft of the outcome, with the memory that its effect takes. Only rooms change.
+    pub(crate) fn draft(
+        &mut self,
+        alloc: Global,
+        outcome: Outcome,
+        moment: u64,
+    ) -> Result<Draft, AllocError>
+        requires outcome { (ttl : ℕ) × (command : ACommand) × IsOutcome (step ttl moment self.old.state command) outcome }
+        ensures draft { (ttl : ℕ) (command : ACommand) → IsOutcome (step ttl moment self.old.state command) outcome → IfOk result (λ d. IsDraftOf ttl self.old.state command moment d) }
+        ensures ready { IfOk result (λ d. IsReady d self.new) }
+        ensures rooms { OnlyRooms self.old self.new }
     {
         let effect = self.effect_of(outcome.change, moment);
-        Draft {
-            moment,
-            plan: outcome.plan,
-            answer: outcome.answer,
-            effect,
+        let memory = self.memory_of(alloc, effect.as_ref());
+        drafted(outcome.answer, effect, memory)
+    }
+
+    // The memory that the effect takes, where there is one, and room for it.
+    fn memory_of(&mut self, alloc: Global, effect: Option<&Effect>) -> Result<Memory, AllocError>
+        requires fits { IfSome (option_copied effect) (λ e. IsTrue (fits e self.old.state)) }
+        requires few { IfSome (option_copied effect) (λ e. edits_in e.change ≤ 1) }
+        ensures ready { IfOk result (λ m. IfSome (option_copied effect.entry) (λ e. CanPut e m self.new)) }
+        ensures rooms { OnlyRooms self.old self.new }
+    {
+        match effect {
+            None => Ok(Memory::Nothing),
+            Some(effect) => self.memory_with(alloc, effect),
         }
+    }
+
+    // The memory that it takes, and room for it.
+    fn memory_with(&mut self, alloc: Global, effect: &Effect) -> Result<Memory, AllocError>
+        requires fits { IsTrue (fits effect.now self.old.state) }
+        requires few { edits_in effect.now.change ≤ 1 }
+        ensures ready { IfOk result (λ m. CanPut effect.now m self.new) }
+        ensures rooms { OnlyRooms self.old self.new }
+    {
+        self.make_ready(alloc, &effect.change)
     }
 
     // The command's own change, or else that sales expire, or none.
@@ -128,5 +145,27 @@ impl Core {
         } else {
             None
         }
+    }
+}
+
+// The draft, where there was memory.
+fn drafted(
+    answer: Answer,
+    effect: Option<Effect>,
+    memory: Result<Memory, AllocError>,
+) -> Result<Draft, AllocError>
+    ensures { IfOk result (λ d. (d.answer ≡ answer) × (d.effect ≡ effect) × (memory ≡ Ok d.memory)) }
+{
+    match memory {
+        Err(fault) => {
+            drop(answer);
+            drop(effect);
+            Err(fault)
+        }
+        Ok(memory) => Ok(Draft {
+            answer,
+            effect,
+            memory,
+        }),
     }
 }

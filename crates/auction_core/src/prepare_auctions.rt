@@ -1,18 +1,18 @@
 //! Auctions, prepared.
-ghost use Rattle.std.specs.Prelude.{◌≡◌, ◌≤◌, ◌+◌, IfOk, IsTrue, OnOk, length, map, nat_lt};
+ghost use Rattle.std.specs.Prelude.{◌≡◌, ◌≤◌, ◌+◌, IfOk, IsTrue, length, map, nat_lt};
 ghost use Rattle.auction_core.specs.Auctions.{award_outcome, selling};
 ghost use Rattle.auction_core.specs.Draft.{IsDraftOf, IsReady, found_for};
 ghost use Rattle.auction_core.specs.Frames.{OnlyRooms};
-ghost use Rattle.auction_core.specs.Outcomes.{IsOutcome, IsPossible};
+ghost use Rattle.auction_core.specs.Outcomes.{IsOutcome};
 ghost use Rattle.plain_exchange.specs.declared.commands.Command.TheVariants as command;
-ghost use Rattle.plain_exchange.specs.State.{most_sales, swept};
+ghost use Rattle.plain_exchange.specs.State.{most_sales};
 ghost use Rattle.plain_exchange.specs.Step.{step};
 ghost use Rattle.rtb_types.specs.Valid.{is_valid};
 
-use crate::draft::{Answer, Draft, Plan};
+use crate::draft::Draft;
 use crate::exchange::Core;
-use crate::outcome::{Outcome, reply_alone};
-use crate::sell::{holdings, sale_change};
+use crate::outcome::{Outcome, reply_alone, reply_to};
+use crate::sell::sale_change;
 use budget_book::MOST_SALES;
 use clearing::Win;
 use deal_rules::user_of;
@@ -37,42 +37,23 @@ impl Core {
         ensures rooms { OnlyRooms self.old self.new }
     {
         let outcome = self.auction_outcome(alloc, request, moment, found)?;
-        Ok(self.draft(outcome, moment))
+        self.draft(alloc, outcome, moment)
     }
 
     // Sells the impressions of the request.
     fn auction_outcome(
-        &mut self,
+        &self,
         alloc: Global,
         request: &BidRequest,
         moment: u64,
         found: &[List<u32>],
     ) -> Result<Outcome, AllocError>
         requires valid { IsTrue (is_valid request.now) }
-        requires found { found.now ≡ map (found_for self.old.state request.now) request.now.imps }
-        ensures outcome { IfOk result (λ o. IsOutcome moment (swept moment self.old.state) (step self.old.ttl moment self.old.state (command.Auction request.now)) o) }
-        ensures possible { IfOk result (λ o. IsPossible moment (swept moment self.old.state) self.new.sale_room self.new.campaign_room o) }
-        ensures rooms { OnlyRooms self.old self.new }
+        requires found { found.now ≡ map (found_for self.now.state request.now) request.now.imps }
+        ensures { IfOk result (λ o. IsOutcome (step self.now.ttl moment self.now.state (command.Auction request.now)) o) }
     {
         let awards = self.awards(alloc, request, moment, found)?;
-        self.award_with_room(alloc, request, moment, awards.as_slice())
-    }
-
-    // What comes of the awards, with room for their sales.
-    fn award_with_room(
-        &mut self,
-        alloc: Global,
-        request: &BidRequest,
-        moment: u64,
-        awards: &[(u32, Win)],
-    ) -> Result<Outcome, AllocError>
-        requires few { length awards.now ≤ 64 }
-        ensures outcome { IfOk result (λ o. o ≡ award_outcome self.old.ttl moment request.now self.old.state awards.now) }
-        ensures room { OnOk result (length awards.now ≤ self.new.sale_room) }
-        ensures rooms { OnlyRooms self.old self.new }
-    {
-        self.reserve_sales(awards.len() as u32)?;
-        self.award_outcome(alloc, request, moment, awards)
+        self.award_outcome(alloc, request, moment, awards.as_slice())
     }
 
     // What comes of the awards.
@@ -119,12 +100,7 @@ impl Core {
         let due = moment.saturating_add(self.ttl);
         let user = user_of(request);
         let sold = self.list_sales(alloc, request, awards)?;
-        let holdings = holdings(alloc, awards, due, user)?;
         let change = sale_change(alloc, awards, due, user)?;
-        Ok(Outcome {
-            plan: Plan::Sell(holdings),
-            answer: Answer::Told(Reply::Sold(sold)),
-            change: Some(change),
-        })
+        Ok(reply_to(change, Reply::Sold(sold)))
     }
 }

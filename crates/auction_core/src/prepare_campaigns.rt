@@ -1,19 +1,18 @@
 //! Commands on campaigns, prepared.
 ghost use Rattle.std.specs.Prelude.{ℕ, IsTrue, is_some};
-ghost use Rattle.auction_core.specs.Outcomes.{IsOutcome, IsPossible};
+ghost use Rattle.auction_core.specs.Outcomes.{IsOutcome};
 ghost use Rattle.plain_exchange.specs.State.{campaign_at, swept};
 ghost use Rattle.plain_exchange.specs.Step.{at_campaign, pause_campaign, report_campaign, resume_campaign};
 
-use crate::draft::{Answer, Plan};
+use crate::draft::Answer;
 use crate::exchange::Core;
-use crate::outcome::{Outcome, reply_alone};
+use crate::outcome::{Outcome, reply_alone, reply_to};
 use plain_exchange::{Change, Reply};
 
 impl Core {
     // Takes campaign `n` out of auctions.
     pub(crate) fn pause_outcome(&self, n: u64) -> Outcome
-        ensures outcome { (m : ℕ) → IsOutcome m (swept m self.now.state) (at_campaign (swept m self.now.state) n (pause_campaign n (swept m self.now.state))) result }
-        ensures possible { (m sales campaigns : ℕ) → IsPossible m (swept m self.now.state) sales campaigns result }
+        ensures { (m : ℕ) → IsOutcome (at_campaign (swept m self.now.state) n (pause_campaign n (swept m self.now.state))) result }
     {
         match self.number(n) {
             None => reply_alone(Reply::NoSuchCampaign),
@@ -23,15 +22,10 @@ impl Core {
 
     fn pause_there(&self, n: u32) -> Outcome
         requires there { IsTrue (is_some (campaign_at self.now.state n)) }
-        ensures outcome { (m : ℕ) → IsOutcome m (swept m self.now.state) (at_campaign (swept m self.now.state) n (pause_campaign n (swept m self.now.state))) result }
-        ensures possible { (m sales campaigns : ℕ) → IsPossible m (swept m self.now.state) sales campaigns result }
+        ensures { (m : ℕ) → IsOutcome (at_campaign (swept m self.now.state) n (pause_campaign n (swept m self.now.state))) result }
     {
         if self.is_live(n) {
-            Outcome {
-                plan: Plan::Pause(n),
-                answer: Answer::Told(Reply::Paused { n }),
-                change: Some(Change::Paused(n)),
-            }
+            reply_to(Change::Paused(n), Reply::Paused { n })
         } else {
             reply_alone(Reply::Paused { n })
         }
@@ -39,8 +33,7 @@ impl Core {
 
     // Lets campaign `n` take part in auctions again.
     pub(crate) fn resume_outcome(&self, n: u64) -> Outcome
-        ensures outcome { (m : ℕ) → IsOutcome m (swept m self.now.state) (at_campaign (swept m self.now.state) n (resume_campaign n (swept m self.now.state))) result }
-        ensures possible { (m sales campaigns : ℕ) → IsPossible m (swept m self.now.state) sales campaigns result }
+        ensures { (m : ℕ) → IsOutcome (at_campaign (swept m self.now.state) n (resume_campaign n (swept m self.now.state))) result }
     {
         match self.number(n) {
             None => reply_alone(Reply::NoSuchCampaign),
@@ -50,29 +43,22 @@ impl Core {
 
     fn resume_there(&self, n: u32) -> Outcome
         requires there { IsTrue (is_some (campaign_at self.now.state n)) }
-        ensures outcome { (m : ℕ) → IsOutcome m (swept m self.now.state) (at_campaign (swept m self.now.state) n (resume_campaign n (swept m self.now.state))) result }
-        ensures possible { (m sales campaigns : ℕ) → IsPossible m (swept m self.now.state) sales campaigns result }
+        ensures { (m : ℕ) → IsOutcome (at_campaign (swept m self.now.state) n (resume_campaign n (swept m self.now.state))) result }
     {
         if self.is_live(n) {
             reply_alone(Reply::Resumed { n })
         } else {
-            Outcome {
-                plan: Plan::Resume(n),
-                answer: Answer::Told(Reply::Resumed { n }),
-                change: Some(Change::Resumed(n)),
-            }
+            reply_to(Change::Resumed(n), Reply::Resumed { n })
         }
     }
 
     // What the sales of campaign `n` add up to.
     pub(crate) fn report_outcome(&self, n: u64) -> Outcome
-        ensures outcome { (m : ℕ) → IsOutcome m (swept m self.now.state) (at_campaign (swept m self.now.state) n (report_campaign n (swept m self.now.state))) result }
-        ensures possible { (m sales campaigns : ℕ) → IsPossible m (swept m self.now.state) sales campaigns result }
+        ensures { (m : ℕ) → IsOutcome (at_campaign (swept m self.now.state) n (report_campaign n (swept m self.now.state))) result }
     {
         match self.number(n) {
             None => reply_alone(Reply::NoSuchCampaign),
             Some(n) => Outcome {
-                plan: Plan::Nothing,
                 answer: Answer::Report(n),
                 change: None,
             },

@@ -1,29 +1,23 @@
 //! Commands on sales, prepared.
-ghost use Rattle.std.specs.Prelude.{◌≡◌, ◌&&◌, ℕ, None, nat_le, if◌then◌else◌};
-ghost use Rattle.auction_core.specs.Outcomes.{IsOutcome, IsPossible};
+ghost use Rattle.std.specs.Prelude.{◌≡◌, ◌&&◌, None, nat_le, if◌then◌else◌};
+ghost use Rattle.auction_core.specs.Outcomes.{IsOutcome};
 ghost use Rattle.plain_exchange.specs.declared.commands.Reply.TheVariants as reply;
 ghost use Rattle.plain_exchange.specs.State.{forgotten, swept};
 ghost use Rattle.plain_exchange.specs.Step.{at_sale, bill_sale, lose_sale};
 
-use crate::draft::{Answer, Plan};
 use crate::exchange::Core;
-use crate::outcome::{Outcome, reply_alone};
+use crate::outcome::{Outcome, reply_alone, reply_to};
 use budget_book::SaleState;
 use plain_exchange::{Change, Reply};
 
 impl Core {
     // Bills the sale, where it is held at the moment.
     pub(crate) fn bill_outcome(&self, sale: u64, moment: u64) -> Outcome
-        ensures outcome { IsOutcome moment (swept moment self.now.state) (at_sale (swept moment self.now.state) sale (bill_sale sale (swept moment self.now.state))) result }
-        ensures possible { (sales campaigns : ℕ) → IsPossible moment (swept moment self.now.state) sales campaigns result }
+        ensures { IsOutcome (at_sale (swept moment self.now.state) sale (bill_sale sale (swept moment self.now.state))) result }
     {
         match self.state_at(sale, moment) {
             None => reply_alone(self.missing_reply(sale)),
-            Some(SaleState::Held) => Outcome {
-                plan: Plan::Bill(sale),
-                answer: Answer::Told(Reply::Billed { sale }),
-                change: Some(Change::Billed(sale)),
-            },
+            Some(SaleState::Held) => reply_to(Change::Billed(sale), Reply::Billed { sale }),
             Some(SaleState::Billed) => reply_alone(Reply::Billed { sale }),
             Some(SaleState::Lost) => reply_alone(Reply::WasLost),
             Some(SaleState::Expired) => reply_alone(Reply::WasExpired),
@@ -32,16 +26,11 @@ impl Core {
 
     // Loses the sale, where it is held at the moment.
     pub(crate) fn lose_outcome(&self, sale: u64, moment: u64) -> Outcome
-        ensures outcome { IsOutcome moment (swept moment self.now.state) (at_sale (swept moment self.now.state) sale (lose_sale sale (swept moment self.now.state))) result }
-        ensures possible { (sales campaigns : ℕ) → IsPossible moment (swept moment self.now.state) sales campaigns result }
+        ensures { IsOutcome (at_sale (swept moment self.now.state) sale (lose_sale sale (swept moment self.now.state))) result }
     {
         match self.state_at(sale, moment) {
             None => reply_alone(self.missing_reply(sale)),
-            Some(SaleState::Held) => Outcome {
-                plan: Plan::Lose(sale),
-                answer: Answer::Told(Reply::Lost { sale }),
-                change: Some(Change::Lost(sale)),
-            },
+            Some(SaleState::Held) => reply_to(Change::Lost(sale), Reply::Lost { sale }),
             Some(SaleState::Billed) => reply_alone(Reply::WasBilled),
             Some(SaleState::Lost) => reply_alone(Reply::Lost { sale }),
             Some(SaleState::Expired) => reply_alone(Reply::WasExpired),

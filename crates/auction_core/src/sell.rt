@@ -1,13 +1,11 @@
 //! What an auction sells, prepared.
 ghost use Rattle.std.specs.Prelude.{◌≡◌, ◌≤◌, ◌-◌, ◌++◌, [], IfOk, List, OnOk, Option, length, map, option_and_then, option_map, option_to_list, slice_get};
 ghost use Rattle.std.specs.Option.{option_copied};
-ghost use Rattle.auction_core.specs.Auctions.{holding_of, item_due};
+ghost use Rattle.auction_core.specs.Auctions.{item_due};
 ghost use Rattle.plain_exchange.specs.Step.{all_sold_as, deal_of, sold_as, sold_change};
 ghost use Rattle.rtb_types.specs.declared.request.Imp.{Imp as Impression};
 
-use crate::draft::Holding;
 use crate::exchange::Core;
-use budget_book::UserKey;
 use clearing::Win;
 use plain_exchange::{Change, SharedRecord, Sold, SoldItem};
 use rtb_num::{List, Nanos, Txt};
@@ -99,37 +97,6 @@ fn deal_at(request: &BidRequest, imp: usize, place: usize) -> Option<&Deal>
     request.imps.get(imp)?.pmp.deals.get(place)
 }
 
-// The sales that are to be made.
-pub(crate) fn holdings(
-    alloc: Global,
-    awards: &[(u32, Win)],
-    due: u64,
-    user: Option<&Txt>,
-) -> Result<List<Holding>, AllocError>
-    ensures { IfOk result (λ hs. hs ≡ map (holding_of due (option_copied user.entry)) awards.now) }
-{
-    let mut all = List::with_capacity(alloc, awards.len())?;
-    let done = put_holdings(&mut all, alloc, awards, due, user);
-    filled(all, done)
-}
-
-fn put_holdings(
-    all: &mut List<Holding>,
-    alloc: Global,
-    awards: &[(u32, Win)],
-    due: u64,
-    user: Option<&Txt>,
-) -> Result<(), AllocError>
-    requires { all.old ≡ [] }
-    ensures { OnOk result (all.new ≡ map (holding_of due (option_copied user.entry)) awards.now) }
-{
-    for award in awards {
-        let holding = holding(alloc, &award.1, due, user)?;
-        all.push(holding)?;
-    }
-    Ok(())
-}
-
 // The list, where all could be put there. A generic type is let go of in one step.
 pub(crate) fn filled<T: Drop>(
     all: List<T>,
@@ -139,27 +106,6 @@ pub(crate) fn filled<T: Drop>(
 {
     done?;
     Ok(all)
-}
-
-fn holding(alloc: Global, win: &Win, due: u64, user: Option<&Txt>) -> Result<Holding, AllocError>
-    ensures { IfOk result (λ h. h ≡ record { campaign = win.now.campaign; price = win.now.price; due = due; user = option_copied user.entry }) }
-{
-    let user = key_of(alloc, user)?;
-    Ok(Holding {
-        campaign: win.campaign,
-        price: Nanos::from(win.price),
-        due,
-        user,
-    })
-}
-
-pub(crate) fn key_of(alloc: Global, user: Option<&Txt>) -> Result<Option<UserKey>, AllocError>
-    ensures { IfOk result (λ key. key ≡ option_copied user.entry) }
-{
-    match user {
-        None => Ok(None),
-        Some(user) => Ok(Some(UserKey::make(alloc, user.as_bytes())?)),
-    }
 }
 
 // What was sold, as a change.

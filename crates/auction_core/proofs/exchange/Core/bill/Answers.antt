@@ -1,5 +1,5 @@
 use Rattle.std.proofs.Common.{◌∙◌, ap}
-use Rattle.auction_core.specs.Draft.{settled}
+use Rattle.auction_core.specs.Putting.{settled}
 use Rattle.budget_book.specs.Book.{forgotten_of}
 use Rattle.budget_book.specs.declared.sales.SaleState.TheVariants.{Billed}
 use Rattle.budget_book.specs.Sales.{settled_in}

@@ -7,37 +7,42 @@ use Rattle.plain_exchange.specs.Step.{at_sale, bill_sale}
 use Rattle.auction_core.proofs.Planning.{bill_by, missing_outcome, no_sale}
 use Rattle.auction_core.proofs.exchange.Core.bill_outcome.Goals as goal
 
-pub returns-in-None-clause-outcome : goal.returns-in-None-clause-outcome
-returns-in-None-clause-outcome c =
+pub returns-in-None : goal.returns-in-None
+returns-in-None c =
     let m = c.args.moment in
     let n = c.args.sale in
     let s = c.args.self.now.state in
-    subst (λ (o : Outcome). IsOutcome m (swept m s) (at_sale (swept m s) n (bill_sale n (swept m s))) o) (sym (c.reply_alone.ensures ∙ ap told_alone c.missing_reply.ensures))
-    (missing_outcome m (swept m s) n (bill_sale n (swept m s)) (no_sale m s n (sym c.state_at.ensures ∙ c.in-None.is)))
+    subst (λ (o : Outcome). IsOutcome (at_sale (swept m s) n (bill_sale n (swept m s))) o) (sym (c.reply_alone.ensures ∙ ap told_alone c.missing_reply.ensures))
+    (missing_outcome (swept m s) n (bill_sale n (swept m s)) (no_sale m s n (sym c.state_at.ensures ∙ c.in-None.is)))
 
-pub returns-in-Some-Held-clause-outcome : goal.returns-in-Some-Held-clause-outcome
-returns-in-Some-Held-clause-outcome c = bill_by c.args.moment c.args.self.now.state c.args.sale Held (sym c.state_at.ensures ∙ c.in-Some-Held.is ∙ ap Some c.in-Some-Held.field-0-is)
-
-pub returns-in-Some-Billed-clause-outcome : goal.returns-in-Some-Billed-clause-outcome
-returns-in-Some-Billed-clause-outcome c =
+pub returns-in-Some-Held : goal.returns-in-Some-Held
+returns-in-Some-Held c =
     let m = c.args.moment in
     let n = c.args.sale in
     let s = c.args.self.now.state in
-    subst (λ (o : Outcome). IsOutcome m (swept m s) (at_sale (swept m s) n (bill_sale n (swept m s))) o) (sym c.reply_alone-in-Some-Billed.ensures)
+    subst (λ (o : Outcome). IsOutcome (at_sale (swept m s) n (bill_sale n (swept m s))) o) (sym c.reply_to.ensures)
+    (bill_by m s n Held (sym c.state_at.ensures ∙ c.in-Some-Held.is ∙ ap Some c.in-Some-Held.field-0-is))
+
+pub returns-in-Some-Billed : goal.returns-in-Some-Billed
+returns-in-Some-Billed c =
+    let m = c.args.moment in
+    let n = c.args.sale in
+    let s = c.args.self.now.state in
+    subst (λ (o : Outcome). IsOutcome (at_sale (swept m s) n (bill_sale n (swept m s))) o) (sym c.reply_alone-in-Some-Billed.ensures)
     (bill_by m s n Billed (sym c.state_at.ensures ∙ c.in-Some-Billed.is ∙ ap Some c.in-Some-Billed.field-0-is))
 
-pub returns-in-Some-Lost-clause-outcome : goal.returns-in-Some-Lost-clause-outcome
-returns-in-Some-Lost-clause-outcome c =
+pub returns-in-Some-Lost : goal.returns-in-Some-Lost
+returns-in-Some-Lost c =
     let m = c.args.moment in
     let n = c.args.sale in
     let s = c.args.self.now.state in
-    subst (λ (o : Outcome). IsOutcome m (swept m s) (at_sale (swept m s) n (bill_sale n (swept m s))) o) (sym c.reply_alone-in-Some-Lost.ensures)
+    subst (λ (o : Outcome). IsOutcome (at_sale (swept m s) n (bill_sale n (swept m s))) o) (sym c.reply_alone-in-Some-Lost.ensures)
     (bill_by m s n Lost (sym c.state_at.ensures ∙ c.in-Some-Lost.is ∙ ap Some c.in-Some-Lost.field-0-is))
 
-pub returns-in-Some-Expired-clause-outcome : goal.returns-in-Some-Expired-clause-outcome
-returns-in-Some-Expired-clause-outcome c =
+pub returns-in-Some-Expired : goal.returns-in-Some-Expired
+returns-in-Some-Expired c =
     let m = c.args.moment in
     let n = c.args.sale in
     let s = c.args.self.now.state in
-    subst (λ (o : Outcome). IsOutcome m (swept m s) (at_sale (swept m s) n (bill_sale n (swept m s))) o) (sym c.reply_alone-in-Some-Expired.ensures)
+    subst (λ (o : Outcome). IsOutcome (at_sale (swept m s) n (bill_sale n (swept m s))) o) (sym c.reply_alone-in-Some-Expired.ensures)
     (bill_by m s n Expired (sym c.state_at.ensures ∙ c.in-Some-Expired.is ∙ ap Some c.in-Some-Expired.field-0-is))

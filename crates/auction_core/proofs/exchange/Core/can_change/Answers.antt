@@ -1,6 +1,6 @@
 use Rattle.std.proofs.Common.{◌∙◌, ap, sym}
 use Rattle.std.specs.Prelude.{is_some}
-use Rattle.auction_core.specs.Draft.{can_change}
+use Rattle.auction_core.specs.Putting.{can_change}
 use Rattle.campaign_store.specs.declared.record.Record.{Record}
 use Rattle.plain_exchange.specs.State.{campaign_at, swept}
 use Rattle.auction_core.proofs.Fitting.{mapped_same, tested_there}

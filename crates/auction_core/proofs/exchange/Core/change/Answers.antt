@@ -2,7 +2,7 @@ use Rattle.std.proofs.Common.{◌∙◌, ◌≤◌, ap, sym, subst}
 use Rattle.std.specs.Prelude.{nat_le}
 use Rattle.std.proofs.lemmas.Bool.{and_parts, leb-true}
 use Rattle.auction_core.specs.Core.{CoreState, funds_for}
-use Rattle.auction_core.specs.Draft.{IsAt, can_change, changed_at}
+use Rattle.auction_core.specs.Putting.{IsAt, can_change, changed_at}
 use Rattle.campaign_store.specs.declared.record.Record.{Record}
 use Rattle.campaign_store.specs.Table.{TableState}
 use Rattle.plain_exchange.specs.Effects.{is_within_limits}

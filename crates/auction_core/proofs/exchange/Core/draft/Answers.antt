@@ -1,13 +1,23 @@
-use Rattle.std.proofs.Common.{◌∙◌, ap, sym}
-use Rattle.auction_core.specs.Draft.{effect_edits}
-use Rattle.auction_core.proofs.Preparing.{effect_edited, effect_with}
+use Rattle.std.proofs.Common.{◌∙◌, ap}
 use Rattle.plain_exchange.specs.State.{is_any_due}
+use Rattle.auction_core.proofs.Leading.{drafted_is, drafted_ready, edited_once, fitting}
+use Rattle.auction_core.proofs.Preparing.{effect_with}
 use Rattle.auction_core.proofs.exchange.Core.draft.Goals as goal
 
+pub memory_of-memory-requires : goal.memory_of-memory-requires
+memory_of-memory-requires c =
+    let (ttl, command, is) = c.requires.outcome in
+    let m = c.args.moment in
+    let s = c.args.self.now.state in
+    let leads = c.as_ref.ensures.value ∙ c.effect_of-effect.ensures ∙ ap (effect_with m (is_any_due m s)) is.change in
+    record { fits = fitting ttl m s command _ leads; few = edited_once ttl m s command _ leads }
+
 pub returns-clause-draft : goal.returns-clause-draft
-returns-clause-draft c = λ ttl command is. record {
-  reply = is.reply;
-  after = is.after;
-  effect = c.effect_of-effect.ensures ∙ ap (effect_with c.args.moment (is_any_due c.args.moment c.args.self.now.state)) is.change;
-  edits_are = is.edits_are ∙ sym (ap effect_edits c.effect_of-effect.ensures ∙ effect_edited c.args.moment c.args.outcome.change (is_any_due c.args.moment c.args.self.now.state));
-}
+returns-clause-draft c = λ ttl command is.
+    let m = c.args.moment in
+    let s = c.args.self.now.state in
+    drafted_is ttl m s command c.args.outcome.answer c.effect_of-effect.result c.memory_of-memory.result c.drafted.result c.drafted.ensures (c.effect_of-effect.ensures ∙ ap (effect_with m (is_any_due m s)) is.change) is.reply
+
+pub returns-clause-ready : goal.returns-clause-ready
+returns-clause-ready c =
+    drafted_ready c.memory_of-memory.new.self c.args.outcome.answer c.effect_of-effect.result _ c.memory_of-memory.result c.drafted.result c.drafted.ensures c.as_ref.ensures.value c.memory_of-memory.ensures.ready

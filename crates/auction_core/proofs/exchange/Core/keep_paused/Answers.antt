@@ -1,6 +1,6 @@
 use Rattle.std.proofs.Common.{◌+◌, ◌∙◌, ◌∷◌, [], false, true, ap, length, refl}
 use Rattle.std.specs.Option.{option_map_or}
-use Rattle.auction_core.specs.Draft.{changed_at}
+use Rattle.auction_core.specs.Putting.{changed_at}
 use Rattle.plain_exchange.specs.Effects.{campaign_of}
 use Rattle.plain_exchange.specs.State.{Campaign, State, campaign_at, with_campaigns}
 use Rattle.plain_exchange.specs.Step.{with_live}

@@ -1,6 +1,6 @@
 use Rattle.std.proofs.Common.{◌∙◌, refl, false, ap, sym, subst}
 use Rattle.auction_core.specs.Core.{CoreState}
-use Rattle.auction_core.specs.Draft.{IsAt, changed_at}
+use Rattle.auction_core.specs.Putting.{IsAt, changed_at}
 use Rattle.campaign_store.specs.Table.{TableState}
 use Rattle.plain_exchange.specs.State.{Campaign, campaign_at, with_campaign}
 use Rattle.plain_exchange.specs.Step.{with_live}
