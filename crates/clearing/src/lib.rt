@@ -4,11 +4,15 @@
 //! the terms of its pool.
 #![tactic(auto)]
 
-ghost use Rattle.std.specs.Prelude.{◌≡◌, ◌≤◌, ◌↔◌, ◌^◌, ◌+◌, ◌==◌, ◌&&◌, [], max, min, not, List, Some, IsNone, IsTrue, slice_get};
-ghost use Rattle.std.specs.List.{list_all};
+ghost use Rattle.std.specs.Prelude.{◌≡◌, ◌≤◌, ◌↔◌, ◌^◌, ◌+◌, ◌==◌, ◌&&◌, [], max, min, not, List, Some, IsNone, IsTrue, ◌++◌, filter, true, false, Bool, ℕ, Contains, slice_get};
+ghost use Rattle.std.specs.List.{flat_map, list_all};
+ghost use Rattle.clearing.specs.Candidates.{is_in_order, offers_where, walked};
 ghost use Rattle.clearing.specs.Clearing.{IsUnbeaten, beats, greatest_bid, increment, is_deal, is_fit, outcome, price_of, rivals, win_by, winner};
 
+mod walk;
+
 use rtb_num::Micros;
+pub use walk::{Payers, clear_in_order};
 
 // How far the second price is above the next bid, in micro-dollars per thousand impressions.
 const INCREMENT: u64 = 10_000;
@@ -176,4 +180,25 @@ pub fn winner_is_unbeaten()
 pub fn price_is_fair()
     ensures { (offers : List Offer) (o : Offer) (terms : List Terms) (t : Terms) → slice_get terms o.pool ≡ Some t → IsTrue (is_fit terms o)
         → (t.floor ≤ price_of t.kind t.floor o offers) × (price_of t.kind t.floor o offers ≤ o.bid) }
+{}
+
+/// Of candidates in order, those that may pay beside others that all may are cleared by a walk: the first that may pay
+/// wins, where none of the others beats it, and pays above the first of its rivals behind it that may pay.
+pub fn walk_clears()
+    ensures { (may : Offer → Bool) (others : List Offer) (terms : List Terms) (os : List Offer) → is_in_order os ≡ true → outcome (filter may os ++ others) terms ≡ walked may others os terms }
+{}
+
+/// What clearing gives depends on which offers there are, and not on their order.
+pub fn order_is_free()
+    ensures { (terms : List Terms) (xs ys : List Offer) → ((o : Offer) → Contains xs o ↔ Contains ys o) → outcome xs terms ≡ outcome ys terms }
+{}
+
+/// Of campaigns of which some were touched since candidates were found: the candidates of the others that may pay,
+/// beside the offers of the touched, sell what the offers of all sell.
+pub fn touched_are_merged()
+    ensures { (terms : List Terms) (touched pay : ℕ → Bool) (cands : ℕ → List Offer) (may : Offer → Bool) (now before : List ℕ) (cs : List Offer)
+        → ((p : ℕ) → touched p ≡ false → Contains now p ↔ Contains before p)
+        → ((o : Offer) → Contains cs o ↔ Contains (flat_map cands before) o)
+        → ((p : ℕ) (o : Offer) → Contains before p → Contains (cands p) o → may o ≡ (not (touched p) && pay p))
+        → outcome (flat_map (offers_where pay cands) now) terms ≡ outcome (filter may cs ++ flat_map (offers_where pay cands) (filter touched now)) terms }
 {}
