@@ -10,8 +10,8 @@ use Rattle.campaign.specs.declared.parts.FactParts.{FactParts}
 use Rattle.clearing.specs.Clearing.{is_fit}
 use Rattle.clearing.specs.declared.Offer.{Offer}
 use Rattle.clearing.specs.declared.Terms.{Terms}
-use Rattle.deal_rules.specs.Offers.{deal_offer, deal_offers, is_excluded, is_open_to, offer_in, offers_of, public_offers}
-use Rattle.deal_rules.specs.Rules.{allows, common_rules, has_text, is_usd, opportunity_of, public_rules}
+use Rattle.deal_rules.specs.Offers.{candidates_of, deal_offer, deal_offers, is_excluded, is_open_to, offer_in, offers_of, public_offers}
+use Rattle.deal_rules.specs.Rules.{allows, common_rules, has_text, is_usd, opportunity_of, public_rules, stated_rules}
 use Rattle.deal_rules.specs.Terms.{deal_terms, terms_at, terms_of}
 use Rattle.rtb_types.specs.declared.request.BidRequest.{BidRequest}
 use Rattle.rtb_types.specs.declared.request.Deal.{Deal}
@@ -83,6 +83,18 @@ offers_fit number r i f free shown =
     let floor = terms_at i.floor r.at in
     let terms = floor ∷ map deal_terms i.pmp.deals in
     fits_either terms (is_excluded common_rules o) (public_offers number o ++ deal_offers number f i.pmp.deals)
+    (list_all-append (is_fit terms) (public_offers number o) (deal_offers number f i.pmp.deals)
+    ∙ both (list_all (is_fit terms) (public_offers number o)) (list_all (is_fit terms) (deal_offers number f i.pmp.deals))
+    (public_fits floor (map deal_terms i.pmp.deals) (offer_in number f 0) refl i.pmp.private_auction (not (is_usd i.currency)) (nat_lt f.bid i.floor) (met i.floor f.bid))
+    (deals_fit number f (floor ∷ []) i.pmp.deals 1 refl))
+
+pub candidates_fit : (number : ℕ) (r : BidRequest) (i : Imp) (f : FactParts) → IsTrue (list_all (is_fit (terms_of r i)) (candidates_of number r i f))
+unfolding candidates_of terms_of public_rules
+candidates_fit number r i f =
+    let o = opportunity_of r i f 0 None in
+    let floor = terms_at i.floor r.at in
+    let terms = floor ∷ map deal_terms i.pmp.deals in
+    fits_either terms (is_excluded stated_rules o) (public_offers number o ++ deal_offers number f i.pmp.deals)
     (list_all-append (is_fit terms) (public_offers number o) (deal_offers number f i.pmp.deals)
     ∙ both (list_all (is_fit terms) (public_offers number o)) (list_all (is_fit terms) (deal_offers number f i.pmp.deals))
     (public_fits floor (map deal_terms i.pmp.deals) (offer_in number f 0) refl i.pmp.private_auction (not (is_usd i.currency)) (nat_lt f.bid i.floor) (met i.floor f.bid))

@@ -6,7 +6,7 @@ use Rattle.std.proofs.lemmas.List.Sorted.{list_any-IsPermutation}
 use Rattle.deal_rules.specs.declared.rule.Rule.{Rule}
 use Rattle.deal_rules.specs.declared.rule.Rule.TheVariants.{Request, NoBanner, Size, Attribute, Secure, SeatNotAllowed, SeatBlocked, Category, Advertiser, Budget, Capped, Private, Currency, Floor}
 use Rattle.deal_rules.specs.Offers.{first_reason, is_excluded}
-use Rattle.deal_rules.specs.Rules.{Opportunity, Tested, common_rules, public_rules, test_of, tested}
+use Rattle.deal_rules.specs.Rules.{Opportunity, Tested, common_rules, public_rules, stated_rules, test_of, tested}
 
 abbrev common : List Rule
 common = Request ∷ NoBanner ∷ Size ∷ Attribute ∷ Secure ∷ SeatNotAllowed ∷ SeatBlocked ∷ Category ∷ Advertiser ∷ Budget ∷ Capped ∷ []
@@ -53,3 +53,10 @@ common_reason o = first_excludes o common
 pub reason_of_all : (o : Opportunity) → find (λ r. test_of r o) (common ++ public) ≡ first_reason (common_rules ++ public_rules) o
 unfolding common_rules public_rules
 reason_of_all o = first_excludes o (common ++ public)
+
+abbrev stated : List Rule
+stated = Request ∷ NoBanner ∷ Size ∷ Attribute ∷ Secure ∷ SeatNotAllowed ∷ SeatBlocked ∷ Category ∷ Advertiser ∷ []
+
+pub stated_excludes : (o : Opportunity) → list_any (λ r. test_of r o) stated ≡ is_excluded stated_rules o
+unfolding stated_rules
+stated_excludes o = some_excludes o stated

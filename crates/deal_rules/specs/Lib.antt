@@ -1,3 +1,4 @@
+pub mod Named
 pub mod Offers
 pub mod Rules
 pub mod Seen

@@ -1,11 +1,14 @@
 -- The offers of one campaign for an impression, and why there is none.
-use Rattle.std.specs.Prelude.{ℕ, ◌&&◌, nat_le, List, [], ◌∷◌, ◌++◌, Bool, Option, Some, None, find, option_map, if◌then◌else◌}
+use Rattle.std.specs.Prelude.{ℕ, ◌&&◌, nat_le, not, List, [], ◌∷◌, ◌++◌, Bool, false, Option, Some, None, find, option_map, if◌then◌else◌}
 use Rattle.std.specs.List.{list_any, filter_map, enumerate_from}
+use Rattle.std.specs.Option.{option_map_or}
 use Rattle.campaign.specs.declared.parts.FactParts.{FactParts}
 use Rattle.clearing.specs.declared.Offer.{Offer}
 use Rattle.deal_rules.specs.declared.rule.Rule.{Rule}
-use Rattle.deal_rules.specs.Rules.{Opportunity, Tested, allows, common_rules, has_text, is_usd, public_rules}
+use Rattle.deal_rules.specs.Rules.{Opportunity, Tested, allows, common_rules, has_text, is_over, is_usd, opportunity_of, public_rules, stated_rules}
+use Rattle.rtb_types.specs.declared.request.BidRequest.{BidRequest}
 use Rattle.rtb_types.specs.declared.request.Deal.{Deal}
+use Rattle.rtb_types.specs.declared.request.Imp.{Imp}
 
 -- whether some rule excludes, and the first that does
 abbrev pub is_excluded : List Tested → Opportunity → Bool
@@ -37,6 +40,15 @@ deal_offers number f deals = filter_map (deal_offer number f) (enumerate_from 1 
 
 unfoldable pub offers_of : ℕ → Opportunity → List Offer
 offers_of number o = if is_excluded common_rules o then [] else public_offers number o ++ deal_offers number o.facts o.imp.pmp.deals
+
+-- ---- candidates: its offers by all rules but those that ask what the sales so far leave it
+
+unfoldable pub candidates_of : ℕ → BidRequest → Imp → FactParts → List Offer
+candidates_of number r imp f = let o = opportunity_of r imp f 0 None in if is_excluded stated_rules o then [] else public_offers number o ++ deal_offers number f imp.pmp.deals
+
+-- whether those rules let it: its budget has the bid free, and its cap a sale to the user
+unfoldable pub may_pay : FactParts → ℕ → Option ℕ → Bool
+may_pay f free shown = nat_le f.bid free && not (option_map_or (is_over shown) f.cap false)
 
 -- ---- why there is none: the first rule that excludes, where those of the public pool count only for a
 -- campaign that no deal is open to

@@ -92,6 +92,14 @@ tested rules = map (λ (r : Rule). (r, test_of r)) rules
 unfoldable pub common_rules : List Tested
 common_rules = tested (Request ∷ NoBanner ∷ Size ∷ Attribute ∷ Secure ∷ SeatNotAllowed ∷ SeatBlocked ∷ Category ∷ Advertiser ∷ Budget ∷ Capped ∷ [])
 
+-- of those the ones that ask the request and what the campaign states alone, and those that ask what the sales so far
+-- leave it
+unfoldable pub stated_rules : List Tested
+stated_rules = tested (Request ∷ NoBanner ∷ Size ∷ Attribute ∷ Secure ∷ SeatNotAllowed ∷ SeatBlocked ∷ Category ∷ Advertiser ∷ [])
+
+unfoldable pub paying_rules : List Tested
+paying_rules = tested (Budget ∷ Capped ∷ [])
+
 -- for the public pool alone
 unfoldable pub public_rules : List Tested
 public_rules = tested (Private ∷ Currency ∷ Floor ∷ [])

@@ -5,12 +5,15 @@
 //! that excludes, and `specs/Terms.antt` the terms of the pools and the user of a request.
 #![tactic(auto)]
 
+mod asked;
 mod lists;
+mod names;
 mod offering;
 mod opportunity;
 mod pools;
 mod rule;
 
-pub use offering::{offers, why_not};
+pub use asked::Asked;
+pub use offering::{candidates, may_pay, offers, offers_stand, why_not};
 pub use pools::{terms, user_of};
 pub use rule::Rule;

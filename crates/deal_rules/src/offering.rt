@@ -1,15 +1,17 @@
 //! The offers of a campaign for an impression, in the public pool and for deals, or why there is none.
-ghost use Rattle.std.specs.Prelude.{◌≡◌, ◌↔◌, ◌<◌, ◌++◌, ℕ, length, option_to_list, slice_get, IfOk, IsNone, IsTrue, OnOk, Some};
+ghost use Rattle.std.specs.Prelude.{◌≡◌, ◌↔◌, [], Option as AnOption, if◌then◌else◌, ◌<◌, ◌++◌, ℕ, length, option_to_list, slice_get, IfOk, IsNone, IsTrue, OnOk, Some};
 ghost use Rattle.std.specs.List.{list_all, list_any};
 ghost use Rattle.clearing.specs.Clearing.{is_fit};
-ghost use Rattle.deal_rules.specs.Offers.{deal_offer, deal_offers, is_open_to, offer_in, offers_of, public_offers, why_not_of};
+ghost use Rattle.deal_rules.specs.Offers.{candidates_of, deal_offer, deal_offers, is_open_to, may_pay, offer_in, offers_of, public_offers, why_not_of};
 ghost use Rattle.deal_rules.specs.Rules.{opportunity_of};
 ghost use Rattle.deal_rules.specs.Seen.{opportunity_seen};
 ghost use Rattle.deal_rules.specs.Terms.{terms_of};
+ghost use Rattle.campaign.specs.declared.parts.FactParts.{FactParts as Stated};
+ghost use Rattle.rtb_types.specs.declared.request.BidRequest.{BidRequest as Request};
 ghost use Rattle.rtb_types.specs.declared.request.Imp.{Imp as Impression};
 
 use crate::lists::{allows, has_text, is_usd};
-use crate::opportunity::Opportunity;
+use crate::opportunity::{Opportunity, is_capped};
 use crate::rule::Rule;
 use campaign::Facts;
 use clearing::Offer;
@@ -47,6 +49,37 @@ pub fn offers(
     offers_for(alloc, &opportunity, number)
 }
 
+/// Its candidates: the offers that it has where it may pay (`may_pay`), in the same order.
+pub fn candidates(
+    alloc: Global,
+    request: &BidRequest,
+    imp: usize,
+    number: u32,
+    facts: &Facts,
+) -> Result<List<Offer>, AllocError>
+    requires { imp < length request.now.imps }
+    ensures value { (i : Impression) → slice_get request.now.imps imp ≡ Some i → IfOk result (λ os. os ≡ candidates_of number request.now i facts.now) }
+    ensures fit { (i : Impression) → slice_get request.now.imps imp ≡ Some i → IfOk result (λ os. IsTrue (list_all (is_fit (terms_of request.now i)) os)) }
+{
+    let opportunity = Opportunity {
+        request,
+        imp: &request.imps.as_slice()[imp],
+        facts,
+        free: Nanos::from(facts.bid()),
+        shown: None,
+    };
+    candidates_for(alloc, &opportunity, number)
+}
+
+/// Whether so much of its budget is free that the campaign may pay what it bids, and its cap leaves a sale to the user.
+/// `free` and `shown` are as in `offers`.
+#[tactic(auto, unfolding(crate::specs::Offers::may_pay))]
+pub fn may_pay(facts: &Facts, free: Nanos, shown: Option<u64>) -> bool
+    ensures { result ≡ may_pay facts.now free shown }
+{
+    Nanos::from(facts.bid()) <= free && !is_capped(facts.cap(), shown)
+}
+
 /// The first rule that keeps the campaign from offering for the impression at the place, or none exactly where
 /// it offers. `free` and `shown` are as in `offers`.
 pub fn why_not(
@@ -80,6 +113,27 @@ fn offers_for(
 {
     let mut offers = List::new(alloc);
     if opportunity.is_excluded() {
+        return Ok(offers);
+    }
+    push_public(&mut offers, opportunity, number)?;
+    push_deals(
+        &mut offers,
+        opportunity.imp.pmp.deals.as_slice(),
+        opportunity.facts,
+        number,
+    )?;
+    Ok(offers)
+}
+
+fn candidates_for(
+    alloc: Global,
+    opportunity: &Opportunity<'_>,
+    number: u32,
+) -> Result<List<Offer>, AllocError>
+    ensures { IfOk result (λ os. os ≡ candidates_of number opportunity.now.request.now opportunity.now.imp.now opportunity.now.facts.now) }
+{
+    let mut offers = List::new(alloc);
+    if opportunity.is_excluded_as_stated() {
         return Ok(offers);
     }
     push_public(&mut offers, opportunity, number)?;
@@ -174,3 +228,8 @@ fn has_open(deals: &[Deal], facts: &Facts) -> bool
 {
     deals.iter().any(|deal| is_open_to(facts, deal))
 }
+
+/// The offers of a campaign are its candidates where it may pay, and none else.
+pub fn offers_stand()
+    ensures { (number : ℕ) (r : Request) (i : Impression) (f : Stated) (free : ℕ) (shown : AnOption ℕ) → offers_of number (opportunity_of r i f free shown) ≡ (if may_pay f free shown then candidates_of number r i f else []) }
+{}

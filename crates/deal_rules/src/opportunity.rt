@@ -5,7 +5,7 @@ ghost use Rattle.std.specs.Option.{option_map_or};
 ghost use Rattle.std.specs.Ordering.{int_eq};
 ghost use Rattle.campaign.specs.Kept.{size_of};
 ghost use Rattle.deal_rules.specs.Offers.{first_reason, is_excluded};
-ghost use Rattle.deal_rules.specs.Rules.{allows, blocked_attributes_of, common_rules, is_over, public_rules, sizes_of, takes_size, test_of};
+ghost use Rattle.deal_rules.specs.Rules.{allows, blocked_attributes_of, common_rules, is_over, public_rules, sizes_of, stated_rules, takes_size, test_of};
 ghost use Rattle.deal_rules.specs.Seen.{opportunity_seen};
 
 use crate::lists::{allows, allows_usd, has_number_of, has_one_of, has_text, is_usd, takes_size};
@@ -34,6 +34,9 @@ const RULES: [Rule; 14] = [
 
 // How many of them, the first, are for each pool; the others are for the public pool alone.
 const COMMON: usize = 11;
+
+// How many of those, the first, ask the request and what the campaign states alone.
+const STATED: usize = 9;
 
 // Those for each pool, where short tests come first.
 const SHORT_FIRST: [Rule; COMMON] = [
@@ -68,6 +71,13 @@ impl Opportunity<'_> {
         ensures { result ≡ is_excluded common_rules (opportunity_seen self.now) }
     {
         self.has_reason(&SHORT_FIRST)
+    }
+
+    /// Whether a rule for each pool excludes it that asks the request and what it states alone.
+    pub fn is_excluded_as_stated(&self) -> bool
+        ensures { result ≡ is_excluded stated_rules (opportunity_seen self.now) }
+    {
+        self.has_reason(&RULES[..STATED])
     }
 
     /// Whether a rule for the public pool excludes it there.
@@ -172,7 +182,7 @@ fn blocked_attributes_of(imp: &Imp) -> &[i32]
 }
 
 // Whether a cap leaves no sale to the user, or to nobody.
-fn is_capped(cap: Option<Cap>, shown: Option<u64>) -> bool
+pub(crate) fn is_capped(cap: Option<Cap>, shown: Option<u64>) -> bool
     ensures { result ≡ option_map_or (is_over shown) cap false }
 {
     match cap {

@@ -1,0 +1,7 @@
+use Rattle.std.proofs.Common.{◌≡◌, map, take}
+use Rattle.std.specs.Borrow.{Bor}
+use Rattle.std.proofs.Common.{ℕ, List}
+use Rattle.deal_rules.proofs.names.references.Given as goal
+
+abbrev pub invariant-loop-text : goal.invariant-loop-text
+invariant-loop-text l = map (λ (t : Bor (List ℕ)). t.now) l.all.items ≡ take l.text-index l.texts
