@@ -1,9 +1,11 @@
+pub mod Affording
 pub mod Auctioning
 pub mod Below
 pub mod Editing
 pub mod Fitting
 pub mod Keeping
 pub mod Leading
+pub mod Ordering
 pub mod Payable
 pub mod Planning
 pub mod Preparing

@@ -5,4 +5,5 @@ pub mod Draft
 pub mod Frames
 pub mod Outcomes
 pub mod Putting
+pub mod Payers
 pub mod Scan

@@ -114,7 +114,7 @@ impl Core {
     }
 
     // What is left of the budget of campaign `n` beside the awards.
-    fn free_beside(&self, n: u32, moment: u64, awards: &[(u32, Win)]) -> Nanos
+    pub(crate) fn free_beside(&self, n: u32, moment: u64, awards: &[(u32, Win)]) -> Nanos
         requires few { length awards.now ≤ 64 }
         requires there { (1 ≤ n) × (n ≤ length self.now.state.campaigns) }
         ensures { (c : Campaign) → campaign_at self.now.state n ≡ Some c → result ≡ free (swept moment self.now.state) n c - awards_cost n awards.now }
@@ -125,7 +125,7 @@ impl Core {
 
     // How many sales of campaign `n` to the request's user its cap counts beside the awards, where there is a
     // user.
-    fn count_shown_beside(
+    pub(crate) fn count_shown_beside(
         &self,
         n: u32,
         cap: Option<Cap>,

@@ -17,6 +17,7 @@ mod fits;
 mod kept;
 mod looks;
 mod outcome;
+mod payers;
 mod prepare;
 mod prepare_auctions;
 mod prepare_campaigns;

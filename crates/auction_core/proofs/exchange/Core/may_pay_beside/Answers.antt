@@ -1,0 +1,19 @@
+use Rattle.std.proofs.Common.{ap, sym, ◌∙◌}
+use Rattle.auction_core.specs.Auctions.{beside}
+use Rattle.auction_core.proofs.Affording.{paid_as}
+use Rattle.auction_core.proofs.Auctioning.{free_drawn}
+use Rattle.campaign.specs.declared.parts.FactParts.{FactParts}
+use Rattle.campaign_store.specs.declared.record.Record.{Record}
+use Rattle.auction_core.proofs.exchange.Core.may_pay_beside.Goals as goal
+
+pub returns : goal.returns
+returns c = λ d there.
+    let s = c.args.self.now.state in
+    let r = c.args.request.now in
+    let m = c.args.moment in
+    let n = c.args.n in
+    let facts = ap (λ (e : Record). e.facts) (c.record.ensures ∙ c.entry.ensures d there) in
+    let left = c.free_beside-free.ensures d there ∙ sym (free_drawn c.args.self.now.ttl m r n s d c.args.awards.now) in
+    let cap = sym (c.cap.ensures ∙ ap (λ (f : FactParts). f.cap) facts) in
+    let shown = c.count_shown_beside-shown.ensures d cap in
+    c.may_pay.ensures ∙ paid_as (beside c.args.self.now.ttl m r s c.args.awards.now) r m n d c.record.result.now.facts c.free_beside-free.result c.count_shown_beside-shown.result facts left shown
