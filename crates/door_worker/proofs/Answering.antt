@@ -11,7 +11,7 @@ use Rattle.conj_index.specs.Campaigns.{Campaigns}
 use Rattle.conj_index.specs.Content.{IsIndexOf}
 use Rattle.door_worker.specs.Answers.{Answered, Answers, AreDurable, ArePublished, Goes, IsDurable, IsPublished, IsRight, LeadsTo, calls_of, is_answer, is_edit, is_store_failed, request_of, store_failed}
 use Rattle.door_worker.specs.Working.{AnswersOne, Concludes, Entered, IsGivenFor, IsGivenUnread, IsKnown, IsTold, Tells, call_at}
-use Rattle.door_worker.proofs.Going.{durable_now, durable_on, goes_called, goes_fails, goes_none, goes_on, goes_waits, published_on, stable_on, worker_is}
+use Rattle.door_worker.proofs.Going.{durable_now, durable_on, goes_called, goes_fails, goes_none, goes_on, goes_waits, published_on, worker_is}
 use Rattle.exchange_shared.specs.Seats.{Calls, Fails, MayBeSettled, Seat, Waits, effects_in}
 use Rattle.exchange_state.proofs.Owning.{count_append}
 use Rattle.exchange_state.specs.declared.state.Settled.{Settled}
@@ -88,7 +88,7 @@ pub told : (public : List ℕ) (command : Command) (reply : Reply) (s m t : Seat
 told public command reply s m t gave g le x known = record {
   given_is = by_given gave x.told;
   goes = not_failed gave x.told;
-  durable = λ is. durable_on 0 [] 0 m t x.goes (stable_on [] 0 m t x.goes known) (durable_now 0 s m g le);
+  durable = λ is. durable_on 0 [] 0 m t x.goes (durable_now 0 s m g le);
   published = x.published;
 } where
   by_given : (gave : Given) → IsTold (request_of command) public reply gave → IsGivenFor public command reply gave
@@ -187,10 +187,10 @@ calls_then l m = filter_map-append (λ (a : Answered). a.call) l m
 count_then : (l m : List Answered) → length (calls_of l) + length (calls_of m) ≡ length (calls_of (l ++ m))
 count_then l m = sym (ap length (calls_then l m) ∙ length-append (calls_of l) (calls_of m))
 
-durable_then : (i : ℕ) (l m : List Answered) (s t : Seat) → Goes (calls_of m) i s t → stable s.seen ≤ stable t.seen → AreDurable l s.worker s.origin s.seen → AreDurable m t.worker t.origin t.seen → AreDurable (l ++ m) t.worker t.origin t.seen
-durable_then i [] m s t g le d e = e
-durable_then i (a ∷ l) m s t g le d e =
-    (λ is. subst (λ (n : ℕ). IsDurable n t.worker t.origin t.seen) (count_then l m) (durable_on (length (calls_of l)) (calls_of m) i s t g le (d.0 is)), durable_then i l m s t g le d.1 e)
+durable_then : (i : ℕ) (l m : List Answered) (s t : Seat) → Goes (calls_of m) i s t → AreDurable l s.worker s.origin s.seen → AreDurable m t.worker t.origin t.seen → AreDurable (l ++ m) t.worker t.origin t.seen
+durable_then i [] m s t g d e = e
+durable_then i (a ∷ l) m s t g d e =
+    (λ is. subst (λ (n : ℕ). IsDurable n t.worker t.origin t.seen) (count_then l m) (durable_on (length (calls_of l)) (calls_of m) i s t g (d.0 is)), durable_then i l m s t g d.1 e)
 
 published_then : (i : ℕ) (l m : List Answered) (s t : Seat) → Goes (calls_of m) i s t → ArePublished l s.worker s.origin s.seen → ArePublished m t.worker t.origin t.seen → ArePublished (l ++ m) t.worker t.origin t.seen
 published_then i [] m s t g d e = e
@@ -203,6 +203,6 @@ answers_then public l m s t u a b known = record {
   goes = subst (λ (c : List Call). Goes c (store_failed (l ++ m)) s u) (sym (calls_then l m))
       (subst (λ (n : ℕ). Goes (calls_of l ++ calls_of m) n s u) (sym (count_append (λ (x : Answered). is_store_failed x.turn.given) l m))
       (goes_on (calls_of l) (calls_of m) (store_failed l) (store_failed m) s t u a.goes b.goes));
-  durable = durable_then (store_failed m) l m t u b.goes (stable_on (calls_of m) (store_failed m) t u b.goes known) a.durable b.durable;
+  durable = durable_then (store_failed m) l m t u b.goes a.durable b.durable;
   published = published_then (store_failed m) l m t u b.goes a.published b.published;
 }

@@ -9,7 +9,6 @@ use Rattle.door_worker.specs.Working.{IsKnown, call_at}
 use Rattle.exchange_shared.proofs.Seats.{own_append, own_gains, own_one}
 use Rattle.exchange_shared.specs.Seats.{Fails, Gains, IsWriting, IsWritingMark, Publishes, Seat, Waits, Writes, effects_in}
 use Rattle.exchange_state.proofs.Owning.{count_append, failed_append, failed_own, mine_append, mine_own}
-use Rattle.exchange_state.proofs.Rising.{stable_later}
 use Rattle.exchange_state.specs.declared.entries.Entry.{Entry}
 use Rattle.exchange_state.specs.declared.entries.Event.{Event}
 use Rattle.exchange_state.specs.declared.entries.Event.TheVariants as event
@@ -139,13 +138,6 @@ origin_is c i s t g = ap (λ (u : Seat). u.origin) g.same
 pub free_is : (c : List Call) (i : ℕ) (s t : Seat) → Goes c i s t → t.turn ≡ false
 free_is c i s t g = ap (λ (u : Seat). u.turn) g.same
 
--- what is durable stays so
-pub stable_on : (c : List Call) (i : ℕ) (s t : Seat) → Goes c i s t → IsKnown s t → stable s.seen ≤ stable t.seen
-stable_on c i s t g (inl is) = subst (λ (u : Seat). stable s.seen ≤ stable u.seen) (sym is) (omega arith)
-stable_on c i s t g (inr rising) =
-    subst (λ (l : List Entry). stable s.seen ≤ stable l) (sym (seen_is c i s t g))
-    (stable_later s.origin s.seen g.more (subst (λ (u : Seat). IsRising u.origin u.seen) g.same rising))
-
 pub known_then : (s t u : Seat) → IsKnown s t → IsKnown t u → IsKnown s u
 known_then s t u (inl e) (inl f) = inl (f ∙ e)
 known_then s t u (inr r) (inl f) = inr (subst (λ (v : Seat). IsRising v.origin v.seen) (sym f) r)
@@ -156,28 +148,31 @@ known_then s t u k (inr r) = inr r
 lengths : (w n : ℕ) (c : List Call) (l m : List Entry) → length (mine w (calls l)) ≡ n → mine w (calls m) ≡ c → length (mine w (calls (l ++ m))) ≡ n + length c
 lengths w n c l m a b = ap length (mine_append w l m) ∙ length-append (mine w (calls l)) (mine w (calls m)) ∙ ap (λ (x : ℕ). x + length (mine w (calls m))) a ∙ ap (λ (x : List Call). n + length x) b
 
-pub durable_more : (n w : ℕ) (o : Origin) (c : List Call) (l more : List Entry) → mine w (calls more) ≡ c → stable l ≤ stable (l ++ more) → IsDurable n w o l → IsDurable (n + length c) w o (l ++ more)
-durable_more n w o c l more calls_are le d = record {
+pub durable_more : (n w : ℕ) (o : Origin) (c : List Call) (l more : List Entry) → mine w (calls more) ≡ c → IsDurable n w o l → IsDurable (n + length c) w o (l ++ more)
+durable_more n w o c l more calls_are d = record {
   front = d.front;
+  between = d.between;
   behind = d.behind ++ more;
-  split = ap (λ (k : List Entry). k ++ more) d.split ∙ append_assoc d.front d.behind more;
+  split = ap (λ (k : List Entry). k ++ more) d.split ∙ append_assoc (d.front ++ d.between) d.behind more;
+  none = d.none;
   others = lengths w n c d.behind more d.others calls_are;
-  durable = let below = d.durable in omega (arith, below, le);
+  durable = d.durable;
 }
 
 -- by what the seat knew before, and by what it knows then
 pub durable_now : (i : ℕ) (s t : Seat) → Goes [] i s t → effects_in s.origin s.seen ≤ stable t.seen → IsDurable 0 t.worker t.origin t.seen
 durable_now i s t g le = subst (λ (u : Seat). IsDurable 0 u.worker u.origin u.seen) (sym g.same) (record {
   front = s.seen;
-  behind = g.more;
-  split = refl;
-  others = ap length g.calls_are;
+  between = g.more;
+  behind = [];
+  split = sym (append-nil (s.seen ++ g.more));
+  none = g.calls_are;
+  others = refl;
   durable = subst (λ (l : List Entry). effects_in s.origin s.seen ≤ stable l) (seen_is [] i s t g) le;
 })
 
-pub durable_on : (n : ℕ) (c : List Call) (i : ℕ) (s t : Seat) → Goes c i s t → stable s.seen ≤ stable t.seen → IsDurable n s.worker s.origin s.seen → IsDurable (n + length c) t.worker t.origin t.seen
-durable_on n c i s t g le d = subst (λ (u : Seat). IsDurable (n + length c) u.worker u.origin u.seen) (sym g.same)
-    (durable_more n s.worker s.origin c s.seen g.more g.calls_are (subst (λ (l : List Entry). stable s.seen ≤ stable l) (seen_is c i s t g) le) d)
+pub durable_on : (n : ℕ) (c : List Call) (i : ℕ) (s t : Seat) → Goes c i s t → IsDurable n s.worker s.origin s.seen → IsDurable (n + length c) t.worker t.origin t.seen
+durable_on n c i s t g d = subst (λ (u : Seat). IsDurable (n + length c) u.worker u.origin u.seen) (sym g.same) (durable_more n s.worker s.origin c s.seen g.more g.calls_are d)
 
 -- ---- what is published
 

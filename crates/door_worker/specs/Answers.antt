@@ -123,14 +123,16 @@ pub record Goes (came : List Call) (failures : ℕ) (s t : Seat) : Type 0 where
 
 -- ---- a worker in the list of the exchange
 
--- In the list l from the origin o, the effects of all but what comes with the last calls of worker w, so many, are
--- durable.
+-- In the list l from the origin o, the effects of all but what comes with the last calls of worker w, so many, were
+-- durable when the first of those calls came.
 pub record IsDurable (last w : ℕ) (o : Origin) (l : List Entry) : Type 0 where
   pub front : List Entry
+  pub between : List Entry
   pub behind : List Entry
-  pub split : l ≡ front ++ behind
+  pub split : l ≡ (front ++ between) ++ behind
+  pub none : mine w (calls between) ≡ []
   pub others : length (mine w (calls behind)) ≡ last
-  pub durable : effects_in o front ≤ stable l
+  pub durable : effects_in o front ≤ stable (front ++ between)
 
 -- Of the edits of all but what comes with the last calls of worker w, so many, fewer than 2,048 were not in the version
 -- that was present when the first of those calls came.
@@ -143,7 +145,7 @@ pub record IsPublished (last w : ℕ) (o : Origin) (l : List Entry) : Type 0 whe
   pub others : length (mine w (calls behind)) ≡ last
   pub few : edits_after o (calls front) < published o (front ++ between) + 2048
 
--- Each message that was told of its call was told once the call's effects were durable.
+-- Behind each message that was told of its call, and before its worker's next call, the call's effects were durable.
 abbrev pub AreDurable : List Answered → ℕ → Origin → List Entry → Type 0
 AreDurable [] w o l = ⊤
 AreDurable (a ∷ all) w o l = (tells a.turn.given ≡ true → IsDurable (length (calls_of all)) w o l) × AreDurable all w o l

@@ -13,10 +13,9 @@ use Rattle.door_worker.proofs.Going.{durable_more, published_more, worker_is}
 use Rattle.exchange_shared.proofs.Seats.{own_append}
 use Rattle.exchange_shared.specs.Seats.{Seat, worker_of}
 use Rattle.exchange_state.proofs.Owning.{failed_append, failed_own, mine_append, mine_own}
-use Rattle.exchange_state.proofs.Rising.{stable_later}
 use Rattle.exchange_state.specs.declared.entries.Entry.{Entry}
 use Rattle.exchange_state.specs.declared.entries.Origin.{Origin}
-use Rattle.exchange_state.specs.Views.{IsRising, calls, failed, failures, mine, own, stable}
+use Rattle.exchange_state.specs.Views.{calls, failed, failures, mine, own}
 use Rattle.hist_lock.specs.Views.{Complete}
 use Rattle.link_door.specs.Doors.{Held}
 use Rattle.link_door.specs.declared.link.Link.{Ghosts}
@@ -39,10 +38,10 @@ no_failures w more none = failed_own w more ∙ ap failures none
 no_more : (n : ℕ) → n + 0 ≡ n
 no_more n = omega arith
 
-durable_later : (all : List Answered) (w : ℕ) (o : Origin) (l more : List Entry) → mine w (calls more) ≡ [] → stable l ≤ stable (l ++ more) → AreDurable all w o l → AreDurable all w o (l ++ more)
-durable_later [] w o l more none le d = tt
-durable_later (a ∷ all) w o l more none le d =
-    (λ is. subst (λ (n : ℕ). IsDurable n w o (l ++ more)) (no_more (length (calls_of all))) (durable_more (length (calls_of all)) w o [] l more none le (d.0 is)), durable_later all w o l more none le d.1)
+durable_later : (all : List Answered) (w : ℕ) (o : Origin) (l more : List Entry) → mine w (calls more) ≡ [] → AreDurable all w o l → AreDurable all w o (l ++ more)
+durable_later [] w o l more none d = tt
+durable_later (a ∷ all) w o l more none d =
+    (λ is. subst (λ (n : ℕ). IsDurable n w o (l ++ more)) (no_more (length (calls_of all))) (durable_more (length (calls_of all)) w o [] l more none (d.0 is)), durable_later all w o l more none d.1)
 
 published_later : (all : List Answered) (w : ℕ) (o : Origin) (l more : List Entry) → mine w (calls more) ≡ [] → ArePublished all w o l → ArePublished all w o (l ++ more)
 published_later [] w o l more none p = tt
@@ -62,8 +61,8 @@ others_behind w l more e = nothing_behind (own w l) (own w more) (sym (own_appen
 -- The seat s had seen nothing of its worker, became t, and the history goes on behind that by entries of others.
 module _ {L : Type 0} (K : Ghosts L) (public : List ℕ) where
   at_end : (all : List Answered) (s t : Seat) (past : History) (more : List Entry) → Answers public all s t → own s.worker s.seen ≡ [] → past.origin ≡ t.origin → past.seen ≡ t.seen ++ more → mine t.worker (calls more) ≡ []
-      → IsRising past.origin past.seen → (held after : Option (Held L)) → AreHeld K all held after → IsServedBy K public past t.worker all held after
-  at_end all s t past more a fresh origin seen others rising held after door =
+      → (held after : Option (Held L)) → AreHeld K all held after → IsServedBy K public past t.worker all held after
+  at_end all s t past more a fresh origin seen others held after door =
       let w = t.worker in
       let same : t.worker ≡ s.worker = ap (λ (u : Seat). u.worker) a.goes.same in
       let of_t : mine w (calls t.seen) ≡ calls_of all =
@@ -71,12 +70,11 @@ module _ {L : Type 0} (K : Ghosts L) (public : List ℕ) where
       let failed_t : failed t.seen w ≡ 0 + store_failed all =
       ap (λ (u : Seat). failed u.seen u.worker) a.goes.same ∙ failed_append s.worker s.seen a.goes.more ∙ ap (λ (x : ℕ). x + failed a.goes.more s.worker) (no_failures s.worker s.seen fresh) ∙ ap (λ (x : ℕ). 0 + x) a.goes.failures_are in
       let failed_all : failed past.seen w ≡ failed t.seen w + failed more w = ap (λ (l : List Entry). failed l w) seen ∙ failed_append w t.seen more in
-      let le : stable t.seen ≤ stable (t.seen ++ more) = stable_later past.origin t.seen more (subst (λ (l : List Entry). IsRising past.origin l) seen rising) in
       record {
         right = subst (λ (n : ℕ). All (IsRight public n) all) (sym same) a.right;
         calls_are = ap (λ (l : List Entry). mine w (calls l)) seen ∙ mine_append w t.seen more ∙ ap (λ (x : List Call). mine w (calls t.seen) ++ x) others ∙ append-nil (mine w (calls t.seen)) ∙ of_t;
         failures_are = omega (arith, failed_t, failed_all);
-        durable = subst (λ (o : Origin). AreDurable all w o past.seen) (sym origin) (subst (λ (l : List Entry). AreDurable all w t.origin l) (sym seen) (durable_later all w t.origin t.seen more others le a.durable));
+        durable = subst (λ (o : Origin). AreDurable all w o past.seen) (sym origin) (subst (λ (l : List Entry). AreDurable all w t.origin l) (sym seen) (durable_later all w t.origin t.seen more others a.durable));
         published = subst (λ (o : Origin). ArePublished all w o past.seen) (sym origin) (subst (λ (l : List Entry). ArePublished all w t.origin l) (sym seen) (published_later all w t.origin t.seen more others a.published));
         door = door;
       }
@@ -169,8 +167,8 @@ module _ {G L : Type 0} (K : Ghosts L) (held_of : G → Option (Held L)) (faults
   ServedAt past w a b = (all : List Answered) × IsServedBy K public past w all (held_of a.1) (held_of b.1)
 
   serves_one : (o : Origin) (old new : List (Job G)) → AreHired here o old → AreDone K held_of faults_of public here old new → (s : Seat) (failed : Bool) (past : History) (end : PoolEnd) → IsJoined here new (length new) s → IsWritten s failed past end
-      → Complete worker_of s past.seen → IsRising past.origin past.seen → (k : ℕ) (d : Job G) → k < length old → ServedAt past k (get_or old k d) (get_or new k d)
-  serves_one o old new h e s failed past end j w c rising k d lt =
+      → Complete worker_of s past.seen → (k : ℕ) (d : Job G) → k < length old → ServedAt past k (get_or old k d) (get_or new k d)
+  serves_one o old new h e s failed past end j w c k d lt =
       let many : length new ≡ length old = e.many in
       let there : k < length new = omega (arith, many, lt) in
       let a = h.each k d lt in
@@ -184,7 +182,7 @@ module _ {G L : Type 0} (K : Ghosts L) (held_of : G → Option (Held L)) (faults
       let seen : past.seen ≡ b.after.seen ++ more = seen_of here new s failed past end j w c k b.after d there b.has in (
         b.served.all,
         subst (λ (n : ℕ). IsServedBy K public past n b.served.all (held_of (get_or old k d).1) (held_of (get_or new k d).1)) number
-            (at_end K public b.served.all b.before b.after past more b.served.answers fresh from seen others rising (held_of (get_or old k d).1) (held_of (get_or new k d).1) b.served.door),
+            (at_end K public b.served.all b.before b.after past more b.served.answers fresh from seen others (held_of (get_or old k d).1) (held_of (get_or new k d).1) b.served.door),
       )
 
   collect : (past : History) (w : ℕ) (old new : List (Job G)) → length new ≡ length old → ((k : ℕ) (d : Job G) → k < length old → ServedAt past (w + k) (get_or old k d) (get_or new k d))
@@ -198,7 +196,7 @@ module _ {G L : Type 0} (K : Ghosts L) (held_of : G → Option (Held L)) (faults
       (first.0 ∷ rest.0, (first.1, rest.1))
 
   pub all_served : (o : Origin) (old new : List (Job G)) → AreHired here o old → AreDone K held_of faults_of public here old new → (s : Seat) (failed : Bool) (past : History) (end : PoolEnd) → IsJoined here new (length new) s → IsWritten s failed past end
-      → Complete worker_of s past.seen → IsRising past.origin past.seen → AreServed K public past (map held_of (map (λ (j : Job G). j.1) old)) (map held_of (map (λ (j : Job G). j.1) new))
-  all_served o old new h e s failed past end j w c rising =
-      let all = collect past 0 old new e.many (λ k d lt. subst (λ (n : ℕ). ServedAt past n (get_or old k d) (get_or new k d)) (omega arith) (serves_one o old new h e s failed past end j w c rising k d lt)) in
+      → Complete worker_of s past.seen → AreServed K public past (map held_of (map (λ (j : Job G). j.1) old)) (map held_of (map (λ (j : Job G). j.1) new))
+  all_served o old new h e s failed past end j w c =
+      let all = collect past 0 old new e.many (λ k d lt. subst (λ (n : ℕ). ServedAt past n (get_or old k d) (get_or new k d)) (omega arith) (serves_one o old new h e s failed past end j w c k d lt)) in
       all_of K public past all.0 _ _ all.1

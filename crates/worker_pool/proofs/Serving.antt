@@ -5,7 +5,6 @@ use Rattle.atomic_table.specs.Seated.{TableId}
 use Rattle.door_worker.proofs.Going.{origin_is}
 use Rattle.exchange_shared.specs.Seats.{Seat, worker_of}
 use Rattle.exchange_state.specs.declared.entries.Origin.{Origin}
-use Rattle.exchange_state.specs.Views.{IsRising}
 use Rattle.hist_lock.specs.Views.{Complete}
 use Rattle.link_door.specs.Doors.{Held}
 use Rattle.link_door.specs.declared.link.Link.{Ghosts}
@@ -30,8 +29,8 @@ module _ {G L : Type 0} (K : Ghosts L) (held_of : G → Option (Held L)) (faults
     pub ends : EndsAs past (map faults_of before) (map faults_of after) end
 
   pub comes : (o : Origin) (old left : List (Job G)) (s : Seat) (failed : Bool) (past : History) (end : PoolEnd) (before after : List G) → AreHired here o old → AreGathered K held_of faults_of public here old left s failed → IsWritten s failed past end
-      → Complete worker_of s past.seen → IsRising past.origin past.seen → map (λ (j : Job G). j.1) old ≡ before → after ≡ map (λ (j : Job G). j.1) left → Comes o past before after end
-  comes o old left s failed past end before after h a w c rising was is =
+      → Complete worker_of s past.seen → map (λ (j : Job G). j.1) old ≡ before → after ≡ map (λ (j : Job G). j.1) left → Comes o past before after end
+  comes o old left s failed past end before after h a w c was is =
       let now : map (λ (j : Job G). j.1) a.jobs ≡ after = sym (is ∙ a.doors) in
       let d = head_of old h.some in
       let first = h.each 0 d h.some in
@@ -42,7 +41,7 @@ module _ {G L : Type 0} (K : Ghosts L) (held_of : G → Option (Held L)) (faults
         origin = w.origin ∙ joined.origin ∙ origin_is _ _ done.before done.after done.served.answers.goes ∙ ap (λ (x : Seat). x.origin) same ∙ first.fresh.origin;
         served =
             subst (λ (l : List G). AreServed K public past (map held_of before) (map held_of l)) now
-            (subst (λ (l : List G). AreServed K public past (map held_of l) (map held_of (map (λ (j : Job G). j.1) a.jobs))) was (all_served K held_of faults_of public here o old a.jobs h a.done s failed past end a.joined w c rising));
+            (subst (λ (l : List G). AreServed K public past (map held_of l) (map held_of (map (λ (j : Job G). j.1) a.jobs))) was (all_served K held_of faults_of public here o old a.jobs h a.done s failed past end a.joined w c));
         all = λ e.
             subst (λ (l : List G). LeaveNone (map held_of before) (map held_of l)) now
             (subst (λ (l : List G). LeaveNone (map held_of l) (map held_of (map (λ (j : Job G). j.1) a.jobs))) was (all_left K held_of faults_of public here old a.jobs a.done s failed past end a.failed_is w e));

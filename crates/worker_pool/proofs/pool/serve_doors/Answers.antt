@@ -13,7 +13,7 @@ returns-in-Ok-clause-origin g c =
     let was = ap (map (λ (j : Job g.row.G.Denot). j.1)) c.as_mut_slice.ensures.value ∙ c.in-Ok.ensures.doors in
     let back = lent_back _ c.serve_jobs-seat.new.jobs _ (c.serve_jobs-seat.ensures.many ∙ c.as_mut_slice.ensures.len) in
     let is = c.write_last.ensures.doors ∙ c.doors_of-doors.ensures ∙ ap (map (λ (j : Job g.row.G.Denot). j.1)) back in
-    (comes _ _ _ _ _ _ jobs _ _ _ _ _ _ _ hired c.serve_jobs-seat.ensures c.write_last.ensures.written c.write_last.ensures.complete c.write_last.ensures.order.rising was is).origin
+    (comes _ _ _ _ _ _ jobs _ _ _ _ _ _ _ hired c.serve_jobs-seat.ensures c.write_last.ensures.written c.write_last.ensures.complete was is).origin
 
 pub returns-in-Ok-clause-served : goal.returns-in-Ok-clause-served
 returns-in-Ok-clause-served g c =
@@ -22,7 +22,7 @@ returns-in-Ok-clause-served g c =
     let was = ap (map (λ (j : Job g.row.G.Denot). j.1)) c.as_mut_slice.ensures.value ∙ c.in-Ok.ensures.doors in
     let back = lent_back _ c.serve_jobs-seat.new.jobs _ (c.serve_jobs-seat.ensures.many ∙ c.as_mut_slice.ensures.len) in
     let is = c.write_last.ensures.doors ∙ c.doors_of-doors.ensures ∙ ap (map (λ (j : Job g.row.G.Denot). j.1)) back in
-    (comes _ _ _ _ _ _ jobs _ _ _ _ _ _ _ hired c.serve_jobs-seat.ensures c.write_last.ensures.written c.write_last.ensures.complete c.write_last.ensures.order.rising was is).served
+    (comes _ _ _ _ _ _ jobs _ _ _ _ _ _ _ hired c.serve_jobs-seat.ensures c.write_last.ensures.written c.write_last.ensures.complete was is).served
 
 pub returns-in-Ok-clause-all : goal.returns-in-Ok-clause-all
 returns-in-Ok-clause-all g c =
@@ -31,7 +31,7 @@ returns-in-Ok-clause-all g c =
     let was = ap (map (λ (j : Job g.row.G.Denot). j.1)) c.as_mut_slice.ensures.value ∙ c.in-Ok.ensures.doors in
     let back = lent_back _ c.serve_jobs-seat.new.jobs _ (c.serve_jobs-seat.ensures.many ∙ c.as_mut_slice.ensures.len) in
     let is = c.write_last.ensures.doors ∙ c.doors_of-doors.ensures ∙ ap (map (λ (j : Job g.row.G.Denot). j.1)) back in
-    (comes _ _ _ _ _ _ jobs _ _ _ _ _ _ _ hired c.serve_jobs-seat.ensures c.write_last.ensures.written c.write_last.ensures.complete c.write_last.ensures.order.rising was is).all
+    (comes _ _ _ _ _ _ jobs _ _ _ _ _ _ _ hired c.serve_jobs-seat.ensures c.write_last.ensures.written c.write_last.ensures.complete was is).all
 
 pub returns-in-Ok-clause-end : goal.returns-in-Ok-clause-end
 returns-in-Ok-clause-end g c =
@@ -40,7 +40,7 @@ returns-in-Ok-clause-end g c =
     let was = ap (map (λ (j : Job g.row.G.Denot). j.1)) c.as_mut_slice.ensures.value ∙ c.in-Ok.ensures.doors in
     let back = lent_back _ c.serve_jobs-seat.new.jobs _ (c.serve_jobs-seat.ensures.many ∙ c.as_mut_slice.ensures.len) in
     let is = c.write_last.ensures.doors ∙ c.doors_of-doors.ensures ∙ ap (map (λ (j : Job g.row.G.Denot). j.1)) back in
-    (comes _ _ _ _ _ _ jobs _ _ _ _ _ _ _ hired c.serve_jobs-seat.ensures c.write_last.ensures.written c.write_last.ensures.complete c.write_last.ensures.order.rising was is).ends
+    (comes _ _ _ _ _ _ jobs _ _ _ _ _ _ _ hired c.serve_jobs-seat.ensures c.write_last.ensures.written c.write_last.ensures.complete was is).ends
 
 pub returns-in-Err-clause-served : goal.returns-in-Err-clause-served
 returns-in-Err-clause-served g c =
