@@ -6,7 +6,7 @@ use Rattle.exchange_shared.specs.Opening.{IsOriginOver}
 use Rattle.exchange_shared.specs.Seats.{IsOrdered}
 use Rattle.exchange_state.specs.Standing.{SaysFront}
 use Rattle.exchange_state.specs.Tickets.{IsLegalFrom, effects_after}
-use Rattle.exchange_state.specs.Views.{calls, failures, stable}
+use Rattle.exchange_state.specs.Views.{calls, failures, mine, stable}
 use Rattle.exchange_state.specs.declared.entries.Entry.{Entry}
 use Rattle.exchange_state.specs.declared.entries.Origin.{Origin}
 use Rattle.link_door.specs.declared.door.Door.{Ghosts as DoorGhosts}
@@ -46,7 +46,7 @@ module _ {Disk Door Link : Type 0} (G : DiskGhosts Disk) (H : DoorGhosts Door Li
       legal = legal;
       budgets = budgets;
       order = order;
-      answers = record { alls = []; each = tt; few = omega arith };
+      answers = record { alls = []; each = tt; others = λ w le. ap (λ (l : List Entry). mine w (calls l)) none; few = omega arith };
       crash = crash;
       failed = subst (λ (n : ℕ). RoseBy (failures past.seen) n (G.faults disk')) (ap (λ (x : Origin). x.faults) origin ∙ begins.faults_are) counted;
     };

@@ -1,7 +1,7 @@
 -- From what a seat knew to the whole history.
 use Rattle.std.proofs.Common.{◌≡◌, ℕ, zero, suc, ◌+◌, ◌-◌, ◌<◌, ◌≤◌, List, [], ◌∷◌, ◌++◌, Bool, drop, get_or, length, map, refl, sym, ◌∙◌, ap, subst, arith, append_assoc, eq-eqb, if◌then◌else◌, Option, Some}
 use Rattle.std.specs.Prelude.{All}
-use Rattle.std.proofs.lemmas.List.{append-nil}
+use Rattle.std.proofs.lemmas.List.{append-nil, length-map}
 use Rattle.std.proofs.lemmas.List.Sums.{sum_by-cons}
 use Rattle.std.specs.Prelude.{sum_by}
 use mathlib.Core.Logic.{dite}
@@ -159,8 +159,8 @@ module _ {L : Type 0} (K : Ghosts L) (public : List ℕ) (past : History) where
   sum_few w (all ∷ alls) [] afters s = absurd s
   sum_few w (all ∷ alls) (held ∷ helds) [] s = absurd s
 
-  pub all_of : (alls : List (List Answered)) (helds afters : List (Option (Held L))) → AreServedFrom K public past 0 alls helds afters → AreServed K public past helds afters
-  all_of alls helds afters s = let few = sum_few 0 alls helds afters s in let most = from_all 0 (length alls) past.seen in record { alls = alls; each = s; few = omega (arith, few, most) }
+  pub all_of : (alls : List (List Answered)) (helds afters : List (Option (Held L))) → AreServedFrom K public past 0 alls helds afters → ((w : ℕ) → length helds ≤ w → mine w (calls past.seen) ≡ []) → AreServed K public past helds afters
+  all_of alls helds afters s others = let few = sum_few 0 alls helds afters s in let most = from_all 0 (length alls) past.seen in record { alls = alls; each = s; others = others; few = omega (arith, few, most) }
 
 module _ {G L : Type 0} (K : Ghosts L) (held_of : G → Option (Held L)) (faults_of : G → ℕ) (public : List ℕ) (here : TableId) where
   abbrev ServedAt : History → ℕ → Job G → Job G → Type 0
@@ -199,4 +199,13 @@ module _ {G L : Type 0} (K : Ghosts L) (held_of : G → Option (Held L)) (faults
       → Complete worker_of s past.seen → AreServed K public past (map held_of (map (λ (j : Job G). j.1) old)) (map held_of (map (λ (j : Job G). j.1) new))
   all_served o old new h e s failed past end j w c =
       let all = collect past 0 old new e.many (λ k d lt. subst (λ (n : ℕ). ServedAt past n (get_or old k d) (get_or new k d)) (omega arith) (serves_one o old new h e s failed past end j w c k d lt)) in
-      all_of K public past all.0 _ _ all.1
+      all_of K public past all.0 _ _ all.1 no_others
+    where
+      -- worker 0's seat was made for as many workers as there are jobs
+      no_others : (v : ℕ) → length (map held_of (map (λ (x : Job G). x.1) old)) ≤ v → mine v (calls past.seen) ≡ []
+      no_others v le =
+          let made : s.made ≡ length new = j.made in
+          let same : length new ≡ length old = e.many in
+          let doors : length (map held_of (map (λ (x : Job G). x.1) old)) ≡ length (map (λ (x : Job G). x.1) old) = length-map (map (λ (x : Job G). x.1) old) held_of in
+          let jobs : length (map (λ (x : Job G). x.1) old) ≡ length old = length-map old (λ (x : Job G). x.1) in
+          no_calls v past.seen (c.1 v (omega (arith, le, made, same, doors, jobs)))

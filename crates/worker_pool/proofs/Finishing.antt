@@ -42,7 +42,7 @@ module _ {L : Type 0} (K : Ghosts L) (public : List ℕ) (past : History) (none 
   )
 
   pub idle : (helds : List (Option (Held L))) → AreServed K public past helds helds
-  idle helds = all_of K public past (map (λ (h : Option (Held L)). []) helds) helds helds (idle_from 0 helds)
+  idle helds = all_of K public past (map (λ (h : Option (Held L)). []) helds) helds helds (idle_from 0 helds) (λ w le. ap (λ (l : List Entry). mine w (calls l)) none)
 
 -- ---- doors that failed
 

@@ -1,5 +1,5 @@
 -- Many doors, each served by a worker of its own, in the history of the exchange that they share.
-use Rattle.std.specs.Prelude.{◌≡◌, ℕ, ◌+◌, ◌≤◌, List, [], ◌∷◌, ◌++◌, All, slice_get, sum_by, take, Option, Some, ⊤}
+use Rattle.std.specs.Prelude.{◌≡◌, ℕ, ◌+◌, ◌≤◌, List, [], ◌∷◌, ◌++◌, All, length, slice_get, sum_by, take, Option, Some, ⊤}
 use Rattle.door_worker.specs.Answers.{Answered, AreDurable, ArePublished, IsRight, calls_of, store_failed}
 use Rattle.door_worker.specs.Doors.{AreHeld, LeavesNone}
 use Rattle.exchange_shared.specs.Seats.{effects_in}
@@ -43,10 +43,12 @@ module _ {L : Type 0} (K : Ghosts L) (public : List ℕ) (past : History) where
   AreServedFrom w (all ∷ alls) [] afters = ⊥
   AreServedFrom w (all ∷ alls) (held ∷ helds) [] = ⊥
 
-  -- of each door, the first of which is worker 0's; and all that were told of a failed store are at most the failed marks
+  -- of each door, the first of which is worker 0's; of a worker without a door the history has no call; and all that were told
+  -- of a failed store are at most the failed marks
   pub record AreServed (helds afters : List (Option (Held L))) : Type 0 where
     pub alls : List (List Answered)
     pub each : AreServedFrom 0 alls helds afters
+    pub others : (w : ℕ) → length helds ≤ w → mine w (calls past.seen) ≡ []
     pub few : sum_by store_failed alls ≤ failures past.seen
 
 -- nothing was served
