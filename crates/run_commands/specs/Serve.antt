@@ -11,6 +11,7 @@ use Rattle.link_door.specs.declared.world.WorldFault.TheVariants as world
 use Rattle.plain_exchange.specs.declared.changes.Effect.{Effect}
 use Rattle.recovery.specs.Openings.{IsUnwritten}
 use Rattle.recovery.specs.Texts.{HasText}
+use Rattle.rtb_base.specs.Faults.{Rose}
 use Rattle.rtb_disk.specs.Stores.{Always, Store, settled}
 use Rattle.rtb_disk.specs.declared.disk.Disk.{Ghosts as DiskGhosts}
 use Rattle.rtb_io.specs.Fronts.{AppendsFront}
@@ -64,13 +65,15 @@ module _ {Disk Door Link : Type 0} (G : DiskGhosts Disk) (H : DoorGhosts Door Li
     pub untouched : IsUntouched past
 
   -- The exchange was opened, and the doors were served behind the first line. Where they were served to their end and
-  -- the last write was done, no link is left, and all effects are written.
+  -- the last write was done, no link is left, and all effects are written; where it was not done, the disk's count of failed
+  -- calls rose.
   pub record IsRun (disk disk' : Disk) (doors doors' : List Door) (past : History) (written written' : Option (List ℕ)) (code : ℕ) : Type 0 where
     pub served : IsServed G H K options disk disk' doors doors' past
     pub end : PoolEnd
     pub why : EndsAs past (map H.faults doors) (map H.faults doors') end
     pub all : end ≡ ending.Served → LeaveNone (map H.held doors) (map H.held doors')
     pub last : end ≡ ending.Served → IsWritten (G.store disk') past
+    pub broke : end ≡ ending.LastWriteFailed → Rose (G.faults disk) (G.faults disk')
     pub announced : Option (List ℕ)
     pub line : Appends written announced (first_line options)
     pub ends : EndsBehind end announced written' code

@@ -4,7 +4,7 @@ use Rattle.exchange_shared.specs.Opening.{IsOriginOver}
 use Rattle.exchange_shared.specs.Seats.{IsOrdered}
 use Rattle.exchange_state.specs.Standing.{SaysFront}
 use Rattle.exchange_state.specs.Tickets.{IsLegalFrom, effects_after}
-use Rattle.exchange_state.specs.Views.{calls, failures}
+use Rattle.exchange_state.specs.Views.{calls, failures, faults_told}
 use Rattle.link_door.specs.declared.door.Door.{Ghosts as DoorGhosts}
 use Rattle.link_door.specs.declared.link.Link.{Ghosts as LinkGhosts}
 use Rattle.recovery.specs.Texts.{HasText}
@@ -22,7 +22,8 @@ module _ {Disk Door Link : Type 0} (G : DiskGhosts Disk) (H : DoorGhosts Door Li
   -- Between the disk as it was handed out and as it comes back there is one history. It begins with what the disk says,
   -- each reply is that of an exchange of one thread at its place, and budgets hold at every place. The messages of each
   -- door are the calls of its worker, in order. A crash now leaves what the exchange was opened with and a front of the
-  -- effects that came since, which has each that is durable; and the disk's count rose by each write that failed.
+  -- effects that came since, which has each that is durable; the disk's count rose by each write that failed, and is what the
+  -- history tells last.
   pub record IsServed (disk disk' : Disk) (doors doors' : List Door) (past : History) : Type 0 where
     pub begins : IsOriginOver (G.store disk) (G.faults disk) options.ttl past.origin
     pub legal : IsLegalFrom past.origin (calls past.seen)
@@ -30,4 +31,5 @@ module _ {Disk Door Link : Type 0} (G : DiskGhosts Disk) (H : DoorGhosts Door Li
     pub order : IsOrdered past.origin past.seen
     pub answers : AreServed K options.public past (map H.held doors) (map H.held doors')
     pub crash : past.origin.told ≡ true → EachImage (SaysFront past.origin past.seen) (G.store disk').now
+    pub faults : G.faults disk' ≡ faults_told past.origin past.seen
     pub failed : RoseBy (failures past.seen) (G.faults disk) (G.faults disk')

@@ -3,7 +3,7 @@ ghost use Rattle.std.specs.Prelude.{◌≡◌, ◌<◌, ◌^◌, true, None, len
 ghost use Rattle.exchange_shared.specs.Seats.{IsOrdered, MayCall, lock_of, worker_of};
 ghost use Rattle.exchange_state.specs.Standing.{SaysFront};
 ghost use Rattle.exchange_state.specs.Tickets.{IsLegalFrom};
-ghost use Rattle.exchange_state.specs.Views.{calls, failures, out};
+ghost use Rattle.exchange_state.specs.Views.{calls, failures, faults_told, out};
 ghost use Rattle.hist_lock.specs.Views.{Complete, first_seat};
 ghost use Rattle.rtb_base.specs.Faults.{RoseBy};
 ghost use Rattle.rtb_disk.specs.Stores.{EachImage};
@@ -76,6 +76,7 @@ pub fn serve_doors<
     ensures order { IsOrdered result.past.origin result.past.seen }
     ensures served { AreServed G.Link.Link public.now result.past (map G.held doors) (map G.held result.doors) }
     ensures images { result.past.origin.told ≡ true → EachImage (SaysFront result.past.origin result.past.seen) (D.store result.disk).now }
+    ensures faults { D.faults result.disk ≡ faults_told result.past.origin result.past.seen }
     ensures counted { RoseBy (failures result.past.seen) result.past.origin.faults (D.faults result.disk) }
     ensures all { result.end ≡ PoolEnd.Served → LeaveNone (map G.held doors) (map G.held result.doors) }
     ensures end { EndsAs result.past (map G.faults doors) (map G.faults result.doors) result.end }
@@ -114,6 +115,7 @@ fn write_last<D: Disk, R: Wait, G: Door>(
     ensures legal { IsLegalFrom result.past.origin (calls result.past.seen) }
     ensures budgets { KeepsBudgets result.past }
     ensures images { result.past.origin.told ≡ true → EachImage (SaysFront result.past.origin result.past.seen) (D.store result.disk).now }
+    ensures faults { D.faults result.disk ≡ faults_told result.past.origin result.past.seen }
     ensures counted { RoseBy (failures result.past.seen) result.past.origin.faults (D.faults result.disk) }
 {
     match exchange.flush(rt, seat) {
@@ -153,6 +155,7 @@ fn close<D: Disk, G: Door>(
     ensures legal { IsLegalFrom result.past.origin (calls result.past.seen) }
     ensures budgets { KeepsBudgets result.past }
     ensures images { result.past.origin.told ≡ true → EachImage (SaysFront result.past.origin result.past.seen) (D.store result.disk).now }
+    ensures faults { D.faults result.disk ≡ faults_told result.past.origin result.past.seen }
     ensures counted { RoseBy (failures result.past.seen) result.past.origin.faults (D.faults result.disk) }
 {
     let (disk, past) = exchange.close(seat);

@@ -20,5 +20,6 @@ returns g c =
       legal = h.legal;
       budgets = c.budgets_hold_at_each_place.ensures past.origin (calls past.seen);
       crash = h.images;
+      faults = h.faults;
       failed = h.counted;
     }
