@@ -20,7 +20,7 @@ use Rattle.rtb_disk.specs.declared.disk.Disk.{Ghosts as DiskGhosts}
 use Rattle.run_commands.specs.Serve.{EndsBehind, IsIdle, IsRun, first_line}
 use Rattle.run_commands.specs.Served.{IsWritten}
 use Rattle.run_words.specs.declared.serve.ServeOptions.{ServeOptions}
-use Rattle.worker_pool.specs.Pools.{AreServed, BreaksOff, EndsAs, History, KeepsBudgets, LeaveNone}
+use Rattle.worker_pool.specs.Pools.{AreServed, BreaksOff, EndsAs, History, KeepsBudgets, LeaveAs}
 use Rattle.worker_pool.specs.declared.pool.PoolEnd.{PoolEnd}
 use Rattle.worker_pool.specs.declared.pool.PoolEnd.TheVariants as ending
 
@@ -67,10 +67,10 @@ module _ {Disk Door Link : Type 0} (G : DiskGhosts Disk) (H : DoorGhosts Door Li
   pub is_run : (disk disk' : Disk) (doors doors' : List Door) (o : Origin) (past : History) (end : PoolEnd) (before announced written' : Option (List ℕ)) (code : ℕ)
       → IsOriginOver (G.store disk) (G.faults disk) options.ttl o → past.origin ≡ o → IsLegalFrom past.origin (calls past.seen) → KeepsBudgets past → IsOrdered past.origin past.seen
       → AreServed K options.public past (map H.held doors) (map H.held doors') → SaysFronts (G.store disk') past → G.faults disk' ≡ faults_told past.origin past.seen → RoseBy (failures past.seen) past.origin.faults (G.faults disk')
-      → (end ≡ ending.Served → LeaveNone (map H.held doors) (map H.held doors')) → EndsAs past (map H.faults doors) (map H.faults doors') end
+      → LeaveAs H.faults H.held doors doors' end → EndsAs past (map H.faults doors) (map H.faults doors') end
       → Appends before announced (first_line options) → EndsBehind end announced written' code
       → IsRun G H K options disk disk' doors doors' past before written' code
-  is_run disk disk' doors doors' o past end before announced written' code begins origin legal budgets order answers crash faults counted all why line ends = record {
+  is_run disk disk' doors doors' o past end before announced written' code begins origin legal budgets order answers crash faults counted left why line ends = record {
     served = record {
       begins = subst (λ (x : Origin). IsOriginOver (G.store disk) (G.faults disk) options.ttl x) (sym origin) begins;
       legal = legal;
@@ -83,7 +83,7 @@ module _ {Disk Door Link : Type 0} (G : DiskGhosts Disk) (H : DoorGhosts Door Li
     };
     end = end;
     why = why;
-    all = all;
+    left = left;
     last = λ is. written (G.store disk') past crash (subst (λ (e : PoolEnd). EndsAs past (map H.faults doors) (map H.faults doors') e) is why).1;
     broke = λ is.
         let breaks = (subst (λ (e : PoolEnd). EndsAs past (map H.faults doors) (map H.faults doors') e) is why).1 in

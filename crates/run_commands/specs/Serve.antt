@@ -22,7 +22,7 @@ use Rattle.run_commands.specs.Given.{GivesDisk, GivesDoors, GivesNoDisk, GivesNo
 use Rattle.run_commands.specs.Journals.{EndsAt, HasCause}
 use Rattle.run_commands.specs.Served.{IsServed, IsWritten}
 use Rattle.run_words.specs.declared.serve.ServeOptions.{ServeOptions}
-use Rattle.worker_pool.specs.Pools.{EndsAs, History, IsUntouched, LeaveNone}
+use Rattle.worker_pool.specs.Pools.{EndsAs, History, IsUntouched, LeaveAs}
 use Rattle.worker_pool.specs.declared.pool.PoolEnd.{PoolEnd}
 use Rattle.worker_pool.specs.declared.pool.PoolEnd.TheVariants as ending
 
@@ -64,14 +64,14 @@ module _ {Disk Door Link : Type 0} (G : DiskGhosts Disk) (H : DoorGhosts Door Li
     pub served : IsServed G H K options disk disk' [] [] past
     pub untouched : IsUntouched past
 
-  -- The exchange was opened, and the doors were served behind the first line. Where they were served to their end and
-  -- the last write was done, no link is left, and all effects are written; where it was not done, the disk's count of failed
-  -- calls rose.
+  -- The exchange was opened, and the doors were served behind the first line. Where no door failed
+  -- no link is left, and where one did none is left at the others. Where the last write was done too, all effects are written;
+  -- where it was not done, the disk's count of failed calls rose.
   pub record IsRun (disk disk' : Disk) (doors doors' : List Door) (past : History) (written written' : Option (List ℕ)) (code : ℕ) : Type 0 where
     pub served : IsServed G H K options disk disk' doors doors' past
     pub end : PoolEnd
     pub why : EndsAs past (map H.faults doors) (map H.faults doors') end
-    pub all : end ≡ ending.Served → LeaveNone (map H.held doors) (map H.held doors')
+    pub left : LeaveAs H.faults H.held doors doors' end
     pub last : end ≡ ending.Served → IsWritten (G.store disk') past
     pub broke : end ≡ ending.LastWriteFailed → Rose (G.faults disk) (G.faults disk')
     pub announced : Option (List ℕ)

@@ -3,7 +3,7 @@ use Rattle.std.proofs.Common.{◌≡◌, ℕ, suc, ◌+◌, ◌<◌, ◌||◌, B
 use Rattle.std.specs.Prelude.{MatchBool}
 use Rattle.std.proofs.lemmas.List.{append-nil}
 use Rattle.atomic_table.specs.Seated.{TableId}
-use Rattle.door_worker.specs.Doors.{AreHeld}
+use Rattle.door_worker.specs.Doors.{AreHeld, LeavesNone}
 use Rattle.door_worker.specs.declared.door.DoorEnd.{DoorEnd}
 use Rattle.door_worker.specs.declared.door.DoorEnd.TheVariants as door
 use Rattle.exchange_shared.specs.Seats.{Seat, effects_in, worker_of}
@@ -16,9 +16,8 @@ use Rattle.rtb_base.specs.Faults.{Rose}
 use Rattle.worker_pool.proofs.Closing.{all_of, no_behind}
 use Rattle.worker_pool.specs.Ending.{IsWritten, end_of}
 use Rattle.worker_pool.specs.Hiring.{AreBack, AreDone, IsDone, IsJoined, Job, has_failed, is_failed}
-use Rattle.worker_pool.specs.Pools.{AreServed, AreServedFrom, EndsAs, History, LeaveNone, SomeRose}
+use Rattle.worker_pool.specs.Pools.{AreServed, AreServedFrom, EndsAs, History, LeaveAs, LeaveNone, LeaveNoneUnlessRose, SomeRose}
 use Rattle.worker_pool.specs.declared.pool.PoolEnd.{PoolEnd}
-use Rattle.worker_pool.specs.declared.pool.PoolEnd.TheVariants as ending
 
 -- ---- nothing was served
 
@@ -105,6 +104,17 @@ module _ {G L : Type 0} (K : Ghosts L) (held_of : G → Option (Held L)) (faults
       let none = none_failed y new is in
       ((first_done x y old new e).all (end_cases y.2 false none.0), leave_none old new (others_done x y old new e) none.1)
 
+  -- a door whose count did not rise did not fail
+  unless_rose : (old new : List (Job G)) → EachDone old new → LeaveNoneUnlessRose faults_of held_of (map (λ (j : Job G). j.1) old) (map (λ (j : Job G). j.1) new)
+  unless_rose [] [] e = tt
+  unless_rose [] (y ∷ new) e = let many = e.0 in absurd (omega (arith, many))
+  unless_rose (x ∷ old) [] e = let many = e.0 in absurd (omega (arith, many))
+  unless_rose (x ∷ old) (y ∷ new) e = (by_failed (is_failed y.2) refl, unless_rose old new (others_done x y old new e))
+    where
+      by_failed : (b : Bool) → is_failed y.2 ≡ b → ¬ Rose (faults_of x.1) (faults_of y.1) → LeavesNone (held_of x.1) (held_of y.1)
+      by_failed true f still = absurd (still ((first_done x y old new e).cause.1 (end_cases y.2 true f)))
+      by_failed false f still = (first_done x y old new e).all (end_cases y.2 false f)
+
   -- ---- the end
 
   pub ends_as : (old new : List (Job G)) → AreDone K held_of faults_of public here old new → AreBack here new → (s : Seat) (failed : Bool) (past : History) (end : PoolEnd) → failed ≡ has_failed new → IsJoined here new (length new) s → IsWritten s failed past end
@@ -131,10 +141,11 @@ module _ {G L : Type 0} (K : Ghosts L) (held_of : G → Option (Held L)) (faults
         },
       )
 
-  pub all_left : (old new : List (Job G)) → AreDone K held_of faults_of public here old new → (s : Seat) (failed : Bool) (past : History) (end : PoolEnd) → failed ≡ has_failed new → IsWritten s failed past end → end ≡ ending.Served
-      → LeaveNone (map held_of (map (λ (j : Job G). j.1) old)) (map held_of (map (λ (j : Job G). j.1) new))
-  all_left old new e s failed past end is w served = by_failed failed refl
+  pub left_as : (old new : List (Job G)) → AreDone K held_of faults_of public here old new → (s : Seat) (failed : Bool) (past : History) (end : PoolEnd) → failed ≡ has_failed new → IsWritten s failed past end
+      → LeaveAs faults_of held_of (map (λ (j : Job G). j.1) old) (map (λ (j : Job G). j.1) new) end
+  left_as old new e s failed past end is w = subst (LeaveAs faults_of held_of (map (λ (j : Job G). j.1) old) (map (λ (j : Job G). j.1) new)) (sym w.end_is) (by_cases failed w.done refl)
     where
-      by_failed : (f : Bool) → failed ≡ f → LeaveNone (map held_of (map (λ (j : Job G). j.1) old)) (map held_of (map (λ (j : Job G). j.1) new))
-      by_failed true is_f = absurd (cc (sym served ∙ w.end_is ∙ ap (λ (b : Bool). end_of b w.done) is_f))
-      by_failed false is_f = leave_none old new (e.many, e.each) (sym is ∙ is_f)
+      by_cases : (f d : Bool) → failed ≡ f → LeaveAs faults_of held_of (map (λ (j : Job G). j.1) old) (map (λ (j : Job G). j.1) new) (end_of f d)
+      by_cases true d is_f = unless_rose old new (e.many, e.each)
+      by_cases false true is_f = leave_none old new (e.many, e.each) (sym is ∙ is_f)
+      by_cases false false is_f = leave_none old new (e.many, e.each) (sym is ∙ is_f)

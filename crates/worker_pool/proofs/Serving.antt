@@ -9,13 +9,12 @@ use Rattle.hist_lock.specs.Views.{Complete}
 use Rattle.link_door.specs.Doors.{Held}
 use Rattle.link_door.specs.declared.link.Link.{Ghosts}
 use Rattle.worker_pool.proofs.Closing.{all_served, head_of}
-use Rattle.worker_pool.proofs.Finishing.{all_left, ends_as}
+use Rattle.worker_pool.proofs.Finishing.{ends_as, left_as}
 use Rattle.worker_pool.proofs.Joining.{had_is}
 use Rattle.worker_pool.specs.Ending.{IsWritten}
 use Rattle.worker_pool.specs.Hiring.{AreGathered, AreHired, Job}
-use Rattle.worker_pool.specs.Pools.{AreServed, EndsAs, History, LeaveNone}
+use Rattle.worker_pool.specs.Pools.{AreServed, EndsAs, History, LeaveAs}
 use Rattle.worker_pool.specs.declared.pool.PoolEnd.{PoolEnd}
-use Rattle.worker_pool.specs.declared.pool.PoolEnd.TheVariants as ending
 
 -- a slice of a whole vector, as it comes back
 pub lent_back : {X : Type 0} (l back : List X) (n : ℕ) → length back ≡ n → take n (back ++ drop (length back) l) ≡ back
@@ -25,7 +24,7 @@ module _ {G L : Type 0} (K : Ghosts L) (held_of : G → Option (Held L)) (faults
   pub record Comes (o : Origin) (past : History) (before after : List G) (end : PoolEnd) : Type 0 where
     pub origin : past.origin ≡ o
     pub served : AreServed K public past (map held_of before) (map held_of after)
-    pub all : end ≡ ending.Served → LeaveNone (map held_of before) (map held_of after)
+    pub left : LeaveAs faults_of held_of before after end
     pub ends : EndsAs past (map faults_of before) (map faults_of after) end
 
   pub comes : (o : Origin) (old left : List (Job G)) (s : Seat) (failed : Bool) (past : History) (end : PoolEnd) (before after : List G) → AreHired here o old → AreGathered K held_of faults_of public here old left s failed → IsWritten s failed past end
@@ -42,9 +41,9 @@ module _ {G L : Type 0} (K : Ghosts L) (held_of : G → Option (Held L)) (faults
         served =
             subst (λ (l : List G). AreServed K public past (map held_of before) (map held_of l)) now
             (subst (λ (l : List G). AreServed K public past (map held_of l) (map held_of (map (λ (j : Job G). j.1) a.jobs))) was (all_served K held_of faults_of public here o old a.jobs h a.done s failed past end a.joined w c));
-        all = λ e.
-            subst (λ (l : List G). LeaveNone (map held_of before) (map held_of l)) now
-            (subst (λ (l : List G). LeaveNone (map held_of l) (map held_of (map (λ (j : Job G). j.1) a.jobs))) was (all_left K held_of faults_of public here old a.jobs a.done s failed past end a.failed_is w e));
+        left =
+            subst (λ (l : List G). LeaveAs faults_of held_of before l end) now
+            (subst (λ (l : List G). LeaveAs faults_of held_of l (map (λ (j : Job G). j.1) a.jobs) end) was (left_as K held_of faults_of public here old a.jobs a.done s failed past end a.failed_is w));
         ends =
             subst (λ (l : List G). EndsAs past (map faults_of before) (map faults_of l) end) now
             (subst (λ (l : List G). EndsAs past (map faults_of l) (map faults_of (map (λ (j : Job G). j.1) a.jobs)) end) was (ends_as K held_of faults_of public here old a.jobs a.done a.back s failed past end a.failed_is a.joined w c));

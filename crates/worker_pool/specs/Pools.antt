@@ -1,5 +1,5 @@
 -- Many doors, each served by a worker of its own, in the history of the exchange that they share.
-use Rattle.std.specs.Prelude.{◌≡◌, ℕ, ◌+◌, ◌≤◌, List, [], ◌∷◌, ◌++◌, All, length, slice_get, sum_by, take, Option, Some, ⊤}
+use Rattle.std.specs.Prelude.{◌≡◌, ℕ, ◌+◌, ◌≤◌, List, [], ◌∷◌, ◌++◌, All, length, map, slice_get, sum_by, take, Option, Some, ⊤}
 use Rattle.door_worker.specs.Answers.{Answered, AreDurable, ArePublished, IsRight, calls_of, store_failed}
 use Rattle.door_worker.specs.Doors.{AreHeld, LeavesNone}
 use Rattle.exchange_shared.specs.Seats.{effects_in}
@@ -61,6 +61,22 @@ LeaveNone [] [] = ⊤
 LeaveNone (held ∷ helds) (after ∷ afters) = LeavesNone held after × LeaveNone helds afters
 LeaveNone [] (after ∷ afters) = ⊥
 LeaveNone (held ∷ helds) [] = ⊥
+
+-- no link is left at each door whose count of faults did not rise
+abbrev pub LeaveNoneUnlessRose : {G L : Type 0} → (G → ℕ) → (G → Option (Held L)) → List G → List G → Type 0
+LeaveNoneUnlessRose faults_of held_of [] [] = ⊤
+LeaveNoneUnlessRose faults_of held_of (door ∷ doors) (after ∷ afters) =
+    (¬ Rose (faults_of door) (faults_of after) → LeavesNone (held_of door) (held_of after)) × LeaveNoneUnlessRose faults_of held_of doors afters
+LeaveNoneUnlessRose faults_of held_of [] (after ∷ afters) = ⊥
+LeaveNoneUnlessRose faults_of held_of (door ∷ doors) [] = ⊥
+
+-- What is left at the doors, by how the serving ended: where no door failed nothing, also where the last write was not done; and
+-- where one did, nothing at those whose count did not rise.
+abbrev pub LeaveAs : {G L : Type 0} → (G → ℕ) → (G → Option (Held L)) → List G → List G → PoolEnd → Type 0
+LeaveAs faults_of held_of doors afters ending.Served = LeaveNone (map held_of doors) (map held_of afters)
+LeaveAs faults_of held_of doors afters ending.DoorFailed = LeaveNoneUnlessRose faults_of held_of doors afters
+LeaveAs faults_of held_of doors afters ending.LastWriteFailed = LeaveNone (map held_of doors) (map held_of afters)
+LeaveAs faults_of held_of doors afters ending.Memory = ⊤
 
 -- some door's count of faults rose
 abbrev pub SomeRose : List ℕ → List ℕ → Type 0

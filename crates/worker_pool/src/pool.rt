@@ -8,7 +8,7 @@ ghost use Rattle.hist_lock.specs.Views.{Complete, first_seat};
 ghost use Rattle.rtb_base.specs.Faults.{RoseBy};
 ghost use Rattle.rtb_disk.specs.Stores.{EachImage};
 ghost use Rattle.worker_pool.specs.Ending.{IsWritten, end_of};
-ghost use Rattle.worker_pool.specs.Pools.{AreServed, EndsAs, KeepsBudgets, LeaveNone};
+ghost use Rattle.worker_pool.specs.Pools.{AreServed, EndsAs, KeepsBudgets, LeaveAs};
 
 use crate::hiring::hire;
 use crate::jobs::{doors_of, serve_jobs};
@@ -78,7 +78,7 @@ pub fn serve_doors<
     ensures images { result.past.origin.told ≡ true → EachImage (SaysFront result.past.origin result.past.seen) (D.store result.disk).now }
     ensures faults { D.faults result.disk ≡ faults_told result.past.origin result.past.seen }
     ensures counted { RoseBy (failures result.past.seen) result.past.origin.faults (D.faults result.disk) }
-    ensures all { result.end ≡ PoolEnd.Served → LeaveNone (map G.held doors) (map G.held result.doors) }
+    ensures left { LeaveAs G.faults G.held doors result.doors result.end }
     ensures end { EndsAs result.past (map G.faults doors) (map G.faults result.doors) result.end }
 {
     match hire(&exchange, alloc, seat, doors) {

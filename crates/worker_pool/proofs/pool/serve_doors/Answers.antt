@@ -24,14 +24,14 @@ returns-in-Ok-clause-served g c =
     let is = c.write_last.ensures.doors ∙ c.doors_of-doors.ensures ∙ ap (map (λ (j : Job g.row.G.Denot). j.1)) back in
     (comes _ _ _ _ _ _ jobs _ _ _ _ _ _ _ hired c.serve_jobs-seat.ensures c.write_last.ensures.written c.write_last.ensures.complete was is).served
 
-pub returns-in-Ok-clause-all : goal.returns-in-Ok-clause-all
-returns-in-Ok-clause-all g c =
+pub returns-in-Ok-clause-left : goal.returns-in-Ok-clause-left
+returns-in-Ok-clause-left g c =
     let jobs : List (Job g.row.G.Denot) = c.as_mut_slice.result.now in
     let hired = subst (AreHired (lock_of c.args.exchange) c.args.seat.origin) (sym c.as_mut_slice.ensures.value) c.in-Ok.ensures.hired in
     let was = ap (map (λ (j : Job g.row.G.Denot). j.1)) c.as_mut_slice.ensures.value ∙ c.in-Ok.ensures.doors in
     let back = lent_back _ c.serve_jobs-seat.new.jobs _ (c.serve_jobs-seat.ensures.many ∙ c.as_mut_slice.ensures.len) in
     let is = c.write_last.ensures.doors ∙ c.doors_of-doors.ensures ∙ ap (map (λ (j : Job g.row.G.Denot). j.1)) back in
-    (comes _ _ _ _ _ _ jobs _ _ _ _ _ _ _ hired c.serve_jobs-seat.ensures c.write_last.ensures.written c.write_last.ensures.complete was is).all
+    (comes _ _ _ _ _ _ jobs _ _ _ _ _ _ _ hired c.serve_jobs-seat.ensures c.write_last.ensures.written c.write_last.ensures.complete was is).left
 
 pub returns-in-Ok-clause-end : goal.returns-in-Ok-clause-end
 returns-in-Ok-clause-end g c =
