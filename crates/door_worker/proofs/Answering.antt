@@ -3,13 +3,13 @@ use Rattle.std.proofs.Common.{◌≡◌, inl, ℕ, ◌+◌, ◌≤◌, ◌&&◌,
 use Rattle.std.specs.Prelude.{All, IfOk, IsTrue, OnErr}
 use Rattle.std.proofs.lemmas.List.Elements.{All-append, All-cons, All-nil, filter_map-append}
 use Rattle.auction_core.specs.Draft.{is_valid_command}
-use Rattle.command_read.specs.Commands.{IsCommandOf}
 use Rattle.command_read.specs.Memory.{UnlessMemory}
 use Rattle.command_read.specs.declared.fault.CommandFault.{CommandFault}
 use Rattle.command_read.specs.declared.fault.CommandFault.TheVariants as unread
 use Rattle.conj_index.specs.Campaigns.{Campaigns}
 use Rattle.conj_index.specs.Content.{IsIndexOf}
 use Rattle.door_worker.specs.Answers.{Answered, Answers, AreDurable, ArePublished, Goes, IsDurable, IsPublished, IsRight, LeadsTo, calls_of, is_answer, is_edit, is_store_failed, request_of, store_failed}
+use Rattle.door_worker.specs.Languages.{Language}
 use Rattle.door_worker.specs.Working.{AnswersOne, Concludes, Entered, IsGivenFor, IsGivenUnread, IsKnown, IsTold, Tells, call_at}
 use Rattle.door_worker.proofs.Going.{durable_now, durable_on, goes_called, goes_fails, goes_none, goes_on, goes_waits, published_on, worker_is}
 use Rattle.exchange_shared.specs.Seats.{Calls, Fails, MayBeSettled, Seat, Waits, effects_in}
@@ -83,28 +83,28 @@ pub none_failed : (n : ℕ) → 0 + n ≡ n
 none_failed n = omega arith
 
 -- the effects are durable, and this is told of the reply
-pub told : (public : List ℕ) (command : Command) (reply : Reply) (s m t : Seat) (gave : Given) → Goes [] 0 s m → effects_in s.origin s.seen ≤ stable m.seen → Tells public command reply m gave t → IsKnown m t
-    → Concludes public command reply s gave t
-told public command reply s m t gave g le x known = record {
+pub told : (language : Language) (command : Command) (reply : Reply) (s m t : Seat) (gave : Given) → Goes [] 0 s m → effects_in s.origin s.seen ≤ stable m.seen → Tells language command reply m gave t → IsKnown m t
+    → Concludes language command reply s gave t
+told language command reply s m t gave g le x known = record {
   given_is = by_given gave x.told;
   goes = not_failed gave x.told;
   durable = λ is. durable_on 0 [] 0 m t x.goes (durable_now 0 s m g le);
   published = x.published;
 } where
-  by_given : (gave : Given) → IsTold (request_of command) public reply gave → IsGivenFor public command reply gave
+  by_given : (gave : Given) → IsTold (request_of command) language reply gave → IsGivenFor language command reply gave
   by_given (given.Text answer entered) is = is
   by_given given.StoreFailed is = tt
   by_given given.MemoryLate is = tt
   by_given given.Memory is = is
 
-  not_failed : (gave : Given) → IsTold (request_of command) public reply gave → Goes [] (cond (is_store_failed gave) 1 0) s t
+  not_failed : (gave : Given) → IsTold (request_of command) language reply gave → Goes [] (cond (is_store_failed gave) 1 0) s t
   not_failed (given.Text answer entered) is = goes_on [] [] 0 0 s m t g x.goes
   not_failed given.StoreFailed is = absurd is
   not_failed given.MemoryLate is = goes_on [] [] 0 0 s m t g x.goes
   not_failed given.Memory is = absurd is
 
-pub store_failed_told : (public : List ℕ) (command : Command) (reply : Reply) (s t : Seat) → Fails s t → Concludes public command reply s given.StoreFailed t
-store_failed_told public command reply s t f = record {
+pub store_failed_told : (language : Language) (command : Command) (reply : Reply) (s t : Seat) → Fails s t → Concludes language command reply s given.StoreFailed t
+store_failed_told language command reply s t f = record {
   given_is = tt;
   goes = goes_fails s t f;
   durable = λ is. absurd (cc is);
@@ -112,9 +112,9 @@ store_failed_told public command reply s t f = record {
 }
 
 -- a command that has its call, and what is given for it
-pub answered : (public : List ℕ) (moment : ℕ) (command : Command) (message : Message) (settled : Settled) (s m t : Seat) (gave : Given) → IsCommandOf message (Ok command) → Entered command moment s m settled
-    → Concludes public command settled.reply m gave t → IsKnown s t → AnswersOne public moment s message gave t
-answered public moment command message settled s m t gave read e c known = record {
+pub answered : (language : Language) (moment : ℕ) (command : Command) (message : Message) (settled : Settled) (s m t : Seat) (gave : Given) → language.Asks message (Ok command) → Entered command moment s m settled
+    → Concludes language command settled.reply m gave t → IsKnown s t → AnswersOne language moment s message gave t
+answered language moment command message settled s m t gave read e c known = record {
   call = Some (call_at s.worker command moment settled.reply);
   right = by_given gave c.given_is;
   goes = subst (λ (n : ℕ). Goes (call_at s.worker command moment settled.reply ∷ []) n s t) (none_failed (cond (is_store_failed gave) 1 0))
@@ -123,7 +123,7 @@ answered public moment command message settled s m t gave read e c known = recor
   published = edited (is_answer gave) (is_edit command) c.published;
   known = known;
 } where
-  by_given : (gave : Given) → IsGivenFor public command settled.reply gave → LeadsTo public s.worker moment message gave (Some (call_at s.worker command moment settled.reply))
+  by_given : (gave : Given) → IsGivenFor language command settled.reply gave → LeadsTo language s.worker moment message gave (Some (call_at s.worker command moment settled.reply))
   by_given (given.Text answer true) (is, answer_is) = (record { read = read; worker = refl; moment_is = refl }, answer_is)
   by_given (given.Text answer false) (is, answer_is) = absurd (cc is)
   by_given given.StoreFailed is = record { read = read; worker = refl; moment_is = refl }
@@ -135,8 +135,8 @@ answered public moment command message settled s m t gave read e c known = recor
   edited false b p is = absurd (cc is)
 
 -- a command for which memory was refused before its call
-pub unanswered : (public : List ℕ) (moment : ℕ) (message : Message) (s t : Seat) → Goes [] 0 s t → IsKnown s t → AnswersOne public moment s message given.Memory t
-unanswered public moment message s t g known = record {
+pub unanswered : (language : Language) (moment : ℕ) (message : Message) (s t : Seat) → Goes [] 0 s t → IsKnown s t → AnswersOne language moment s message given.Memory t
+unanswered language moment message s t g known = record {
   call = None;
   right = tt;
   goes = g;
@@ -146,8 +146,8 @@ unanswered public moment message s t g known = record {
 }
 
 -- what is read as no command
-pub refused : (public : List ℕ) (moment : ℕ) (message : Message) (s : Seat) (f : CommandFault) (gave : Given) → s.turn ≡ false → UnlessMemory (IsCommandOf message) (Err f) → IsGivenUnread f gave → AnswersOne public moment s message gave s
-refused public moment message s (unread.Refused answer) gave free read is = subst (λ (g : Given). AnswersOne public moment s message g s) (sym is) (record {
+pub refused : (language : Language) (moment : ℕ) (message : Message) (s : Seat) (f : CommandFault) (gave : Given) → s.turn ≡ false → UnlessMemory (language.Asks message) (Err f) → IsGivenUnread f gave → AnswersOne language moment s message gave s
+refused language moment message s (unread.Refused answer) gave free read is = subst (λ (g : Given). AnswersOne language moment s message g s) (sym is) (record {
   call = None;
   right = read;
   goes = goes_none s free;
@@ -155,20 +155,20 @@ refused public moment message s (unread.Refused answer) gave free read is = subs
   published = λ no_call. absurd (cc no_call);
   known = inl refl;
 })
-refused public moment message s unread.Memory gave free read is = subst (λ (g : Given). AnswersOne public moment s message g s) (sym is)
-    (unanswered public moment message s s (goes_none s free) (inl refl))
+refused language moment message s unread.Memory gave free read is = subst (λ (g : Given). AnswersOne language moment s message g s) (sym is)
+    (unanswered language moment message s s (goes_none s free) (inl refl))
 
 -- ---- messages in a row
 
-pub answers_none : (public : List ℕ) (s : Seat) → s.turn ≡ false → Answers public [] s s
-answers_none public s free = record { right = All-nil (IsRight public s.worker); goes = goes_none s free; durable = tt; published = tt }
+pub answers_none : (language : Language) (s : Seat) → s.turn ≡ false → Answers language [] s s
+answers_none language s free = record { right = All-nil (IsRight language s.worker); goes = goes_none s free; durable = tt; published = tt }
 
-pub answers_one : (public text : List ℕ) (moment : ℕ) (message : Message) (gave : Given) (s t : Seat) (one : AnswersOne public moment s message gave t)
-    → Answers public (record { turn = record { message = message; given = gave; text = text }; moment = moment; call = one.call } ∷ []) s t
-answers_one public text moment message gave s t one =
+pub answers_one : (language : Language) (text : List ℕ) (moment : ℕ) (message : Message) (gave : Given) (s t : Seat) (one : AnswersOne language moment s message gave t)
+    → Answers language (record { turn = record { message = message; given = gave; text = text }; moment = moment; call = one.call } ∷ []) s t
+answers_one language text moment message gave s t one =
     let a : Answered = record { turn = record { message = message; given = gave; text = text }; moment = moment; call = one.call } in
     record {
-      right = All-cons (IsRight public s.worker) a [] one.right (All-nil (IsRight public s.worker));
+      right = All-cons (IsRight language s.worker) a [] one.right (All-nil (IsRight language s.worker));
       goes = counted one.call (is_store_failed gave) one.goes;
       durable = (one.durable, tt);
       published = (one.published, tt);
@@ -197,9 +197,9 @@ published_then i [] m s t g d e = e
 published_then i (a ∷ l) m s t g d e =
     (λ is. subst (λ (n : ℕ). IsPublished n t.worker t.origin t.seen) (count_then l m) (published_on (length (calls_of l)) (calls_of m) i s t g (d.0 is)), published_then i l m s t g d.1 e)
 
-pub answers_then : (public : List ℕ) (l m : List Answered) (s t u : Seat) → Answers public l s t → Answers public m t u → IsKnown t u → Answers public (l ++ m) s u
-answers_then public l m s t u a b known = record {
-  right = All-append (IsRight public s.worker) l m a.right (subst (λ (w : ℕ). All (IsRight public w) m) (worker_is (calls_of l) (store_failed l) s t a.goes) b.right);
+pub answers_then : (language : Language) (l m : List Answered) (s t u : Seat) → Answers language l s t → Answers language m t u → IsKnown t u → Answers language (l ++ m) s u
+answers_then language l m s t u a b known = record {
+  right = All-append (IsRight language s.worker) l m a.right (subst (λ (w : ℕ). All (IsRight language w) m) (worker_is (calls_of l) (store_failed l) s t a.goes) b.right);
   goes = subst (λ (c : List Call). Goes c (store_failed (l ++ m)) s u) (sym (calls_then l m))
       (subst (λ (n : ℕ). Goes (calls_of l ++ calls_of m) n s u) (sym (count_append (λ (x : Answered). is_store_failed x.turn.given) l m))
       (goes_on (calls_of l) (calls_of m) (store_failed l) (store_failed m) s t u a.goes b.goes));

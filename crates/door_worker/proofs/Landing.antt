@@ -3,8 +3,8 @@ use Rattle.std.proofs.Common.{◌≡◌, inr, ℕ, ◌≤◌, cond, true, false,
 use Rattle.std.specs.Prelude.{IsTrue}
 use Rattle.std.proofs.lemmas.List.Sums.{fold-append}
 use Rattle.auction_core.specs.Draft.{is_simple, is_valid_command}
-use Rattle.command_read.specs.Commands.{IsCommandOf}
 use Rattle.door_worker.specs.Answers.{Goes, LeadsTo, is_edit, is_store_failed}
+use Rattle.door_worker.specs.Languages.{Language}
 use Rattle.door_worker.specs.Working.{AnswersOne, Entered, Tells, call_at}
 use Rattle.door_worker.proofs.Answering.{answered, none_failed, told}
 use Rattle.door_worker.proofs.Going.{goes_called_by, goes_on, goes_put, goes_taken, goes_waits, known_then, worker_is}
@@ -73,25 +73,25 @@ lands_durable c moment s t x l =
 -- ---- what is given
 
 -- this is told of one that is durable
-pub answered_durable : (public : List ℕ) (moment : ℕ) (c : Command) (message : Message) (x : Settled) (s m t : Seat) (gave : Given) → IsCommandOf message (Ok c) → Lands c moment s m x true → Tells public c x.reply m gave t → IsRising t.origin t.seen
-    → AnswersOne public moment s message gave t
-answered_durable public moment c message x s m t gave read l tells rising =
-    answered public moment c message x s l.calling t gave read (lands_entered c moment s m x true l)
-    (told public c x.reply l.calling m t gave (lands_put c moment s m x true l) (lands_durable c moment s m x l) tells (inr rising)) (inr rising)
+pub answered_durable : (language : Language) (moment : ℕ) (c : Command) (message : Message) (x : Settled) (s m t : Seat) (gave : Given) → language.Asks message (Ok c) → Lands c moment s m x true → Tells language c x.reply m gave t → IsRising t.origin t.seen
+    → AnswersOne language moment s message gave t
+answered_durable language moment c message x s m t gave read l tells rising =
+    answered language moment c message x s l.calling t gave read (lands_entered c moment s m x true l)
+    (told language c x.reply l.calling m t gave (lands_put c moment s m x true l) (lands_durable c moment s m x l) tells (inr rising)) (inr rising)
 
 -- a call of the disk failed
-pub answered_failed : (public : List ℕ) (moment : ℕ) (c : Command) (message : Message) (x : Settled) (s t : Seat) → IsCommandOf message (Ok c) → Lands c moment s t x false → IsRising t.origin t.seen → AnswersOne public moment s message given.StoreFailed t
-answered_failed public moment c message x s t read l rising =
-    answered public moment c message x s l.calling t given.StoreFailed read (lands_entered c moment s t x false l)
+pub answered_failed : (language : Language) (moment : ℕ) (c : Command) (message : Message) (x : Settled) (s t : Seat) → language.Asks message (Ok c) → Lands c moment s t x false → IsRising t.origin t.seen → AnswersOne language moment s message given.StoreFailed t
+answered_failed language moment c message x s t read l rising =
+    answered language moment c message x s l.calling t given.StoreFailed read (lands_entered c moment s t x false l)
     (record { given_is = tt; goes = lands_put c moment s t x false l; durable = λ no. absurd (cc no); published = λ no. absurd (cc no) }) (inr rising)
 
 -- it could not go ahead, and is answered in turn
-pub answered_behind : (public : List ℕ) (moment : ℕ) (message : Message) (gave : Given) (s m t : Seat) → Waits s m → IsRising m.origin m.seen → AnswersOne public moment m message gave t → AnswersOne public moment s message gave t
-answered_behind public moment message gave s m t w rising one =
+pub answered_behind : (language : Language) (moment : ℕ) (message : Message) (gave : Given) (s m t : Seat) → Waits s m → IsRising m.origin m.seen → AnswersOne language moment m message gave t → AnswersOne language moment s message gave t
+answered_behind language moment message gave s m t w rising one =
     let g : Goes [] 0 s m = goes_waits s m w in
     record {
       call = one.call;
-      right = subst (λ (v : ℕ). LeadsTo public v moment message gave one.call) (worker_is [] 0 s m g) one.right;
+      right = subst (λ (v : ℕ). LeadsTo language v moment message gave one.call) (worker_is [] 0 s m g) one.right;
       goes = subst (λ (n : ℕ). Goes (option_to_list one.call) n s t) (none_failed (cond (is_store_failed gave) 1 0))
           (goes_on [] (option_to_list one.call) 0 (cond (is_store_failed gave) 1 0) s m t g one.goes);
       durable = one.durable;

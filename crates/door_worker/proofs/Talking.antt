@@ -2,7 +2,8 @@
 use Rattle.std.proofs.Common.{◌≡◌, inl, ℕ, ◌+◌, List, [], ◌∷◌, ◌++◌, drop, false, refl, sym, ◌∙◌, ap, subst, Option, Some, None}
 use Rattle.std.specs.Prelude.{IfSome, option_map, slice_get}
 use Rattle.door_worker.specs.Answers.{Answered}
-use Rattle.door_worker.specs.Doors.{Any, HasTalk, IsNow, TakesMoments}
+use Rattle.door_worker.specs.Doors.{HasTalk, IsNow, TakesMoments}
+use Rattle.door_worker.specs.Languages.{Any, Language, rtb}
 use Rattle.door_worker.specs.Working.{AnswersBy, AnswersOne, KeepsLinks, SameLinks, Talked, Works, moments_of}
 use Rattle.door_worker.proofs.Answering.{answers_none, answers_one, answers_then}
 use Rattle.door_worker.proofs.Going.{free_is, known_then}
@@ -43,48 +44,48 @@ moment_now (Some h) moment is = is
 -- ---- messages
 
 module _ {S L : Type 0} (A : S → Message → Given → S → Type 0) (p : S → List ℕ) (seat : S → Option Seat) (h : S → Option (Held L))
-    (works : (s : S) (m : Message) (g : Given) (t : S) → A s m g t → Works (p s) (seat s) (h s) m g (seat t) (h t))
+    (works : (s : S) (m : Message) (g : Given) (t : S) → A s m g t → Works (rtb (p s)) (seat s) (h s) m g (seat t) (h t))
     (same : (s : S) (m : Message) (g : Given) (t : S) → A s m g t → p t ≡ p s) where
-  talked_none : (public : List ℕ) (x y : S) (s : Seat) → seat x ≡ Some s → s.turn ≡ false → y ≡ x → Talked public [] s (h x) (seat y) (h y)
-  talked_none public x y s is free e = subst (λ (z : S). Talked public [] s (h x) (seat z) (h z)) (sym e) (record {
+  talked_none : (language : Language) (x y : S) (s : Seat) → seat x ≡ Some s → s.turn ≡ false → y ≡ x → Talked language [] s (h x) (seat y) (h y)
+  talked_none language x y s is free e = subst (λ (z : S). Talked language [] s (h x) (seat z) (h z)) (sym e) (record {
     all = [];
     turns_are = refl;
     now = s;
     seat_is = is;
-    answers = answers_none public s free;
+    answers = answers_none language s free;
     known = inl refl;
     moments = refl;
     links = links_same (h x);
   })
 
-  talked_then : (public : List ℕ) (turn : Turn) (turns : List Turn) (x y z : S) (s t : Seat) (w : Works public (seat x) (h x) turn.message turn.given (seat y) (h y)) → AnswersOne public w.moment s turn.message turn.given t
-      → Talked public turns t (h y) (seat z) (h z) → Talked public (turn ∷ turns) s (h x) (seat z) (h z)
-  talked_then public turn turns x y z s t w one more =
+  talked_then : (language : Language) (turn : Turn) (turns : List Turn) (x y z : S) (s t : Seat) (w : Works language (seat x) (h x) turn.message turn.given (seat y) (h y)) → AnswersOne language w.moment s turn.message turn.given t
+      → Talked language turns t (h y) (seat z) (h z) → Talked language (turn ∷ turns) s (h x) (seat z) (h z)
+  talked_then language turn turns x y z s t w one more =
       let a : Answered = record { turn = turn; moment = w.moment; call = one.call } in
       record {
         all = a ∷ more.all;
         turns_are = ap (λ l. turn ∷ l) more.turns_are;
         now = more.now;
         seat_is = more.seat_is;
-        answers = answers_then public (a ∷ []) more.all s t more.now (answers_one public turn.text w.moment turn.message turn.given s t one) more.answers more.known;
+        answers = answers_then language (a ∷ []) more.all s t more.now (answers_one language turn.text w.moment turn.message turn.given s t one) more.answers more.known;
         known = known_then s t more.now one.known more.known;
         moments = (w.now, subst (λ (ms : Option (List ℕ)). TakesMoments ms more.all (moments_of (h z))) (moments_later (h x) (h y) w.held_is) more.moments);
         links = links_then (h x) (h y) (h z) (moment_taken (h x) (h y) w.held_is) more.links;
       }
 
-  by_seat : (public : List ℕ) (moment : ℕ) (o : Option Seat) (s : Seat) (m : Message) (g : Given) (o' : Option Seat) → o ≡ Some s → AnswersBy public moment o m g o' → (t : Seat) × (o' ≡ Some t) × AnswersOne public moment s m g t
-  by_seat public moment o s m g o' is a = subst (λ (x : Option Seat). AnswersBy public moment x m g o') is a
+  by_seat : (language : Language) (moment : ℕ) (o : Option Seat) (s : Seat) (m : Message) (g : Given) (o' : Option Seat) → o ≡ Some s → AnswersBy language moment o m g o' → (t : Seat) × (o' ≡ Some t) × AnswersOne language moment s m g t
+  by_seat language moment o s m g o' is a = subst (λ (x : Option Seat). AnswersBy language moment x m g o') is a
 
-  talked : (public : List ℕ) (turns : List Turn) (k : ℕ) (x z : S) (s : Seat) (bytes rest : List ℕ) → p x ≡ public → seat x ≡ Some s → s.turn ≡ false → Talks A k x bytes turns z rest → Talked public turns s (h x) (seat z) (h z)
-  talked public [] k x z s bytes rest e is free talk = talked_none public x z s is free talk.0
+  talked : (public : List ℕ) (turns : List Turn) (k : ℕ) (x z : S) (s : Seat) (bytes rest : List ℕ) → p x ≡ public → seat x ≡ Some s → s.turn ≡ false → Talks A k x bytes turns z rest → Talked (rtb public) turns s (h x) (seat z) (h z)
+  talked public [] k x z s bytes rest e is free talk = talked_none (rtb public) x z s is free talk.0
   talked public (turn ∷ turns) k x z s bytes rest e is free (y, used, decides, answers, text, more) =
-      let w : Works public (seat x) (h x) turn.message turn.given (seat y) (h y) = subst (λ (q : List ℕ). Works q (seat x) (h x) turn.message turn.given (seat y) (h y)) e (works x turn.message turn.given y answers) in
-      let b = by_seat public w.moment (seat x) s turn.message turn.given (seat y) is w.answers in
-      talked_then public turn turns x y z s b.0 w b.2
+      let w : Works (rtb public) (seat x) (h x) turn.message turn.given (seat y) (h y) = subst (λ (q : List ℕ). Works (rtb q) (seat x) (h x) turn.message turn.given (seat y) (h y)) e (works x turn.message turn.given y answers) in
+      let b = by_seat (rtb public) w.moment (seat x) s turn.message turn.given (seat y) is w.answers in
+      talked_then (rtb public) turn turns x y z s b.0 w b.2
       (talked public turns (k + 1) y z b.0 (drop used bytes) rest (same x turn.message turn.given y answers ∙ e) b.1 (free_is _ _ s b.0 b.2.goes) more)
 
   pub served_talked : (x z : S) (s : Seat) (left left' sent sent' : Option (List ℕ)) (steps : ℕ) (end : LinkEnd) → seat x ≡ Some s → s.turn ≡ false
-      → (i : IsServed A x z left left' sent sent' steps end) → Talked (p x) i.turns s (h x) (seat z) (h z)
+      → (i : IsServed A x z left left' sent sent' steps end) → Talked (rtb (p x)) i.turns s (h x) (seat z) (h z)
   served_talked x z s left left' sent sent' steps end is free i = talked (p x) i.turns 0 x z s (i.came ++ []) (i.rest ++ []) refl is free (i.talks [])
 
 -- what every answer keeps, a conversation keeps
@@ -122,17 +123,15 @@ module _ {S : Type 0} {A : S → Message → Given → S → Type 0} {x z : S} {
   pub keeps : {F : Type 0} (f : S → F) → ((s : S) (m : Message) (g : Given) (t : S) → A s m g t → f t ≡ f s) → f z ≡ f x
   keeps f same = served_kept A f same x z left left' sent sent' steps end i
 
-  pub talked_by : {L : Type 0} (p : S → List ℕ) (seat : S → Option Seat) (h : S → Option (Held L)) → ((s : S) (m : Message) (g : Given) (t : S) → A s m g t → Works (p s) (seat s) (h s) m g (seat t) (h t))
-      → ((s : S) (m : Message) (g : Given) (t : S) → A s m g t → p t ≡ p s) → (s : Seat) → seat x ≡ Some s → s.turn ≡ false → Talked (p x) i.turns s (h x) (seat z) (h z)
+  pub talked_by : {L : Type 0} (p : S → List ℕ) (seat : S → Option Seat) (h : S → Option (Held L)) → ((s : S) (m : Message) (g : Given) (t : S) → A s m g t → Works (rtb (p s)) (seat s) (h s) m g (seat t) (h t))
+      → ((s : S) (m : Message) (g : Given) (t : S) → A s m g t → p t ≡ p s) → (s : Seat) → seat x ≡ Some s → s.turn ≡ false → Talked (rtb (p x)) i.turns s (h x) (seat z) (h z)
   talked_by p seat h works same s is free = served_talked A p seat h works same x z s left left' sent sent' steps end is free i
 
-pub has_talk : {L : Type 0} (K : Ghosts L) {S : Type 0} {A : S → Message → Given → S → Type 0} {x z : S} (link after : L) (steps : ℕ) (end : LinkEnd)
-    → (i : IsServed A x z (K.left link) (K.left after) (K.sent link) (K.sent after) steps end) → RisesOnlyWhere (end ≡ LinkFailed) (K.faults link) (K.faults after) → HasTalk K link after i.turns
+pub has_talk : {L : Type 0} (K : Ghosts L) (public : List ℕ) {S : Type 0} {A : S → Message → Given → S → Type 0} {x z : S} (link after : L) (steps : ℕ) (end : LinkEnd)
+    → (i : IsServed A x z (K.left link) (K.left after) (K.sent link) (K.sent after) steps end) → RisesOnlyWhere (end ≡ LinkFailed) (K.faults link) (K.faults after) → HasTalk K (rtb public) link after i.turns
 unfolding any_served
-has_talk K {S} {A} {x} {z} link after steps end i cause = record {
-  steps = steps;
+has_talk K public {S} {A} {x} {z} link after steps end i cause = record {
   end = end;
-  served = any_served A x z (K.left link) (K.left after) (K.sent link) (K.sent after) steps end i;
-  turns_are = refl;
+  talk = record { steps = steps; served = any_served A x z (K.left link) (K.left after) (K.sent link) (K.sent after) steps end i; turns_are = refl };
   cause = cause;
 }

@@ -3,7 +3,7 @@
 use Rattle.std.specs.Prelude.{◌≡◌, ℕ, ◌+◌, ◌<◌, ◌≤◌, ◌&&◌, Bool, true, false, List, [], ◌∷◌, ◌++◌, All, count_by, length, Option, None, Some, Ok, Err, ⊤}
 use Rattle.std.specs.List.{filter_map}
 use Rattle.std.specs.Option.{option_map_or}
-use Rattle.command_read.specs.Commands.{IsCommandOf}
+use Rattle.door_worker.specs.Languages.{Language}
 use Rattle.exchange_shared.specs.Seats.{Seat, effects_in}
 use Rattle.exchange_state.specs.declared.entries.Entry.{Entry}
 use Rattle.exchange_state.specs.declared.entries.Origin.{Origin}
@@ -14,7 +14,6 @@ use Rattle.http_wire.specs.declared.message.Message.{Message}
 use Rattle.plain_exchange.specs.declared.commands.Command.{Command}
 use Rattle.plain_exchange.specs.declared.commands.Command.TheVariants as command
 use Rattle.plain_exchange.specs.History.{Call}
-use Rattle.rtb_response.specs.Replies.{answer_of}
 use Rattle.rtb_types.specs.declared.request.BidRequest.{BidRequest}
 use Rattle.session.specs.declared.service.Given.{Given}
 use Rattle.session.specs.declared.service.Given.TheVariants as given
@@ -46,27 +45,27 @@ is_edit (command.Lose n) = false
 
 -- ---- one message
 
--- the message is the call's command, and the call is worker w's at the moment
-pub record IsCallOf (w moment : ℕ) (message : Message) (call : Call) : Type 0 where
-  pub read : IsCommandOf message (Ok call.command)
+-- the message asks for the call's command, and the call is worker w's at the moment
+pub record IsCallOf (language : Language) (w moment : ℕ) (message : Message) (call : Call) : Type 0 where
+  pub read : language.Asks message (Ok call.command)
   pub worker : call.worker ≡ w
   pub moment_is : call.moment ≡ moment
 
--- What a message leads to, where `public` is what the addresses of notices begin with. A command has its call, and what
+-- What a message leads to, in the language. A command has its call, and what
 -- is given is the answer of the call's reply, or tells that the store failed, or that memory was refused behind the
 -- call. What is no command has its refusal and no call, and so has a message for which memory was refused before.
-abbrev pub LeadsTo : List ℕ → ℕ → ℕ → Message → Given → Option Call → Type 0
-LeadsTo public w moment message (given.Text answer true) (Some call) =
-    IsCallOf w moment message call × (answer ≡ answer_of (request_of call.command) (Some public) call.reply)
-LeadsTo public w moment message (given.Text answer true) None = ⊥
-LeadsTo public w moment message (given.Text answer false) (Some call) = ⊥
-LeadsTo public w moment message (given.Text answer false) None = IsCommandOf message (Err answer)
-LeadsTo public w moment message given.StoreFailed (Some call) = IsCallOf w moment message call
-LeadsTo public w moment message given.StoreFailed None = ⊥
-LeadsTo public w moment message given.MemoryLate (Some call) = IsCallOf w moment message call
-LeadsTo public w moment message given.MemoryLate None = ⊥
-LeadsTo public w moment message given.Memory (Some call) = ⊥
-LeadsTo public w moment message given.Memory None = ⊤
+abbrev pub LeadsTo : Language → ℕ → ℕ → Message → Given → Option Call → Type 0
+LeadsTo language w moment message (given.Text answer true) (Some call) =
+    IsCallOf language w moment message call × (answer ≡ language.says (request_of call.command) call.reply)
+LeadsTo language w moment message (given.Text answer true) None = ⊥
+LeadsTo language w moment message (given.Text answer false) (Some call) = ⊥
+LeadsTo language w moment message (given.Text answer false) None = language.Asks message (Err answer)
+LeadsTo language w moment message given.StoreFailed (Some call) = IsCallOf language w moment message call
+LeadsTo language w moment message given.StoreFailed None = ⊥
+LeadsTo language w moment message given.MemoryLate (Some call) = IsCallOf language w moment message call
+LeadsTo language w moment message given.MemoryLate None = ⊥
+LeadsTo language w moment message given.Memory (Some call) = ⊥
+LeadsTo language w moment message given.Memory None = ⊤
 
 -- it tells of a call, whose effects are durable then
 abbrev pub tells : Given → Bool
@@ -97,8 +96,8 @@ pub record Answered : Type 0 where
   pub moment : ℕ
   pub call : Option Call
 
-abbrev pub IsRight : List ℕ → ℕ → Answered → Type 0
-IsRight public w a = LeadsTo public w a.moment a.turn.message a.turn.given a.call
+abbrev pub IsRight : Language → ℕ → Answered → Type 0
+IsRight language w a = LeadsTo language w a.moment a.turn.message a.turn.given a.call
 
 -- the calls that they led to
 abbrev pub calls_of : List Answered → List Call
@@ -157,8 +156,8 @@ ArePublished [] w o l = ⊤
 ArePublished (a ∷ all) w o l = (is_edited a.turn.given a.call ≡ true → IsPublished (length (calls_of all)) w o l) × ArePublished all w o l
 
 -- The messages were answered one after the other by the worker of the seat s, which is t now.
-pub record Answers (public : List ℕ) (all : List Answered) (s t : Seat) : Type 0 where
-  pub right : All (IsRight public s.worker) all
+pub record Answers (language : Language) (all : List Answered) (s t : Seat) : Type 0 where
+  pub right : All (IsRight language s.worker) all
   pub goes : Goes (calls_of all) (store_failed all) s t
   pub durable : AreDurable all t.worker t.origin t.seen
   pub published : ArePublished all t.worker t.origin t.seen

@@ -1,15 +1,14 @@
 -- One door, served with one seat.
 use Rattle.std.specs.Prelude.{◌≡◌, ℕ, List, [], ◌∷◌, ◌++◌, map, option_map, slice_get, Option, None, Some, ⊤}
 use Rattle.door_worker.specs.Answers.{Answered, Answers}
+use Rattle.door_worker.specs.Languages.{Language}
 use Rattle.exchange_shared.specs.Seats.{Seat}
-use Rattle.http_wire.specs.declared.message.Message.{Message}
 use Rattle.link_door.specs.Doors.{Held, later}
 use Rattle.link_door.specs.declared.link.Link.{Ghosts}
 use Rattle.rtb_base.specs.Faults.{RisesOnlyWhere}
 use Rattle.session.specs.declared.link_end.LinkEnd.{LinkEnd}
 use Rattle.session.specs.declared.link_end.LinkEnd.TheVariants.{LinkFailed}
-use Rattle.session.specs.declared.service.Given.{Given}
-use Rattle.session.specs.Talk.{IsServed, Turn}
+use Rattle.session.specs.Talk.{Turn}
 
 -- ---- moments
 
@@ -25,18 +24,12 @@ TakesMoments moments (a ∷ all) after = IsNow moments a.moment × TakesMoments 
 
 -- ---- links
 
--- whatever is given
-abbrev pub Any : ⊤ → Message → Given → ⊤ → Type 0
-Any before message gave after = ⊤
-
-module _ {L : Type 0} (K : Ghosts L) where
+module _ {L : Type 0} (K : Ghosts L) (language : Language) where
   -- On this link came the messages of these turns, and what was sent is the texts of what was given for them, up to the
   -- link's end.
   pub record HasTalk (link after : L) (turns : List Turn) : Type 0 where
-    pub steps : ℕ
     pub end : LinkEnd
-    pub served : IsServed Any tt tt (K.left link) (K.left after) (K.sent link) (K.sent after) steps end
-    pub turns_are : served.turns ≡ turns
+    pub talk : language.Carries (K.left link) (K.left after) (K.sent link) (K.sent after) turns end
     pub cause : RisesOnlyWhere (end ≡ LinkFailed) (K.faults link) (K.faults after)
 
   -- the same of each of these links, one after the other, which were then those
@@ -63,9 +56,9 @@ module _ {L : Type 0} (K : Ghosts L) where
   AreHeld all (Some held) after = (h : Held L) × (after ≡ Some h) × IsHeld all held h
 
   -- Messages came on the links of the door, and were answered by the worker of the seat s, which is t now.
-  pub record ServesDoor (public : List ℕ) (s : Seat) (held : Option (Held L)) (t : Seat) (after : Option (Held L)) : Type 0 where
+  pub record ServesDoor (s : Seat) (held : Option (Held L)) (t : Seat) (after : Option (Held L)) : Type 0 where
     pub all : List Answered
-    pub answers : Answers public all s t
+    pub answers : Answers language all s t
     pub door : AreHeld all held after
 
 -- no link is left of those that the door told before

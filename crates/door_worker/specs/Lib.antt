@@ -1,3 +1,4 @@
+pub mod Languages
 pub mod Answers
 pub mod Doors
 pub mod Working

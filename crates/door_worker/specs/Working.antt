@@ -5,6 +5,7 @@ use Rattle.command_read.specs.declared.fault.CommandFault.{CommandFault}
 use Rattle.command_read.specs.declared.fault.CommandFault.TheVariants as unread
 use Rattle.door_worker.specs.Answers.{Answered, Answers, Goes, IsDurable, IsPublished, LeadsTo, is_answer, is_edit, is_edited, is_store_failed, request_of, tells}
 use Rattle.door_worker.specs.Doors.{HasTalk, IsNow, ServesDoor, TakesMoments}
+use Rattle.door_worker.specs.Languages.{Language}
 use Rattle.exchange_shared.specs.Seats.{Seat, effects_in}
 use Rattle.exchange_state.specs.declared.state.Settled.{Settled}
 use Rattle.exchange_state.specs.Views.{IsRising}
@@ -14,7 +15,6 @@ use Rattle.link_door.specs.declared.link.Link.{Ghosts}
 use Rattle.plain_exchange.specs.declared.commands.Command.{Command}
 use Rattle.plain_exchange.specs.declared.commands.Reply.{Reply}
 use Rattle.plain_exchange.specs.History.{Call}
-use Rattle.rtb_response.specs.Replies.{answer_of}
 use Rattle.rtb_types.specs.declared.request.BidRequest.{BidRequest}
 use Rattle.session.specs.declared.service.Given.{Given}
 use Rattle.session.specs.declared.service.Given.TheVariants as given
@@ -35,28 +35,28 @@ pub record Entered (command : Command) (moment : ℕ) (s t : Seat) (settled : Se
   pub upto : settled.upto ≡ effects_in t.origin t.seen
 
 -- what is given for the reply to a command whose effects are durable
-abbrev pub IsTold : Option BidRequest → List ℕ → Reply → Given → Type 0
-IsTold request public reply (given.Text answer entered) = (entered ≡ true) × (answer ≡ answer_of request (Some public) reply)
-IsTold request public reply given.StoreFailed = ⊥
-IsTold request public reply given.MemoryLate = ⊤
-IsTold request public reply given.Memory = ⊥
+abbrev pub IsTold : Option BidRequest → Language → Reply → Given → Type 0
+IsTold request language reply (given.Text answer entered) = (entered ≡ true) × (answer ≡ language.says request reply)
+IsTold request language reply given.StoreFailed = ⊥
+IsTold request language reply given.MemoryLate = ⊤
+IsTold request language reply given.Memory = ⊥
 
 -- and, for an edit, once a version was published where one is due
-pub record Tells (public : List ℕ) (command : Command) (reply : Reply) (s : Seat) (gave : Given) (t : Seat) : Type 0 where
-  pub told : IsTold (request_of command) public reply gave
+pub record Tells (language : Language) (command : Command) (reply : Reply) (s : Seat) (gave : Given) (t : Seat) : Type 0 where
+  pub told : IsTold (request_of command) language reply gave
   pub goes : Goes [] 0 s t
   pub published : is_answer gave ≡ true → is_edit command ≡ true → IsPublished 0 t.worker t.origin t.seen
 
 -- the same, or the store failed
-abbrev pub IsGivenFor : List ℕ → Command → Reply → Given → Type 0
-IsGivenFor public command reply (given.Text answer entered) = IsTold (request_of command) public reply (given.Text answer entered)
-IsGivenFor public command reply given.StoreFailed = ⊤
-IsGivenFor public command reply given.MemoryLate = ⊤
-IsGivenFor public command reply given.Memory = ⊥
+abbrev pub IsGivenFor : Language → Command → Reply → Given → Type 0
+IsGivenFor language command reply (given.Text answer entered) = IsTold (request_of command) language reply (given.Text answer entered)
+IsGivenFor language command reply given.StoreFailed = ⊤
+IsGivenFor language command reply given.MemoryLate = ⊤
+IsGivenFor language command reply given.Memory = ⊥
 
 -- behind the call of the command no other came, and this was given
-pub record Concludes (public : List ℕ) (command : Command) (reply : Reply) (s : Seat) (gave : Given) (t : Seat) : Type 0 where
-  pub given_is : IsGivenFor public command reply gave
+pub record Concludes (language : Language) (command : Command) (reply : Reply) (s : Seat) (gave : Given) (t : Seat) : Type 0 where
+  pub given_is : IsGivenFor language command reply gave
   pub goes : Goes [] (cond (is_store_failed gave) 1 0) s t
   pub durable : tells gave ≡ true → IsDurable 0 t.worker t.origin t.seen
   pub published : is_answer gave ≡ true → is_edit command ≡ true → IsPublished 0 t.worker t.origin t.seen
@@ -67,9 +67,9 @@ IsGivenUnread (unread.Refused answer) gave = gave ≡ given.Text answer false
 IsGivenUnread unread.Memory gave = gave ≡ given.Memory
 
 -- the message, taken up at the moment, was answered so by the worker of the seat s, which is t now
-pub record AnswersOne (public : List ℕ) (moment : ℕ) (s : Seat) (message : Message) (gave : Given) (t : Seat) : Type 0 where
+pub record AnswersOne (language : Language) (moment : ℕ) (s : Seat) (message : Message) (gave : Given) (t : Seat) : Type 0 where
   pub call : Option Call
-  pub right : LeadsTo public s.worker moment message gave call
+  pub right : LeadsTo language s.worker moment message gave call
   pub goes : Goes (option_to_list call) (cond (is_store_failed gave) 1 0) s t
   pub durable : tells gave ≡ true → IsDurable 0 t.worker t.origin t.seen
   pub published : is_edited gave call ≡ true → IsPublished 0 t.worker t.origin t.seen
@@ -82,19 +82,19 @@ pub record Post : Type 0 where
   pub here : TableId
   pub seat : Option Seat
 
-abbrev pub AnswersBy : List ℕ → ℕ → Option Seat → Message → Given → Option Seat → Type 0
-AnswersBy public moment None message gave after = ⊤
-AnswersBy public moment (Some s) message gave after = (t : Seat) × (after ≡ Some t) × AnswersOne public moment s message gave t
+abbrev pub AnswersBy : Language → ℕ → Option Seat → Message → Given → Option Seat → Type 0
+AnswersBy language moment None message gave after = ⊤
+AnswersBy language moment (Some s) message gave after = (t : Seat) × (after ≡ Some t) × AnswersOne language moment s message gave t
 
 -- the moments that a door tells
 abbrev pub moments_of : {L : Type 0} → Option (Held L) → Option (List ℕ)
 moments_of {L} held = option_map (λ (h : Held L). h.moments) held
 
 -- the message was taken up at the door's next moment
-pub record Works {L : Type 0} (public : List ℕ) (seat : Option Seat) (held : Option (Held L)) (message : Message) (gave : Given) (seat' : Option Seat) (held' : Option (Held L)) : Type 0 where
+pub record Works {L : Type 0} (language : Language) (seat : Option Seat) (held : Option (Held L)) (message : Message) (gave : Given) (seat' : Option Seat) (held' : Option (Held L)) : Type 0 where
   pub moment : ℕ
   pub now : IsNow (moments_of held) moment
-  pub answers : AnswersBy public moment seat message gave seat'
+  pub answers : AnswersBy language moment seat message gave seat'
   pub held_is : held' ≡ option_map with_later held
 
 -- ---- what a door holds
@@ -112,12 +112,12 @@ KeepsLinks {L} (Some old) new = (held : Held L) × (new ≡ Some held) × SameLi
 -- ---- a link, and a door
 
 -- What came of a run of messages: these were answered, each at the door's next moment, and the seat is that one now.
-pub record Talked {L : Type 0} (public : List ℕ) (turns : List Turn) (s : Seat) (held : Option (Held L)) (seat : Option Seat) (held' : Option (Held L)) : Type 0 where
+pub record Talked {L : Type 0} (language : Language) (turns : List Turn) (s : Seat) (held : Option (Held L)) (seat : Option Seat) (held' : Option (Held L)) : Type 0 where
   pub all : List Answered
   pub turns_are : map (λ (a : Answered). a.turn) all ≡ turns
   pub now : Seat
   pub seat_is : seat ≡ Some now
-  pub answers : Answers public all s now
+  pub answers : Answers language all s now
   pub known : IsKnown s now
   pub moments : TakesMoments (moments_of held) all (moments_of held')
   pub links : KeepsLinks held held'
@@ -128,14 +128,14 @@ pub record IsAt (p : Post) : Type 0 where
   pub has : p.seat ≡ Some seat
   pub free : seat.turn ≡ false
 
-module _ {L : Type 0} (K : Ghosts L) (public : List ℕ) where
+module _ {L : Type 0} (K : Ghosts L) (language : Language) where
   -- the messages of the link were answered
   pub record TalksOn (p : Post) (held : Option (Held L)) (link after : L) (q : Post) (held' : Option (Held L)) : Type 0 where
     pub seat : Seat
     pub has : p.seat ≡ Some seat
     pub turns : List Turn
-    pub talk : HasTalk K link after turns
-    pub talked : Talked public turns seat held q.seat held'
+    pub talk : HasTalk K language link after turns
+    pub talked : Talked language turns seat held q.seat held'
 
   -- links of the door were served
   pub record ServesAt (p : Post) (held : Option (Held L)) (q : Post) (held' : Option (Held L)) : Type 0 where
@@ -143,5 +143,5 @@ module _ {L : Type 0} (K : Ghosts L) (public : List ℕ) where
     pub has : p.seat ≡ Some seat
     pub now : Seat
     pub has_now : q.seat ≡ Some now
-    pub served : ServesDoor K public seat held now held'
+    pub served : ServesDoor K language seat held now held'
     pub known : IsKnown seat now

@@ -3,6 +3,7 @@ ghost use Rattle.std.specs.Prelude.{◌≡◌};
 ghost use Rattle.std.specs.Option.{option_copied};
 ghost use Rattle.command_read.specs.Memory.{IfRefused};
 ghost use Rattle.door_worker.specs.Answers.{is_edit, request_of};
+ghost use Rattle.door_worker.specs.Languages.{rtb};
 ghost use Rattle.door_worker.specs.Working.{IsGivenUnread, IsTold};
 ghost use Rattle.http_wire.specs.Answers.{IsWritable};
 ghost use Rattle.session.specs.Talk.{IsGivable};
@@ -37,7 +38,7 @@ pub(crate) fn given_for(
     reply: &Reply,
     public: &Txt,
 ) -> Given
-    ensures told { IsTold (option_copied request.entry) public.now reply.now result }
+    ensures told { IsTold (option_copied request.entry) (rtb public.now) reply.now result }
     ensures writable { IsGivable result }
 {
     match write_reply(alloc, request, reply, Some(public)) {

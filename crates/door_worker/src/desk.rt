@@ -1,5 +1,6 @@
 //! The service of a link.
 ghost use Rattle.std.specs.Prelude.{◌≡◌};
+ghost use Rattle.door_worker.specs.Languages.{rtb};
 ghost use Rattle.door_worker.specs.Working.{IsAt, TalksOn, Works};
 ghost use Rattle.session.specs.Talk.{IsGivable};
 
@@ -21,7 +22,7 @@ pub(crate) struct Desk<'a, 'e, D: Disk, R: Wait, G: Door, P: Pause> {
 }
 
 impl<'a, 'e, D: Disk, R: Wait, G: Door, P: Pause> Service for Desk<'a, 'e, D, R, G, P> {
-    ghost answers = { λ old message given new. Works old.tools.now.public.now old.worker.now.seat (G.held old.door.now) message given new.worker.now.seat (G.held new.door.now)
+    ghost answers = { λ old message given new. Works (rtb old.tools.now.public.now) old.worker.now.seat (G.held old.door.now) message given new.worker.now.seat (G.held new.door.now)
         × (new.tools.now.public.now ≡ old.tools.now.public.now) × (new.worker.now.here ≡ old.worker.now.here) × (G.faults new.door.now ≡ G.faults old.door.now)
         × (new.worker.ghost_name ≡ old.worker.ghost_name) × (new.door.ghost_name ≡ old.door.ghost_name) };
 
@@ -41,7 +42,7 @@ pub(crate) fn converse<'a, 'e, D: Disk, R: Wait, G: Door, P: Pause, L: Ledger>(
     ensures same_worker { desk.new.worker.ghost_name ≡ desk.old.worker.ghost_name }
     ensures same_door { desk.new.door.ghost_name ≡ desk.old.door.ghost_name }
     ensures here { desk.new.worker.now.here ≡ desk.old.worker.now.here }
-    ensures talked { TalksOn G.Link.Link desk.old.tools.now.public.now desk.old.worker.now (G.held desk.old.door.now) link.old link.new desk.new.worker.now (G.held desk.new.door.now) }
+    ensures talked { TalksOn G.Link.Link (rtb desk.old.tools.now.public.now) desk.old.worker.now (G.held desk.old.door.now) link.old link.new desk.new.worker.now (G.held desk.new.door.now) }
     ensures faults { G.faults desk.new.door.now ≡ G.faults desk.old.door.now }
 {
     let alloc = desk.tools.alloc;

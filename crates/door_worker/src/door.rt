@@ -1,6 +1,7 @@
 //! The links of a door, one after the other.
 ghost use Rattle.std.specs.Prelude.{◌≡◌, ◌<◌, None, Some};
 ghost use Rattle.door_worker.specs.Doors.{LeavesNone, ServesDoor};
+ghost use Rattle.door_worker.specs.Languages.{rtb};
 ghost use Rattle.door_worker.specs.Working.{IsAt, ServesAt, TalksOn};
 ghost use Rattle.exchange_shared.specs.Seats.{MayCall, lock_of};
 ghost use Rattle.rtb_base.specs.Faults.{RisesOnlyWhere};
@@ -46,7 +47,7 @@ pub fn serve_door<D: Disk, R: Wait, G: Door, P: Pause>(
     requires seat { MayCall (lock_of exchange.now) seat }
     requires worker { seat.worker ≡ worker }
     ensures seat { MayCall (lock_of exchange.now) result.0 }
-    ensures served { ServesDoor G.Link.Link public.now seat (G.held door.old) result.0 (G.held door.new) }
+    ensures served { ServesDoor G.Link.Link (rtb public.now) seat (G.held door.old) result.0 (G.held door.new) }
     ensures all { result.1 ≡ DoorEnd.Served → LeavesNone (G.held door.old) (G.held door.new) }
     ensures cause { RisesOnlyWhere (result.1 ≡ DoorEnd.Failed) (G.faults door.old) (G.faults door.new) }
 {
@@ -86,7 +87,7 @@ fn serve_links<'e, D: Disk, R: Wait, G: Door, P: Pause>(
 ) -> DoorEnd
     requires seat { IsAt worker.old }
     ensures here { worker.new.here ≡ worker.old.here }
-    ensures served { ServesAt G.Link.Link tools.now.public.now worker.old (G.held door.old) worker.new (G.held door.new) }
+    ensures served { ServesAt G.Link.Link (rtb tools.now.public.now) worker.old (G.held door.old) worker.new (G.held door.new) }
     ensures all { result ≡ DoorEnd.Served → LeavesNone (G.held door.old) (G.held door.new) }
     ensures cause { RisesOnlyWhere (result ≡ DoorEnd.Failed) (G.faults door.old) (G.faults door.new) }
 {
@@ -107,7 +108,7 @@ fn serve_next<'e, D: Disk, R: Wait, G: Door, P: Pause>(
 ) -> Option<DoorEnd>
     requires seat { IsAt worker.old }
     ensures here { worker.new.here ≡ worker.old.here }
-    ensures served { ServesAt G.Link.Link tools.now.public.now worker.old (G.held door.old) worker.new (G.held door.new) }
+    ensures served { ServesAt G.Link.Link (rtb tools.now.public.now) worker.old (G.held door.old) worker.new (G.held door.new) }
     ensures all { result ≡ Some DoorEnd.Served → LeavesNone (G.held door.old) (G.held door.new) }
     ensures cause { RisesOnlyWhere (result ≡ Some DoorEnd.Failed) (G.faults door.old) (G.faults door.new) }
 {
@@ -135,7 +136,7 @@ fn serve_one<'e, D: Disk, R: Wait, G: Door, P: Pause, L: Ledger>(
     requires some { 0 < blank.parts }
     requires seat { IsAt worker.old }
     ensures here { worker.new.here ≡ worker.old.here }
-    ensures talked { TalksOn G.Link.Link tools.now.public.now worker.old (G.held door.old) link result worker.new (G.held door.new) }
+    ensures talked { TalksOn G.Link.Link (rtb tools.now.public.now) worker.old (G.held door.old) link result worker.new (G.held door.new) }
     ensures faults { G.faults door.new ≡ G.faults door.old }
 {
     let mut link = link;

@@ -5,6 +5,7 @@ ghost use Rattle.command_read.specs.Commands.{IsCommandOf};
 ghost use Rattle.conj_index.specs.Campaigns.{Campaigns};
 ghost use Rattle.conj_index.specs.Content.{IsIndexOf};
 ghost use Rattle.door_worker.specs.Answers.{Goes, IsPublished, is_edit};
+ghost use Rattle.door_worker.specs.Languages.{rtb};
 ghost use Rattle.door_worker.specs.Working.{AnswersOne, Concludes, Entered, Tells};
 ghost use Rattle.exchange_shared.specs.Seats.{IsOrdered, MayBeSettled, MayCall, effects_in, lock_of};
 ghost use Rattle.exchange_state.specs.Tickets.{matches, version_in};
@@ -46,7 +47,7 @@ pub(crate) fn answer<'e, D: Disk, R: Wait, P: Pause>(
 ) -> (Seat<D>, Given)
     requires seat { MayCall (lock_of exchange.now) seat }
     ensures seat { MayCall (lock_of exchange.now) result.0 }
-    ensures answers { AnswersOne tools.now.public.now moment seat message.now result.1 result.0 }
+    ensures answers { AnswersOne (rtb tools.now.public.now) moment seat message.now result.1 result.0 }
     ensures writable { IsGivable result.1 }
 {
     match read_command_in(tools.alloc, rooms, message) {
@@ -70,7 +71,7 @@ fn answer_command<'e, D: Disk, R: Wait, P: Pause>(
     requires seat { MayCall (lock_of exchange.now) seat }
     requires valid { IsTrue (is_valid_command command.now) }
     ensures seat { MayCall (lock_of exchange.now) result.0 }
-    ensures answers { (message : AMessage) → IsCommandOf message (Ok command.now) → AnswersOne tools.now.public.now moment seat message result.1 result.0 }
+    ensures answers { (message : AMessage) → IsCommandOf message (Ok command.now) → AnswersOne (rtb tools.now.public.now) moment seat message result.1 result.0 }
     ensures writable { IsGivable result.1 }
 {
     if is_edit(command) && !exchange.is_shared() {
@@ -91,7 +92,7 @@ fn answer_edit<'e, D: Disk, R: Wait, P: Pause>(
     requires seat { MayCall (lock_of exchange.now) seat }
     requires edit { is_edit command.now ≡ true }
     ensures seat { MayCall (lock_of exchange.now) result.0 }
-    ensures answers { (message : AMessage) → IsCommandOf message (Ok command.now) → AnswersOne tools.now.public.now moment seat message result.1 result.0 }
+    ensures answers { (message : AMessage) → IsCommandOf message (Ok command.now) → AnswersOne (rtb tools.now.public.now) moment seat message result.1 result.0 }
     ensures writable { IsGivable result.1 }
 {
     let (seat, changed) = exchange.change(tools.rt, seat, command, moment);
@@ -117,7 +118,7 @@ fn tell_edit<'e, D: Disk, R: Wait, P: Pause>(
     requires seat { MayCall (lock_of exchange.now) seat }
     requires order { IsOrdered seat.origin seat.seen }
     ensures seat { MayCall (lock_of exchange.now) result.0 }
-    ensures told { Tells tools.now.public.now command.now settled.reply seat result.1 result.0 }
+    ensures told { Tells (rtb tools.now.public.now) command.now settled.reply seat result.1 result.0 }
     ensures order { IsOrdered result.0.origin result.0.seen }
     ensures writable { IsGivable result.1 }
 {
@@ -138,7 +139,7 @@ fn answer_in_turn<'e, D: Disk, R: Wait, P: Pause>(
     requires seat { MayCall (lock_of exchange.now) seat }
     requires valid { IsTrue (is_valid_command command.now) }
     ensures seat { MayCall (lock_of exchange.now) result.0 }
-    ensures answers { (message : AMessage) → IsCommandOf message (Ok command.now) → AnswersOne tools.now.public.now moment seat message result.1 result.0 }
+    ensures answers { (message : AMessage) → IsCommandOf message (Ok command.now) → AnswersOne (rtb tools.now.public.now) moment seat message result.1 result.0 }
     ensures writable { IsGivable result.1 }
 {
     let (seat, settled) = enter(exchange, tools, scratch, seat, command, moment);
@@ -358,7 +359,7 @@ fn conclude<'e, D: Disk, R: Wait, P: Pause>(
     requires seat { MayCall (lock_of exchange.now) seat }
     requires upto { settled.upto ≡ effects_in seat.origin seat.seen }
     ensures seat { MayCall (lock_of exchange.now) result.0 }
-    ensures concluded { Concludes tools.now.public.now command.now settled.reply seat result.1 result.0 }
+    ensures concluded { Concludes (rtb tools.now.public.now) command.now settled.reply seat result.1 result.0 }
     ensures order { IsOrdered result.0.origin result.0.seen }
     ensures writable { IsGivable result.1 }
 {
@@ -379,7 +380,7 @@ fn make_durable<'e, D: Disk, R: Wait, P: Pause>(
     requires seat { MayCall (lock_of exchange.now) seat }
     requires upto { upto ≡ effects_in seat.origin seat.seen }
     ensures seat { MayCall (lock_of exchange.now) result.0 }
-    ensures concluded { Concludes tools.now.public.now command.now reply.now seat result.1 result.0 }
+    ensures concluded { Concludes (rtb tools.now.public.now) command.now reply.now seat result.1 result.0 }
     ensures order { IsOrdered result.0.origin result.0.seen }
     ensures writable { IsGivable result.1 }
 {
@@ -400,7 +401,7 @@ fn tell<'e, D: Disk, R: Wait, P: Pause>(
     requires seat { MayCall (lock_of exchange.now) seat }
     requires order { IsOrdered seat.origin seat.seen }
     ensures seat { MayCall (lock_of exchange.now) result.0 }
-    ensures told { Tells tools.now.public.now command.now reply.now seat result.1 result.0 }
+    ensures told { Tells (rtb tools.now.public.now) command.now reply.now seat result.1 result.0 }
     ensures order { IsOrdered result.0.origin result.0.seen }
     ensures writable { IsGivable result.1 }
 {

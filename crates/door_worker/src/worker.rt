@@ -1,5 +1,6 @@
 //! A worker of an exchange.
 ghost use Rattle.std.specs.Prelude.{◌≡◌};
+ghost use Rattle.door_worker.specs.Languages.{rtb};
 ghost use Rattle.door_worker.specs.Working.{AnswersBy};
 ghost use Rattle.session.specs.Talk.{IsGivable};
 
@@ -57,7 +58,7 @@ impl<'e, D: Disk> Worker<'e, D> {
         moment: u64,
     ) -> Given
         ensures here { self.new.here ≡ self.old.here }
-        ensures answers { AnswersBy tools.now.public.now moment self.old.seat message.now result self.new.seat }
+        ensures answers { AnswersBy (rtb tools.now.public.now) moment self.old.seat message.now result self.new.seat }
         ensures writable { IsGivable result }
     {
         let Some(seat) = self.seat.take() else {

@@ -2,6 +2,7 @@
 use Rattle.std.proofs.Common.{◌≡◌, ◌∙◌, ℕ, ◌≤◌, List, [], ◌++◌, Option, true, ap, arith, length, map, subst, sym}
 use Rattle.std.specs.Io.KnownBytes.{Appends}
 use Rattle.std.proofs.lemmas.List.{take_all}
+use Rattle.door_worker.specs.Languages.{rtb}
 use Rattle.exchange_shared.specs.Opening.{IsOriginOver}
 use Rattle.exchange_shared.specs.Seats.{IsOrdered}
 use Rattle.exchange_state.proofs.Rising.{faults_later, rising_front}
@@ -66,7 +67,7 @@ module _ {Disk Door Link : Type 0} (G : DiskGhosts Disk) (H : DoorGhosts Door Li
 
   pub is_run : (disk disk' : Disk) (doors doors' : List Door) (o : Origin) (past : History) (end : PoolEnd) (before announced written' : Option (List ℕ)) (code : ℕ)
       → IsOriginOver (G.store disk) (G.faults disk) options.ttl o → past.origin ≡ o → IsLegalFrom past.origin (calls past.seen) → KeepsBudgets past → IsOrdered past.origin past.seen
-      → AreServed K options.public past (map H.held doors) (map H.held doors') → SaysFronts (G.store disk') past → G.faults disk' ≡ faults_told past.origin past.seen → RoseBy (failures past.seen) past.origin.faults (G.faults disk')
+      → AreServed K (rtb options.public) past (map H.held doors) (map H.held doors') → SaysFronts (G.store disk') past → G.faults disk' ≡ faults_told past.origin past.seen → RoseBy (failures past.seen) past.origin.faults (G.faults disk')
       → LeaveAs H.faults H.held doors doors' end → EndsAs past (map H.faults doors) (map H.faults doors') end
       → Appends before announced (first_line options) → EndsBehind end announced written' code
       → IsRun G H K options disk disk' doors doors' past before written' code

@@ -1,5 +1,6 @@
 -- What comes of an exchange that is opened from a disk, and of the doors that it serves, in one history.
 use Rattle.std.specs.Prelude.{◌≡◌, List, ◌++◌, map, true}
+use Rattle.door_worker.specs.Languages.{rtb}
 use Rattle.exchange_shared.specs.Opening.{IsOriginOver}
 use Rattle.exchange_shared.specs.Seats.{IsOrdered}
 use Rattle.exchange_state.specs.Standing.{SaysFront}
@@ -29,7 +30,7 @@ module _ {Disk Door Link : Type 0} (G : DiskGhosts Disk) (H : DoorGhosts Door Li
     pub legal : IsLegalFrom past.origin (calls past.seen)
     pub budgets : KeepsBudgets past
     pub order : IsOrdered past.origin past.seen
-    pub answers : AreServed K options.public past (map H.held doors) (map H.held doors')
+    pub answers : AreServed K (rtb options.public) past (map H.held doors) (map H.held doors')
     pub crash : past.origin.told ≡ true → EachImage (SaysFront past.origin past.seen) (G.store disk').now
     pub faults : G.faults disk' ≡ faults_told past.origin past.seen
     pub failed : RoseBy (failures past.seen) (G.faults disk) (G.faults disk')

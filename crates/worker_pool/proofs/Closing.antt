@@ -9,6 +9,7 @@ use native.Mathlib.Decide.{dec_lt, ℕ_discrete}
 use Rattle.atomic_table.specs.Seated.{TableId}
 use Rattle.door_worker.specs.Answers.{Answered, Answers, AreDurable, ArePublished, IsDurable, IsPublished, IsRight, calls_of, store_failed}
 use Rattle.door_worker.specs.Doors.{AreHeld}
+use Rattle.door_worker.specs.Languages.{Language}
 use Rattle.door_worker.proofs.Going.{durable_more, published_more, worker_is}
 use Rattle.exchange_shared.proofs.Seats.{own_append}
 use Rattle.exchange_shared.specs.Seats.{Seat, worker_of}
@@ -59,9 +60,9 @@ others_behind w l more e = nothing_behind (own w l) (own w more) (sym (own_appen
 -- ---- the messages of one door
 
 -- The seat s had seen nothing of its worker, became t, and the history goes on behind that by entries of others.
-module _ {L : Type 0} (K : Ghosts L) (public : List ℕ) where
-  at_end : (all : List Answered) (s t : Seat) (past : History) (more : List Entry) → Answers public all s t → own s.worker s.seen ≡ [] → past.origin ≡ t.origin → past.seen ≡ t.seen ++ more → mine t.worker (calls more) ≡ []
-      → (held after : Option (Held L)) → AreHeld K all held after → IsServedBy K public past t.worker all held after
+module _ {L : Type 0} (K : Ghosts L) (language : Language) where
+  at_end : (all : List Answered) (s t : Seat) (past : History) (more : List Entry) → Answers language all s t → own s.worker s.seen ≡ [] → past.origin ≡ t.origin → past.seen ≡ t.seen ++ more → mine t.worker (calls more) ≡ []
+      → (held after : Option (Held L)) → AreHeld K all held after → IsServedBy K language past t.worker all held after
   at_end all s t past more a fresh origin seen others held after door =
       let w = t.worker in
       let same : t.worker ≡ s.worker = ap (λ (u : Seat). u.worker) a.goes.same in
@@ -71,7 +72,7 @@ module _ {L : Type 0} (K : Ghosts L) (public : List ℕ) where
       ap (λ (u : Seat). failed u.seen u.worker) a.goes.same ∙ failed_append s.worker s.seen a.goes.more ∙ ap (λ (x : ℕ). x + failed a.goes.more s.worker) (no_failures s.worker s.seen fresh) ∙ ap (λ (x : ℕ). 0 + x) a.goes.failures_are in
       let failed_all : failed past.seen w ≡ failed t.seen w + failed more w = ap (λ (l : List Entry). failed l w) seen ∙ failed_append w t.seen more in
       record {
-        right = subst (λ (n : ℕ). All (IsRight public n) all) (sym same) a.right;
+        right = subst (λ (n : ℕ). All (IsRight language n) all) (sym same) a.right;
         calls_are = ap (λ (l : List Entry). mine w (calls l)) seen ∙ mine_append w t.seen more ∙ ap (λ (x : List Call). mine w (calls t.seen) ++ x) others ∙ append-nil (mine w (calls t.seen)) ∙ of_t;
         failures_are = omega (arith, failed_t, failed_all);
         durable = subst (λ (o : Origin). AreDurable all w o past.seen) (sym origin) (subst (λ (l : List Entry). AreDurable all w t.origin l) (sym seen) (durable_later all w t.origin t.seen more others a.durable));
@@ -148,8 +149,8 @@ module _ {G : Type 0} (here : TableId) (jobs : List (Job G)) (s : Seat) (failed 
 next_worker : (w k : ℕ) → w + suc k ≡ (w + 1) + k
 next_worker w k = omega arith
 
-module _ {L : Type 0} (K : Ghosts L) (public : List ℕ) (past : History) where
-  sum_few : (w : ℕ) (alls : List (List Answered)) (helds afters : List (Option (Held L))) → AreServedFrom K public past w alls helds afters → sum_by store_failed alls ≤ failed_from w (length alls) past.seen
+module _ {L : Type 0} (K : Ghosts L) (language : Language) (past : History) where
+  sum_few : (w : ℕ) (alls : List (List Answered)) (helds afters : List (Option (Held L))) → AreServedFrom K language past w alls helds afters → sum_by store_failed alls ≤ failed_from w (length alls) past.seen
   sum_few w [] helds afters s = omega arith
   sum_few w (all ∷ alls) (held ∷ helds) (after ∷ afters) s =
       let here : store_failed all ≤ failed past.seen w = s.0.failures_are in
@@ -159,21 +160,21 @@ module _ {L : Type 0} (K : Ghosts L) (public : List ℕ) (past : History) where
   sum_few w (all ∷ alls) [] afters s = absurd s
   sum_few w (all ∷ alls) (held ∷ helds) [] s = absurd s
 
-  pub all_of : (alls : List (List Answered)) (helds afters : List (Option (Held L))) → AreServedFrom K public past 0 alls helds afters → ((w : ℕ) → length helds ≤ w → mine w (calls past.seen) ≡ []) → AreServed K public past helds afters
+  pub all_of : (alls : List (List Answered)) (helds afters : List (Option (Held L))) → AreServedFrom K language past 0 alls helds afters → ((w : ℕ) → length helds ≤ w → mine w (calls past.seen) ≡ []) → AreServed K language past helds afters
   all_of alls helds afters s others = let few = sum_few 0 alls helds afters s in let most = from_all 0 (length alls) past.seen in record { alls = alls; each = s; others = others; few = omega (arith, few, most) }
 
-module _ {G L : Type 0} (K : Ghosts L) (held_of : G → Option (Held L)) (faults_of : G → ℕ) (public : List ℕ) (here : TableId) where
+module _ {G L : Type 0} (K : Ghosts L) (held_of : G → Option (Held L)) (faults_of : G → ℕ) (language : Language) (here : TableId) where
   abbrev ServedAt : History → ℕ → Job G → Job G → Type 0
-  ServedAt past w a b = (all : List Answered) × IsServedBy K public past w all (held_of a.1) (held_of b.1)
+  ServedAt past w a b = (all : List Answered) × IsServedBy K language past w all (held_of a.1) (held_of b.1)
 
-  serves_one : (o : Origin) (old new : List (Job G)) → AreHired here o old → AreDone K held_of faults_of public here old new → (s : Seat) (failed : Bool) (past : History) (end : PoolEnd) → IsJoined here new (length new) s → IsWritten s failed past end
+  serves_one : (o : Origin) (old new : List (Job G)) → AreHired here o old → AreDone K held_of faults_of language here old new → (s : Seat) (failed : Bool) (past : History) (end : PoolEnd) → IsJoined here new (length new) s → IsWritten s failed past end
       → Complete worker_of s past.seen → (k : ℕ) (d : Job G) → k < length old → ServedAt past k (get_or old k d) (get_or new k d)
   serves_one o old new h e s failed past end j w c k d lt =
       let many : length new ≡ length old = e.many in
       let there : k < length new = omega (arith, many, lt) in
       let a = h.each k d lt in
       let b = e.each k d lt in
-      let same = had_is K held_of faults_of public here o k (get_or old k d) (get_or new k d) a b in
+      let same = had_is K held_of faults_of language here o k (get_or old k d) (get_or new k d) a b in
       let more : List Entry = rest_of here new s failed past end j w c k b.after d there b.has ++ w.behind in
       let number : b.after.worker ≡ k = worker_is _ _ b.before b.after b.served.answers.goes ∙ ap (λ (x : Seat). x.worker) same ∙ a.fresh.worker in
       let fresh : own b.before.worker b.before.seen ≡ [] = ap (own b.before.worker) (ap (λ (x : Seat). x.seen) same ∙ a.fresh.seen) in
@@ -181,12 +182,12 @@ module _ {G L : Type 0} (K : Ghosts L) (held_of : G → Option (Held L)) (faults
       let from : past.origin ≡ b.after.origin = origin_of here new s failed past end j w c k b.after d there b.has in
       let seen : past.seen ≡ b.after.seen ++ more = seen_of here new s failed past end j w c k b.after d there b.has in (
         b.served.all,
-        subst (λ (n : ℕ). IsServedBy K public past n b.served.all (held_of (get_or old k d).1) (held_of (get_or new k d).1)) number
-            (at_end K public b.served.all b.before b.after past more b.served.answers fresh from seen others (held_of (get_or old k d).1) (held_of (get_or new k d).1) b.served.door),
+        subst (λ (n : ℕ). IsServedBy K language past n b.served.all (held_of (get_or old k d).1) (held_of (get_or new k d).1)) number
+            (at_end K language b.served.all b.before b.after past more b.served.answers fresh from seen others (held_of (get_or old k d).1) (held_of (get_or new k d).1) b.served.door),
       )
 
   collect : (past : History) (w : ℕ) (old new : List (Job G)) → length new ≡ length old → ((k : ℕ) (d : Job G) → k < length old → ServedAt past (w + k) (get_or old k d) (get_or new k d))
-      → (alls : List (List Answered)) × AreServedFrom K public past w alls (map held_of (map (λ (j : Job G). j.1) old)) (map held_of (map (λ (j : Job G). j.1) new))
+      → (alls : List (List Answered)) × AreServedFrom K language past w alls (map held_of (map (λ (j : Job G). j.1) old)) (map held_of (map (λ (j : Job G). j.1) new))
   collect past w [] [] many each = ([], tt)
   collect past w [] (y ∷ new) many each = absurd (omega (arith, many))
   collect past w (x ∷ old) [] many each = absurd (omega (arith, many))
@@ -195,11 +196,11 @@ module _ {G L : Type 0} (K : Ghosts L) (held_of : G → Option (Held L)) (faults
       let rest = collect past (w + 1) old new (omega (arith, many)) (λ k d lt. subst (λ (n : ℕ). ServedAt past n (get_or old k d) (get_or new k d)) (next_worker w k) (each (suc k) d (omega (arith, lt)))) in
       (first.0 ∷ rest.0, (first.1, rest.1))
 
-  pub all_served : (o : Origin) (old new : List (Job G)) → AreHired here o old → AreDone K held_of faults_of public here old new → (s : Seat) (failed : Bool) (past : History) (end : PoolEnd) → IsJoined here new (length new) s → IsWritten s failed past end
-      → Complete worker_of s past.seen → AreServed K public past (map held_of (map (λ (j : Job G). j.1) old)) (map held_of (map (λ (j : Job G). j.1) new))
+  pub all_served : (o : Origin) (old new : List (Job G)) → AreHired here o old → AreDone K held_of faults_of language here old new → (s : Seat) (failed : Bool) (past : History) (end : PoolEnd) → IsJoined here new (length new) s → IsWritten s failed past end
+      → Complete worker_of s past.seen → AreServed K language past (map held_of (map (λ (j : Job G). j.1) old)) (map held_of (map (λ (j : Job G). j.1) new))
   all_served o old new h e s failed past end j w c =
       let all = collect past 0 old new e.many (λ k d lt. subst (λ (n : ℕ). ServedAt past n (get_or old k d) (get_or new k d)) (omega arith) (serves_one o old new h e s failed past end j w c k d lt)) in
-      all_of K public past all.0 _ _ all.1 no_others
+      all_of K language past all.0 _ _ all.1 no_others
     where
       -- worker 0's seat was made for as many workers as there are jobs
       no_others : (v : ℕ) → length (map held_of (map (λ (x : Job G). x.1) old)) ≤ v → mine v (calls past.seen) ≡ []

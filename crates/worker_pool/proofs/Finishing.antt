@@ -4,6 +4,7 @@ use Rattle.std.specs.Prelude.{MatchBool}
 use Rattle.std.proofs.lemmas.List.{append-nil}
 use Rattle.atomic_table.specs.Seated.{TableId}
 use Rattle.door_worker.specs.Doors.{AreHeld, LeavesNone}
+use Rattle.door_worker.specs.Languages.{Language}
 use Rattle.door_worker.specs.declared.door.DoorEnd.{DoorEnd}
 use Rattle.door_worker.specs.declared.door.DoorEnd.TheVariants as door
 use Rattle.exchange_shared.specs.Seats.{Seat, effects_in, worker_of}
@@ -21,12 +22,12 @@ use Rattle.worker_pool.specs.declared.pool.PoolEnd.{PoolEnd}
 
 -- ---- nothing was served
 
-nothing_held : {L : Type 0} (K : Ghosts L) (held : Option (Held L)) → AreHeld K [] held held
-nothing_held K None = tt
-nothing_held K (Some h) = (h, refl, record { given = []; back = []; left = refl; came_back = sym (append-nil h.served); talks = refl; moments = refl })
+nothing_held : {L : Type 0} (K : Ghosts L) (language : Language) (held : Option (Held L)) → AreHeld K language [] held held
+nothing_held K language None = tt
+nothing_held K language (Some h) = (h, refl, record { given = []; back = []; left = refl; came_back = sym (append-nil h.served); talks = refl; moments = refl })
 
-module _ {L : Type 0} (K : Ghosts L) (public : List ℕ) (past : History) (none : past.seen ≡ []) where
-  idle_from : (w : ℕ) (helds : List (Option (Held L))) → AreServedFrom K public past w (map (λ (h : Option (Held L)). []) helds) helds helds
+module _ {L : Type 0} (K : Ghosts L) (language : Language) (past : History) (none : past.seen ≡ []) where
+  idle_from : (w : ℕ) (helds : List (Option (Held L))) → AreServedFrom K language past w (map (λ (h : Option (Held L)). []) helds) helds helds
   idle_from w [] = tt
   idle_from w (held ∷ helds) = (
     record {
@@ -35,19 +36,19 @@ module _ {L : Type 0} (K : Ghosts L) (public : List ℕ) (past : History) (none 
       failures_are = omega arith;
       durable = tt;
       published = tt;
-      door = nothing_held K held;
+      door = nothing_held K language held;
     },
     idle_from (w + 1) helds,
   )
 
-  pub idle : (helds : List (Option (Held L))) → AreServed K public past helds helds
-  idle helds = all_of K public past (map (λ (h : Option (Held L)). []) helds) helds helds (idle_from 0 helds) (λ w le. ap (λ (l : List Entry). mine w (calls l)) none)
+  pub idle : (helds : List (Option (Held L))) → AreServed K language past helds helds
+  idle helds = all_of K language past (map (λ (h : Option (Held L)). []) helds) helds helds (idle_from 0 helds) (λ w le. ap (λ (l : List Entry). mine w (calls l)) none)
 
 -- ---- doors that failed
 
-module _ {G L : Type 0} (K : Ghosts L) (held_of : G → Option (Held L)) (faults_of : G → ℕ) (public : List ℕ) (here : TableId) where
+module _ {G L : Type 0} (K : Ghosts L) (held_of : G → Option (Held L)) (faults_of : G → ℕ) (language : Language) (here : TableId) where
   abbrev Done : Job G → Job G → Type 0
-  Done a b = IsDone K held_of faults_of public here a b
+  Done a b = IsDone K held_of faults_of language here a b
 
   abbrev EachDone : List (Job G) → List (Job G) → Type 0
   EachDone old new = (length new ≡ length old) × ((k : ℕ) (d : Job G) → k < length old → Done (get_or old k d) (get_or new k d))
@@ -117,7 +118,7 @@ module _ {G L : Type 0} (K : Ghosts L) (held_of : G → Option (Held L)) (faults
 
   -- ---- the end
 
-  pub ends_as : (old new : List (Job G)) → AreDone K held_of faults_of public here old new → AreBack here new → (s : Seat) (failed : Bool) (past : History) (end : PoolEnd) → failed ≡ has_failed new → IsJoined here new (length new) s → IsWritten s failed past end
+  pub ends_as : (old new : List (Job G)) → AreDone K held_of faults_of language here old new → AreBack here new → (s : Seat) (failed : Bool) (past : History) (end : PoolEnd) → failed ≡ has_failed new → IsJoined here new (length new) s → IsWritten s failed past end
       → Complete worker_of s past.seen → EndsAs past (map faults_of (map (λ (j : Job G). j.1) old)) (map faults_of (map (λ (j : Job G). j.1) new)) end
   ends_as old new e back s failed past end is j w c = subst (EndsAs past before now) (sym w.end_is) (by_cases failed w.done refl refl)
     where
@@ -141,7 +142,7 @@ module _ {G L : Type 0} (K : Ghosts L) (held_of : G → Option (Held L)) (faults
         },
       )
 
-  pub left_as : (old new : List (Job G)) → AreDone K held_of faults_of public here old new → (s : Seat) (failed : Bool) (past : History) (end : PoolEnd) → failed ≡ has_failed new → IsWritten s failed past end
+  pub left_as : (old new : List (Job G)) → AreDone K held_of faults_of language here old new → (s : Seat) (failed : Bool) (past : History) (end : PoolEnd) → failed ≡ has_failed new → IsWritten s failed past end
       → LeaveAs faults_of held_of (map (λ (j : Job G). j.1) old) (map (λ (j : Job G). j.1) new) end
   left_as old new e s failed past end is w = subst (LeaveAs faults_of held_of (map (λ (j : Job G). j.1) old) (map (λ (j : Job G). j.1) new)) (sym w.end_is) (by_cases failed w.done refl)
     where

@@ -10,6 +10,7 @@ use Rattle.atomic_table.proofs.Lists.{at_last, at_longer}
 use Rattle.atomic_table.specs.Seated.{TableId}
 use Rattle.door_worker.proofs.Going.{worker_is}
 use Rattle.door_worker.specs.Answers.{Goes}
+use Rattle.door_worker.specs.Languages.{Language}
 use Rattle.exchange_shared.specs.Seats.{MayCall, Seat, worker_of}
 use Rattle.exchange_state.specs.declared.entries.Entry.{Entry}
 use Rattle.exchange_state.specs.declared.entries.Origin.{Origin}
@@ -26,11 +27,11 @@ use Rattle.worker_pool.specs.Hiring.{AreBack, AreDone, AreHired, CountsOthers, F
 counts_on : (n : ℕ) (c : List Call) (i : ℕ) (s t : Seat) → Goes c i s t → CountsOthers n s → CountsOthers n t
 counts_on n c i s t g k = subst (CountsOthers n) (sym g.same) (record { made = k.made; out = k.out; ended = k.ended })
 
-module _ {G L : Type 0} (K : Ghosts L) (held_of : G → Option (Held L)) (faults_of : G → ℕ) (public : List ℕ) (here : TableId) where
-  pub had_is : (o : Origin) (w : ℕ) (a b : Job G) (h : IsHired here o w a) (e : IsDone K held_of faults_of public here a b) → e.before ≡ h.seat
+module _ {G L : Type 0} (K : Ghosts L) (held_of : G → Option (Held L)) (faults_of : G → ℕ) (language : Language) (here : TableId) where
+  pub had_is : (o : Origin) (w : ℕ) (a b : Job G) (h : IsHired here o w a) (e : IsDone K held_of faults_of language here a b) → e.before ≡ h.seat
   had_is o w a b h e = some_same a.0 e.before h.seat e.had h.has
 
-  pub all_back : (o : Origin) (old new : List (Job G)) → AreHired here o old → AreDone K held_of faults_of public here old new → AreBack here new
+  pub all_back : (o : Origin) (old new : List (Job G)) → AreHired here o old → AreDone K held_of faults_of language here old new → AreBack here new
   all_back o old new h e =
       let many : length new ≡ length old = e.many in
       let some_old : 0 < length old = h.some in

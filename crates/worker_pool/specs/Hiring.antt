@@ -6,6 +6,7 @@ use mathlib.Core.Option.{some}
 use lib.ListN.{get_elem?}
 use Rattle.atomic_table.specs.Seated.{TableId}
 use Rattle.door_worker.specs.Doors.{LeavesNone, ServesDoor}
+use Rattle.door_worker.specs.Languages.{Language}
 use Rattle.door_worker.specs.declared.door.DoorEnd.{DoorEnd}
 use Rattle.door_worker.specs.declared.door.DoorEnd.TheVariants.{Failed, Served}
 use Rattle.exchange_shared.specs.Seats.{MayCall, Seat}
@@ -52,7 +53,7 @@ pub record AreHiring {G : Type 0} (here : TableId) (o : Origin) (jobs : List (Jo
   pub fresh : IsFresh here o 0 s
   pub counts : CountsOthers (length jobs - 1) s
 
-module _ {G L : Type 0} (K : Ghosts L) (held_of : G → Option (Held L)) (faults_of : G → ℕ) (public : List ℕ) (here : TableId) where
+module _ {G L : Type 0} (K : Ghosts L) (held_of : G → Option (Held L)) (faults_of : G → ℕ) (language : Language) (here : TableId) where
   -- the job's door was served with its seat
   pub record IsDone (old new : Job G) : Type 0 where
     pub before : Seat
@@ -60,7 +61,7 @@ module _ {G L : Type 0} (K : Ghosts L) (held_of : G → Option (Held L)) (faults
     pub had : old.0 ≡ Some before
     pub has : new.0 ≡ Some after
     pub may : MayCall here after
-    pub served : ServesDoor K public before (held_of old.1) after (held_of new.1)
+    pub served : ServesDoor K language before (held_of old.1) after (held_of new.1)
     pub all : new.2 ≡ Served → LeavesNone (held_of old.1) (held_of new.1)
     pub cause : RisesOnlyWhere (new.2 ≡ Failed) (faults_of old.1) (faults_of new.1)
 
@@ -109,10 +110,10 @@ has_failed {G} jobs = list_any (λ (job : Job G). is_failed job.2) jobs
 
 -- The jobs were done, and were these then: a door failed or none did, and worker 0's seat has taken in the others. What is left
 -- has the same doors.
-module _ {G L : Type 0} (K : Ghosts L) (held_of : G → Option (Held L)) (faults_of : G → ℕ) (public : List ℕ) (here : TableId) where
+module _ {G L : Type 0} (K : Ghosts L) (held_of : G → Option (Held L)) (faults_of : G → ℕ) (language : Language) (here : TableId) where
   pub record AreGathered (old left : List (Job G)) (s : Seat) (failed : Bool) : Type 0 where
     pub jobs : List (Job G)
-    pub done : AreDone K held_of faults_of public here old jobs
+    pub done : AreDone K held_of faults_of language here old jobs
     pub back : AreBack here jobs
     pub joined : IsJoined here jobs (length jobs) s
     pub failed_is : failed ≡ has_failed jobs

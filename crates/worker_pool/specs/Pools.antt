@@ -2,6 +2,7 @@
 use Rattle.std.specs.Prelude.{◌≡◌, ℕ, ◌+◌, ◌≤◌, List, [], ◌∷◌, ◌++◌, All, length, map, slice_get, sum_by, take, Option, Some, ⊤}
 use Rattle.door_worker.specs.Answers.{Answered, AreDurable, ArePublished, IsRight, calls_of, store_failed}
 use Rattle.door_worker.specs.Doors.{AreHeld, LeavesNone}
+use Rattle.door_worker.specs.Languages.{Language}
 use Rattle.exchange_shared.specs.Seats.{effects_in}
 use Rattle.exchange_state.specs.declared.entries.Entry.{Entry}
 use Rattle.exchange_state.specs.declared.entries.Origin.{Origin}
@@ -23,16 +24,16 @@ History = PastView Origin Entry
 abbrev pub KeepsBudgets : History → Type 0
 KeepsBudgets past = (n : ℕ) → IsSolvent (state_after past.origin (take n (calls past.seen)))
 
-module _ {L : Type 0} (K : Ghosts L) (public : List ℕ) (past : History) where
+module _ {L : Type 0} (K : Ghosts L) (language : Language) (past : History) where
   -- The messages of the door of worker w were answered by calls that are all that the history has of that worker, in
   -- their order, and no more of them were told of a failed store than it left failed marks.
   pub record IsServedBy (w : ℕ) (all : List Answered) (held after : Option (Held L)) : Type 0 where
-    pub right : All (IsRight public w) all
+    pub right : All (IsRight language w) all
     pub calls_are : mine w (calls past.seen) ≡ calls_of all
     pub failures_are : store_failed all ≤ failed past.seen w
     pub durable : AreDurable all w past.origin past.seen
     pub published : ArePublished all w past.origin past.seen
-    pub door : AreHeld K all held after
+    pub door : AreHeld K language all held after
 
   -- the same of each door, from worker w on
   abbrev pub AreServedFrom : ℕ → List (List Answered) → List (Option (Held L)) → List (Option (Held L)) → Type 0

@@ -1,5 +1,6 @@
 //! The jobs of workers: each serves its door, and they are gathered.
 ghost use Rattle.std.specs.Prelude.{◌≡◌, ◌<◌, ◌≤◌, ◌^◌, [], IsTrue, None, Some, length, map};
+ghost use Rattle.door_worker.specs.Languages.{rtb};
 ghost use Rattle.exchange_shared.specs.Seats.{Seat as ASeat, lock_of};
 ghost use Rattle.exchange_state.specs.declared.entries.Origin.{Origin};
 ghost use Rattle.worker_pool.specs.Hiring.{AreBack, AreDone, AreGathered, AreHired, IsDone, IsHired, IsJoined, has_failed, is_failed};
@@ -49,7 +50,7 @@ pub(crate) fn serve_jobs<D: Disk + Send, R: Threads + Wait + Sync, G: Door + Sen
 ) -> (Seat<D>, bool)
     requires hired { (o : Origin) × AreHired (lock_of exchange.now) o jobs.old }
     requires few { length jobs.old < 2 ^ 32 }
-    ensures { AreGathered G.Link.Link G.held G.faults public.now (lock_of exchange.now) jobs.old jobs.new result.0 result.1 }
+    ensures { AreGathered G.Link.Link G.held G.faults (rtb public.now) (lock_of exchange.now) jobs.old jobs.new result.0 result.1 }
 {
     work_all(exchange, rt, alloc, pause, public, jobs);
     let failed = has_failed(jobs);
@@ -67,7 +68,7 @@ fn work_all<D: Disk + Send, R: Threads + Wait + Sync, G: Door + Send, P: Pause +
 )
     requires hired { (o : Origin) × AreHired (lock_of exchange.now) o jobs.old }
     requires few { length jobs.old < 2 ^ 32 }
-    ensures { AreDone G.Link.Link G.held G.faults public.now (lock_of exchange.now) jobs.old jobs.new }
+    ensures { AreDone G.Link.Link G.held G.faults (rtb public.now) (lock_of exchange.now) jobs.old jobs.new }
 {
     let count = jobs.len();
     let tools = Tools {
@@ -83,7 +84,7 @@ fn work_all<D: Disk + Send, R: Threads + Wait + Sync, G: Door + Send, P: Pause +
         count,
         &|worker: usize, job: &mut Job<D, G>|
             requires { (worker < 2 ^ 32) × ((o : Origin) × IsHired (lock_of tools.exchange.now) o worker job.now) }
-            ensures { IsDone G.Link.Link G.held G.faults tools.entry.public.now (lock_of tools.entry.exchange.now) job.entry.now job.exit.now }
+            ensures { IsDone G.Link.Link G.held G.faults (rtb tools.entry.public.now) (lock_of tools.entry.exchange.now) job.entry.now job.exit.now }
         { work(&tools, worker as u32, job) },
     );
 }
@@ -95,7 +96,7 @@ fn work<D: Disk, R: Wait, G: Door, P: Pause>(
     job: &mut Job<D, G>,
 )
     requires { (o : Origin) × IsHired (lock_of tools.now.exchange.now) o worker job.old }
-    ensures { IsDone G.Link.Link G.held G.faults tools.now.public.now (lock_of tools.now.exchange.now) job.old job.new }
+    ensures { IsDone G.Link.Link G.held G.faults (rtb tools.now.public.now) (lock_of tools.now.exchange.now) job.old job.new }
 {
     let Some(seat) = job.0.take() else {
         unreachable!()

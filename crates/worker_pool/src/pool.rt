@@ -1,5 +1,6 @@
 //! The doors of an exchange.
 ghost use Rattle.std.specs.Prelude.{◌≡◌, ◌<◌, ◌^◌, true, None, length, map};
+ghost use Rattle.door_worker.specs.Languages.{rtb};
 ghost use Rattle.exchange_shared.specs.Seats.{IsOrdered, MayCall, lock_of, worker_of};
 ghost use Rattle.exchange_state.specs.Standing.{SaysFront};
 ghost use Rattle.exchange_state.specs.Tickets.{IsLegalFrom};
@@ -74,7 +75,7 @@ pub fn serve_doors<
     ensures legal { IsLegalFrom result.past.origin (calls result.past.seen) }
     ensures budgets { KeepsBudgets result.past }
     ensures order { IsOrdered result.past.origin result.past.seen }
-    ensures served { AreServed G.Link.Link public.now result.past (map G.held doors) (map G.held result.doors) }
+    ensures served { AreServed G.Link.Link (rtb public.now) result.past (map G.held doors) (map G.held result.doors) }
     ensures images { result.past.origin.told ≡ true → EachImage (SaysFront result.past.origin result.past.seen) (D.store result.disk).now }
     ensures faults { D.faults result.disk ≡ faults_told result.past.origin result.past.seen }
     ensures counted { RoseBy (failures result.past.seen) result.past.origin.faults (D.faults result.disk) }

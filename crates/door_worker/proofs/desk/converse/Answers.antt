@@ -20,6 +20,6 @@ returns-clause-talked g c =
       seat = c.requires.seat.seat;
       has = c.requires.seat.has;
       turns = i.turns;
-      talk = has_talk g.G.Link.Link c.args.link.now c.serve_link-end.new.link _ c.serve_link-end.result i c.serve_link-end.ensures.cause;
+      talk = has_talk g.G.Link.Link c.args.desk.now.tools.now.public.now c.args.link.now c.serve_link-end.new.link _ c.serve_link-end.result i c.serve_link-end.ensures.cause;
       talked = talked_by i (λ w. w.tools.now.public.now) (λ w. w.worker.now.seat) (λ w. g.G.Door.held w.door.now) (λ s m v t a. a.0) (λ s m v t a. a.1) c.requires.seat.seat c.requires.seat.has c.requires.seat.free;
     }

@@ -1,4 +1,5 @@
 use Rattle.std.proofs.Common.{◌∙◌, ap, List, map, subst, sym}
+use Rattle.door_worker.specs.Languages.{rtb}
 use Rattle.exchange_shared.specs.Seats.{Seat, lock_of}
 use Rattle.worker_pool.proofs.Finishing.{idle}
 use Rattle.worker_pool.proofs.Serving.{comes, lent_back}
@@ -46,4 +47,4 @@ pub returns-in-Err-clause-served : goal.returns-in-Err-clause-served
 returns-in-Err-clause-served g c =
     let none = c.close.ensures.past.1 ∙ ap (λ (s : Seat). s.seen) c.in-Err.ensures.refused.0 ∙ ap (λ (s : Seat). s.seen) c.requires.first in
     let is = c.close.ensures.doors ∙ c.in-Err.ensures.refused.1 in
-    subst (λ (l : List g.row.G.Denot). AreServed g.G.Link.Link c.args.public.now c.close.result.past (map g.G.Door.held c.args.doors) (map g.G.Door.held l)) (sym is) (idle g.G.Link.Link c.args.public.now c.close.result.past none (map g.G.Door.held c.args.doors))
+    subst (λ (l : List g.row.G.Denot). AreServed g.G.Link.Link (rtb c.args.public.now) c.close.result.past (map g.G.Door.held c.args.doors) (map g.G.Door.held l)) (sym is) (idle g.G.Link.Link (rtb c.args.public.now) c.close.result.past none (map g.G.Door.held c.args.doors))
