@@ -62,7 +62,7 @@ others_behind w l more e = nothing_behind (own w l) (own w more) (sym (own_appen
 -- The seat s had seen nothing of its worker, became t, and the history goes on behind that by entries of others.
 module _ {L : Type 0} (K : Ghosts L) (language : Language) where
   at_end : (all : List Answered) (s t : Seat) (past : History) (more : List Entry) → Answers language all s t → own s.worker s.seen ≡ [] → past.origin ≡ t.origin → past.seen ≡ t.seen ++ more → mine t.worker (calls more) ≡ []
-      → (held after : Option (Held L)) → AreHeld K all held after → IsServedBy K language past t.worker all held after
+      → (held after : Option (Held L)) → AreHeld K language all held after → IsServedBy K language past t.worker all held after
   at_end all s t past more a fresh origin seen others held after door =
       let w = t.worker in
       let same : t.worker ≡ s.worker = ap (λ (u : Seat). u.worker) a.goes.same in
