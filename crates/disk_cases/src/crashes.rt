@@ -67,7 +67,7 @@ fn append_crashes(
     out: &mut Txt,
 ) -> Result<(), AllocError> {
     let before = calls_to_open(alloc, content)? as u64;
-    for call in 1..=7u64 {
+    for call in 1..=5u64 {
         put_space(call.saturating_sub(1) as usize, out)?;
         let disk = disk_that_stops(alloc, content, before.saturating_add(call))?;
         append_crash(alloc, content, disk, block, false, out)?;
@@ -105,7 +105,7 @@ fn repair_crashes(
     out: &mut Txt,
 ) -> Result<(), AllocError> {
     let before = (calls_to_open(alloc, content)? as u64).saturating_add(fail);
-    let left = if fail < 5 { 7u64 } else { 3u64 };
+    let left = if fail < 3 { 5u64 } else { 3u64 };
     for call in 1..=left {
         put_space(call.saturating_sub(1) as usize, out)?;
         let disk = disk_that_fails(alloc, content, before, before.saturating_add(call))?;

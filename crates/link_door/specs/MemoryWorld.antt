@@ -1,7 +1,7 @@
 -- What contracts see of a world in memory.
-use Rattle.std.specs.Prelude.{ℕ, List, Bool, length, nat_lt, ◌||◌}
+use Rattle.std.specs.Prelude.{ℕ, List, [], ◌∷◌, Bool, true, length, nat_eq, nat_lt, ◌||◌}
 use Rattle.rtb_base.specs.Calls.{Calls, next_fails}
-use Rattle.rtb_disk.specs.Memory.{DiskState}
+use Rattle.rtb_disk.specs.Memory.{DiskState, store_of}
 use Rattle.link_door.specs.Memory.{DoorState}
 use Rattle.link_door.specs.declared.asked.Asked.{Asked}
 
@@ -15,3 +15,8 @@ pub record WorldState : Type 0 where
 -- a call for so many of these has to fail: it is told to, or there are too few
 abbrev pub lacks : {Item : Type 0} → Calls → List Item → ℕ → Bool
 lacks calls items n = next_fails calls || nat_lt (length items) n
+
+-- none of these is left, or the first has nothing in it
+abbrev pub lacks_there : List DiskState → Bool
+lacks_there [] = true
+lacks_there (disk ∷ disks) = nat_eq (length (store_of disk).reads) 0

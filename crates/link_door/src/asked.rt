@@ -10,6 +10,8 @@ use std::alloc::AllocError;
 pub enum Asked {
     /// The disk with this name.
     Disk { path: Txt },
+    /// The same, where there is one with something in it.
+    DiskThere { path: Txt },
     /// The same, to be read alone.
     DiskToRead { path: Txt },
     /// So many doors at this address, whose links wait for their peers so many milliseconds.
@@ -23,6 +25,15 @@ pub(crate) fn note_disk(asked: &mut List<Asked>, path: &Txt) -> Result<(), Alloc
 {
     let path = path.copy()?;
     asked.push(Asked::Disk { path })
+}
+
+/// Notes that a disk is asked for that is there. Where memory is refused the list is as it was.
+pub(crate) fn note_disk_there(asked: &mut List<Asked>, path: &Txt) -> Result<(), AllocError>
+    ensures ok { OnOk result (asked.new ≡ asked.old ++ asked_for.DiskThere path.now ∷ []) }
+    ensures err { OnErr result (asked.new ≡ asked.old) }
+{
+    let path = path.copy()?;
+    asked.push(Asked::DiskThere { path })
 }
 
 /// Notes that a disk is asked for, to be read alone. Where memory is refused the list is as it was.

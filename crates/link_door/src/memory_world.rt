@@ -2,13 +2,14 @@
 ghost use Rattle.std.specs.Prelude.{◌≡◌, true, false, ◌∷◌, [], Some, Err, length, take, drop, ◌<◌, ◌≤◌, IfErr, IfOk, OnOk, OnErr, MatchResult};
 ghost use Rattle.rtb_base.specs.Calls.{no_calls, one_call_later};
 ghost use Rattle.std.specs.Result.{is_err};
-ghost use Rattle.link_door.specs.MemoryWorld.{lacks};
+ghost use Rattle.link_door.specs.MemoryWorld.{lacks, lacks_there};
+ghost use Rattle.rtb_disk.specs.Memory.{store_of};
 ghost use Rattle.rtb_base.specs.Faults.{CountsErrors, RisesOnlyWhere, RoseAtMost};
 ghost use Rattle.link_door.specs.Worlds.{Asks, HandsOut};
 ghost use Rattle.link_door.specs.declared.asked.Asked.TheVariants as asked_for;
 ghost use Rattle.link_door.specs.declared.world.WorldFault.TheVariants.{Memory as memory};
 
-use crate::asked::{Asked, note_disk, note_disk_to_read, note_doors};
+use crate::asked::{Asked, note_disk, note_disk_there, note_disk_to_read, note_doors};
 use crate::memory_door::MemDoor;
 use crate::world::{World, WorldFault};
 use rtb_disk::MemDisk;
@@ -138,6 +139,27 @@ impl World for MemWorld {
         }
         Ok(take_first(&mut self.disks))
     }
+
+    fn disk_there(&mut self, path: &Txt) -> Result<MemDisk, Failed>
+        ensures long { IfOk result (λ disk. (store_of disk).told ≡ true → 0 < length (store_of disk).reads) }
+        ensures disks { MatchResult result (λ disk. HandsOut (Some self.old.disks) (Some self.new.disks) (disk ∷ [])) (λ _. self.new.disks ≡ self.old.disks) }
+        ensures doors { self.new.doors ≡ self.old.doors }
+        ensures asks { Asks self.old.asked self.new.asked (asked_for.DiskThere path.now) result }
+        ensures cause { CountsErrors self.old.calls.faults self.new.calls.faults result }
+
+        // A call fails where it is told to, and where none is left, or the next has nothing in it.
+        ensures told { OnOk result (lacks self.old.calls self.old.disks 1 ≡ false) }
+        ensures calls { self.new.calls ≡ one_call_later self.old.calls (is_err result) }
+    {
+        if self.calls.begin()
+            || is_none_there(&self.disks)
+            || note_disk_there(&mut self.asked, path).is_err()
+        {
+            self.calls.count_fault();
+            return Err(Failed);
+        }
+        Ok(take_first(&mut self.disks))
+    }
 }
 
 // Takes the first so many.
@@ -150,6 +172,16 @@ fn take_front<T: Drop>(items: &mut Vec<T>, n: usize) -> Result<List<T>, WorldFau
 {
     let rest = items.split_off(n)?;
     Ok(List::from_vec(mem::replace(items, rest)))
+}
+
+// Whether none is left, or the first has nothing in it.
+fn is_none_there(disks: &Vec<MemDisk>) -> bool
+    ensures { result ≡ lacks_there disks.now.items }
+{
+    match disks.as_slice() {
+        [] => true,
+        [first, ..] => first.is_empty(),
+    }
 }
 
 // Takes the first.

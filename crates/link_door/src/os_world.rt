@@ -2,28 +2,25 @@
 ghost use Rattle.std.specs.Prelude.{◌≡◌, ◌≤◌, [], None, length, IfOk};
 ghost use Rattle.rtb_base.specs.Faults.{one_more};
 
-use crate::asked::{Asked, note_disk, note_disk_to_read, note_doors};
+use crate::asked::{Asked, note_disk, note_disk_there, note_disk_to_read, note_doors};
 use crate::tcp::TcpDoor;
 use crate::world::{World, WorldFault};
 use rtb_disk::FileDisk;
 use rtb_num::{Failed, List, Txt};
 use std::alloc::{AllocError, Global};
-use std::fs::{self, File, OpenOptions, TryLockError};
-use std::io::Write;
+use std::io;
 use std::net::{TcpListener, ToSocketAddrs};
 use std::time::Duration;
 
 /// The network, the files and the clock of the system.
 ///
-/// A file that is handed out to be written has the system's lock from before it is read until the world is let go of, or
-/// its process ends: no second process gets it so. Why a file was not handed out is said on standard error.
+/// A file that is handed out to be written has the system's lock from before it is read until it is let go of, or its
+/// process ends: no second process gets it so. Why a file or a door was not handed out is said on standard error.
 #[derive(Drop)]
 pub struct OsWorld<'r> {
     rt: &'r HostRuntime,
     asked: List<Asked>,
     faults: u64,
-    // A handle of each file that may be written, which holds its lock.
-    locks: Vec<File>,
 }
 
 impl<'r> OsWorld<'r> {
@@ -36,7 +33,6 @@ impl<'r> OsWorld<'r> {
             rt,
             asked: List::new(rt.alloc()),
             faults: 0,
-            locks: Vec::new(rt.alloc()),
         }
     }
 
@@ -53,7 +49,7 @@ impl<'r> OsWorld<'r> {
 impl<'r> World for OsWorld<'r> {
     type Door = TcpDoor<&'r HostRuntime>;
 
-    type Disk = FileDisk;
+    type Disk = FileDisk<'r>;
 
     ghost doors_left = { λ _. None };
 
@@ -84,7 +80,7 @@ impl<'r> World for OsWorld<'r> {
         }
     }
 
-    fn disk_to_read(&mut self, path: &Txt) -> Result<FileDisk, Failed> {
+    fn disk_to_read(&mut self, path: &Txt) -> Result<FileDisk<'r>, Failed> {
         if note_disk_to_read(&mut self.asked, path).is_ok() {
             if let Some(disk) = open_to_read(self.rt, path) {
                 return Ok(disk);
@@ -94,9 +90,19 @@ impl<'r> World for OsWorld<'r> {
         Err(Failed)
     }
 
-    fn disk(&mut self, path: &Txt) -> Result<FileDisk, Failed> {
+    fn disk(&mut self, path: &Txt) -> Result<FileDisk<'r>, Failed> {
         if note_disk(&mut self.asked, path).is_ok() {
-            if let Some(disk) = open_alone(self.rt, path, &mut self.locks) {
+            if let Some(disk) = open_alone(self.rt, path) {
+                return Ok(disk);
+            }
+        }
+        self.count_fault();
+        Err(Failed)
+    }
+
+    fn disk_there(&mut self, path: &Txt) -> Result<FileDisk<'r>, Failed> {
+        if note_disk_there(&mut self.asked, path).is_ok() {
+            if let Some(disk) = open_there(self.rt, path) {
                 return Ok(disk);
             }
         }
@@ -105,15 +111,28 @@ impl<'r> World for OsWorld<'r> {
     }
 }
 
-// The first address of the name that can be listened at. As many links wait with the system as it allows.
+// The first address of the name that can be listened at. Where there is none, it says why.
 fn listen(rt: &HostRuntime, address: &Txt) -> Option<TcpListener> {
     let address = str::from_utf8(address.as_bytes()).ok()?;
-    for found in address.to_socket_addrs(rt).ok()? {
-        if let Ok(listener) = mio::net::TcpListener::bind(rt, found) {
-            return Some(TcpListener::from(listener));
+    match listen_at(rt, address) {
+        Ok(listener) => Some(listener),
+        Err(fault) => {
+            let _ = eprintln!(rt; "rtbx: {address}: {fault}");
+            None
         }
     }
-    None
+}
+
+// As many links wait with the system as it allows.
+fn listen_at(rt: &HostRuntime, address: &str) -> io::Result<TcpListener> {
+    let mut answer = Err(io::Error::other("no address has this name"));
+    for found in address.to_socket_addrs(rt)? {
+        match mio::net::TcpListener::bind(rt, found) {
+            Ok(listener) => return Ok(TcpListener::from(listener)),
+            Err(fault) => answer = Err(fault),
+        }
+    }
+    answer
 }
 
 // So many doors over the listener.
@@ -144,62 +163,20 @@ fn doors_over<'r>(
     Ok(doors)
 }
 
-// The file, made where it is missing, once it is locked for this process alone.
-fn open_alone(rt: &HostRuntime, path: &Txt, locks: &mut Vec<File>) -> Option<FileDisk> {
+// The file, made where it is missing, for this process alone.
+fn open_alone<'r>(rt: &'r HostRuntime, path: &Txt) -> Option<FileDisk<'r>> {
     let path = str::from_utf8(path.as_bytes()).ok()?;
-    if is_no_file(rt, path) {
-        return None;
-    }
-    let disk = FileDisk::open(rt, path).ok()?;
-    let lock = locked(rt, path)?;
-    locks.push(lock).ok()?;
-    Some(disk)
+    FileDisk::open_alone(rt, path).ok()
 }
 
-// A handle of the file that holds its lock. None, which is said, where another handle has it, mostly of another process.
-fn locked(rt: &HostRuntime, path: &str) -> Option<File> {
-    let file = OpenOptions::new()
-        .read(true)
-        .write(true)
-        .open(rt, path)
-        .ok()?;
-    match file.try_lock() {
-        Ok(()) => Some(file),
-        Err(TryLockError::WouldBlock) => {
-            say(rt, path, b" is open to be written already\n");
-            None
-        }
-        Err(TryLockError::Error(_)) => {
-            say(rt, path, b" cannot be locked\n");
-            None
-        }
-    }
+// The same, where there is one with something in it.
+fn open_there<'r>(rt: &'r HostRuntime, path: &Txt) -> Option<FileDisk<'r>> {
+    let path = str::from_utf8(path.as_bytes()).ok()?;
+    FileDisk::open_there(rt, path).ok()
 }
 
 // The file, where there is one, to be read alone.
-fn open_to_read(rt: &HostRuntime, path: &Txt) -> Option<FileDisk> {
+fn open_to_read<'r>(rt: &'r HostRuntime, path: &Txt) -> Option<FileDisk<'r>> {
     let path = str::from_utf8(path.as_bytes()).ok()?;
-    if is_no_file(rt, path) {
-        return None;
-    }
     FileDisk::open_to_read(rt, path).ok()
-}
-
-// Whether the name is of something else than a file, as a folder, a pipe, at which opening would wait, or a device.
-fn is_no_file(rt: &HostRuntime, path: &str) -> bool {
-    match fs::metadata(rt, path) {
-        Ok(found) if !found.is_file() => {
-            say(rt, path, b" is no file\n");
-            true
-        }
-        _ => false,
-    }
-}
-
-// Says it of the file on standard error, where that can be written.
-fn say(rt: &HostRuntime, path: &str, what: &[u8]) {
-    let mut errors = rt.stderr();
-    let _ = errors.write_all(b"rtbx: ");
-    let _ = errors.write_all(path.as_bytes());
-    let _ = errors.write_all(what);
 }

@@ -1,5 +1,5 @@
 //! The outside of a program: where its doors and disks come from.
-ghost use Rattle.std.specs.Prelude.{◌≡◌, ℕ, ◌∷◌, [], Err, length, List, Option, IfOk, MatchResult};
+ghost use Rattle.std.specs.Prelude.{◌≡◌, ◌<◌, ℕ, ◌∷◌, [], Err, true, length, List, Option, IfOk, MatchResult};
 ghost use Rattle.rtb_base.specs.Faults.{CountsErrors, RisesOnlyWhere, RoseAtMost};
 ghost use Rattle.link_door.specs.Worlds.{Asks, HandsOut};
 ghost use Rattle.link_door.specs.declared.asked.Asked.{Asked};
@@ -76,5 +76,13 @@ pub trait World {
         ensures disks { MatchResult result (λ disk. HandsOut (disks_left self.old) (disks_left self.new) (disk ∷ [])) (λ _. disks_left self.new ≡ disks_left self.old) }
         ensures doors { doors_left self.new ≡ doors_left self.old }
         ensures asks { Asks (asked self.old) (asked self.new) (asked_for.Disk path.now) result }
+        ensures cause { CountsErrors (faults self.old) (faults self.new) result };
+
+    /// The disk with this name, where there is one with something in it: none is made.
+    fn disk_there(&mut self, path: &Txt) -> Result<Self::Disk, Failed>
+        ensures long { IfOk result (λ disk. (Self.Disk.store disk).told ≡ true → 0 < length (Self.Disk.store disk).reads) }
+        ensures disks { MatchResult result (λ disk. HandsOut (disks_left self.old) (disks_left self.new) (disk ∷ [])) (λ _. disks_left self.new ≡ disks_left self.old) }
+        ensures doors { doors_left self.new ≡ doors_left self.old }
+        ensures asks { Asks (asked self.old) (asked self.new) (asked_for.DiskThere path.now) result }
         ensures cause { CountsErrors (faults self.old) (faults self.new) result };
 }

@@ -1,5 +1,5 @@
 //! What keeps bytes through a crash.
-ghost use Rattle.std.specs.Prelude.{◌≡◌, ◌+◌, ◌<◌, ◌≤◌, ◌^◌, ℕ, length, drop, take, min, true, IfOk, OnOk, OnErr};
+ghost use Rattle.std.specs.Prelude.{◌≡◌, ◌+◌, ◌-◌, ◌++◌, ◌<◌, ◌≤◌, ◌^◌, ℕ, length, drop, take, min, true, IfOk, OnOk, OnErr};
 ghost use Rattle.rtb_base.specs.Faults.{CountsErrors};
 ghost use Rattle.rtb_disk.specs.Stores.{Store, IsImage, write, cut, overwritten, changed, settled, Fails};
 
@@ -43,6 +43,21 @@ pub trait Disk {
         ensures bound { OnOk result (place + length bytes.now < 2 ^ 63) }
         ensures cause { CountsErrors (faults self.old) (faults self.new) result };
 
+    /// Writes head, body and tail over what is there from the place on, one behind the other, as one write.
+    fn write_parts(
+        &mut self,
+        place: u64,
+        head: &[u8],
+        body: &[u8],
+        tail: &[u8],
+    ) -> Result<(), Failed>
+        requires inside { (store self.old).told ≡ true → place ≤ length (store self.old).reads }
+        ensures done { (store self.old).told ≡ true → OnOk result (store self.new ≡ changed (write place (length (head.now ++ body.now ++ tail.now))) (overwritten (store self.old).reads place (head.now ++ body.now ++ tail.now)) (store self.old)) }
+        ensures failed { (store self.old).told ≡ true → OnErr result (Fails (write place (length (head.now ++ body.now ++ tail.now))) (store self.old) (store self.new)) }
+        ensures told { (store self.new).told ≡ (store self.old).told }
+        ensures bound { OnOk result (place + length (head.now ++ body.now ++ tail.now) < 2 ^ 63) }
+        ensures cause { CountsErrors (faults self.old) (faults self.new) result };
+
     /// Cuts off what is behind the first `count` bytes. A cut that fails may have been done in part.
     fn cut(&mut self, count: u64) -> Result<(), Failed>
         requires inside { (store self.old).told ≡ true → count ≤ length (store self.old).reads }
@@ -60,4 +75,12 @@ pub trait Disk {
 
     // What a read gives is one of the images.
     ghost stands: { (disk : Self) → (store disk).told ≡ true → IsImage (store disk).now (store disk).reads };
+}
+
+/// How many bytes the three have, up to the greatest number of 64 bits.
+pub fn parts_len(head: &[u8], body: &[u8], tail: &[u8]) -> u64
+    ensures { result ≡ min (2 ^ 64 - 1) (length (head.now ++ body.now ++ tail.now)) }
+{
+    let front = (head.len() as u64).saturating_add(body.len() as u64);
+    front.saturating_add(tail.len() as u64)
 }

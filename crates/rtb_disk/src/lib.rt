@@ -8,10 +8,13 @@ mod bytes;
 mod calls;
 mod disk;
 mod file;
+mod known;
 mod log;
 mod memory;
+mod notices;
+mod opening;
 
 pub use calls::{Call, Made};
-pub use disk::Disk;
+pub use disk::{Disk, parts_len};
 pub use file::FileDisk;
 pub use memory::MemDisk;

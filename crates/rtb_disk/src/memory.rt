@@ -1,5 +1,5 @@
 //! A disk in memory, whose calls fail as they are told to, and which crashes.
-ghost use Rattle.std.specs.Prelude.{◌≡◌, ◌+◌, ◌<◌, ◌≤◌, ◌^◌, ◌⊎◌, [], length, drop, take, min, true, false, None, IfOk, OnOk, OnErr};
+ghost use Rattle.std.specs.Prelude.{◌≡◌, ◌+◌, ◌++◌, ◌<◌, ◌≤◌, ◌^◌, ◌⊎◌, [], length, drop, take, min, true, false, nat_eq, None, IfOk, OnOk, OnErr};
 ghost use Rattle.rtb_base.specs.Calls.{no_calls};
 ghost use Rattle.rtb_base.specs.Faults.{CountsErrors};
 ghost use Rattle.rtb_disk.specs.Stores.{IsImage, write, cut, overwritten, changed, settled, Fails};
@@ -70,6 +70,13 @@ impl MemDisk {
         Ok(MemDisk::new(alloc, content, List::new(alloc)))
     }
 
+    /// Whether it has no byte. This is no call of the disk.
+    pub fn is_empty(&self) -> bool
+        ensures { result ≡ nat_eq (length (store_of self.now).reads) 0 }
+    {
+        self.log.content().is_empty()
+    }
+
     /// The record of its calls.
     pub fn history(&self) -> &[Made]
         ensures { result.now ≡ self.now.made }
@@ -111,6 +118,23 @@ impl MemDisk {
         Ok(())
     }
 
+    // Writes the text at the place.
+    #[tactic(auto, using(crate::proofs::Replayed::store_recorded, crate::proofs::Replayed::write_done, crate::proofs::Replayed::write_fails))]
+    fn write_text(&mut self, place: u64, bytes: Txt) -> Result<(), Failed>
+        requires inside { (store_of self.old).told ≡ true → place ≤ length (store_of self.old).reads }
+        ensures done { (store_of self.old).told ≡ true → OnOk result (store_of self.new ≡ changed (write place (length bytes)) (overwritten (store_of self.old).reads place bytes) (store_of self.old)) }
+        ensures failed { (store_of self.old).told ≡ true → OnErr result (Fails (write place (length bytes)) (store_of self.old) (store_of self.new)) }
+        ensures told { (store_of self.new).told ≡ (store_of self.old).told }
+        ensures bound { OnOk result (place + length bytes < 2 ^ 63) }
+        ensures cause { CountsErrors self.old.calls.faults self.new.calls.faults result }
+        ensures did { Did (Call.Write place bytes) self.old self.new result }
+    {
+        if place.saturating_add(bytes.len() as u64) > MAX_LENGTH {
+            return Err(self.refuse());
+        }
+        self.make(Call::Write { place, bytes })
+    }
+
     // A call that fails and does nothing.
     fn refuse(&mut self) -> Failed
         ensures did { self.new ≡ unheard self.old }
@@ -120,6 +144,17 @@ impl MemDisk {
         self.calls.count_fault();
         Failed
     }
+}
+
+// The three, one behind the other.
+fn joined(alloc: Global, head: &[u8], body: &[u8], tail: &[u8]) -> Result<Txt, AllocError>
+    ensures { IfOk result (λ t. t ≡ head.now ++ body.now ++ tail.now) }
+{
+    let mut text = Txt::new(alloc);
+    text.extend(head)?;
+    text.extend(body)?;
+    text.extend(tail)?;
+    Ok(text)
 }
 
 // Moves as much as fits.
@@ -169,7 +204,6 @@ impl Disk for MemDisk {
         Ok(fill(out, &content[from..]))
     }
 
-    #[tactic(auto, using(crate::proofs::Replayed::store_recorded, crate::proofs::Replayed::write_done, crate::proofs::Replayed::write_fails))]
     fn write_at(&mut self, place: u64, bytes: &[u8]) -> Result<(), Failed>
         requires inside { (store_of self.old).told ≡ true → place ≤ length (store_of self.old).reads }
         ensures done { (store_of self.old).told ≡ true → OnOk result (store_of self.new ≡ changed (write place (length bytes.now)) (overwritten (store_of self.old).reads place bytes.now) (store_of self.old)) }
@@ -179,11 +213,29 @@ impl Disk for MemDisk {
         ensures cause { CountsErrors self.old.calls.faults self.new.calls.faults result }
         ensures did { Did (Call.Write place bytes.now) self.old self.new result }
     {
-        if place.saturating_add(bytes.len() as u64) > MAX_LENGTH {
-            return Err(self.refuse());
-        }
         match Txt::from_slice(self.log.allocator(), bytes) {
-            Ok(bytes) => self.make(Call::Write { place, bytes }),
+            Ok(bytes) => self.write_text(place, bytes),
+            Err(_) => Err(self.refuse()),
+        }
+    }
+
+    fn write_parts(
+        &mut self,
+        place: u64,
+        head: &[u8],
+        body: &[u8],
+        tail: &[u8],
+    ) -> Result<(), Failed>
+        requires inside { (store_of self.old).told ≡ true → place ≤ length (store_of self.old).reads }
+        ensures done { (store_of self.old).told ≡ true → OnOk result (store_of self.new ≡ changed (write place (length (head.now ++ body.now ++ tail.now))) (overwritten (store_of self.old).reads place (head.now ++ body.now ++ tail.now)) (store_of self.old)) }
+        ensures failed { (store_of self.old).told ≡ true → OnErr result (Fails (write place (length (head.now ++ body.now ++ tail.now))) (store_of self.old) (store_of self.new)) }
+        ensures told { (store_of self.new).told ≡ (store_of self.old).told }
+        ensures bound { OnOk result (place + length (head.now ++ body.now ++ tail.now) < 2 ^ 63) }
+        ensures cause { CountsErrors self.old.calls.faults self.new.calls.faults result }
+        ensures did { Did (Call.Write place (head.now ++ body.now ++ tail.now)) self.old self.new result }
+    {
+        match joined(self.log.allocator(), head, body, tail) {
+            Ok(bytes) => self.write_text(place, bytes),
             Err(_) => Err(self.refuse()),
         }
     }
