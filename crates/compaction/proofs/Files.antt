@@ -8,7 +8,7 @@ use Rattle.compaction.specs.declared.fault.CompactionFault.TheVariants.{NotRead,
 use Rattle.compaction.specs.declared.fault.WriteFault.{WriteFault}
 use Rattle.compaction.specs.declared.fault.WriteFault.TheVariants as write
 use Rattle.journal_file.specs.Blocks.{HasBlocks, compacted_name, journal_names}
-use Rattle.journal_file.specs.Unfinished.{IsUnfinished, IsUnfinishedOr}
+use Rattle.journal_file.specs.Unfinished.{IsUnfinished, IsUnfinishedOr, LeavesOthers}
 use Rattle.journal_file.specs.declared.faults.JournalFault.{JournalFault}
 use Rattle.plain_exchange.specs.Effects.{kept_effects}
 use Rattle.plain_exchange.specs.State.{State}
@@ -60,7 +60,7 @@ not_filled state s t write.Memory a = a
 -- a file that was taken, and begun behind its first sync
 pub begun : (state : State) (store t u : Store) (r : Result Unit WriteFault) → IsUnfinished store.reads → Always IsUnfinished (settled store) t → Fills state t u r → Writes state store u (done_by r)
 begun state store t u (Ok _) taken a f = let g = filled_first state (settled store) t u (Ok tt) a f in (taken, g.0, g.1)
-begun state store t u (Err write.DiskFailed) taken a f = λ _. inr (filled_first state (settled store) t u (Err write.DiskFailed) a f)
+begun state store t u (Err write.DiskFailed) taken a f = (λ no. absurd (no taken), λ _. inr (filled_first state (settled store) t u (Err write.DiskFailed) a f))
 begun state store t u (Err write.Memory) taken a f = (taken, filled_first state (settled store) t u (Err write.Memory) a f)
 
 pub not_unread : (r : Result Unit WriteFault) (fault : JournalFault) → done_by r ≡ Err (NotRead fault) → ⊥
@@ -83,8 +83,11 @@ told_as A (Err write.DiskFailed) done is a = subst (λ d. OnOk d A) (sym is) tt
 told_as A (Err write.Memory) done is a = subst (λ d. OnOk d A) (sym is) tt
 
 -- a file at which the first calls failed
-pub not_begun : (state : State) (store u : Store) → (IsUnfinished store.reads → (u ≡ store) ⊎ Always IsUnfinished (settled store) u) → IsUnfinished store.reads → (u ≡ store) ⊎ Always (IsUnfinishedOrCompacted state) (settled store) u
-not_begun state store u h taken = elim (h taken) [
-  | inl same ↦ inl same
-  | inr a ↦ inr (always_unfinished state (settled store) u a)
-]
+pub not_begun : (state : State) (store u : Store) → LeavesOthers store u → (IsUnfinished store.reads → (u ≡ store) ⊎ Always IsUnfinished (settled store) u) → Writes state store u (Err WriteFailed)
+not_begun state store u others h = (
+  others,
+  λ taken. elim (h taken) [
+    | inl same ↦ inl same
+    | inr a ↦ inr (always_unfinished state (settled store) u a)
+  ],
+)

@@ -4,7 +4,7 @@ use Rattle.compaction.specs.Lines.{compact_line}
 use Rattle.compaction.specs.declared.fault.CompactionFault.{CompactionFault}
 use Rattle.compaction.specs.declared.fault.CompactionFault.TheVariants.{Memory, NotEmpty, NotRead, WriteFailed}
 use Rattle.journal_file.specs.Blocks.{HasBlocks, compacted_name}
-use Rattle.journal_file.specs.Unfinished.{IsUnfinished}
+use Rattle.journal_file.specs.Unfinished.{IsUnfinished, LeavesOthers}
 use Rattle.plain_exchange.specs.Effects.{kept_effects}
 use Rattle.plain_exchange.specs.State.{State, forget}
 use Rattle.recovery.specs.Openings.{Opens}
@@ -23,12 +23,12 @@ abbrev pub IsUnfinishedOrCompacted : State → List ℕ → Type 0
 IsUnfinishedOrCompacted state image = IsUnfinished image ⊎ IsCompacted state image
 
 -- What becomes of the file that the state is written to, by what is answered. It was taken where it was not finished;
--- any other is left as it is. A crash at any moment behind the first sync leaves it unfinished, or the journal of the
+-- any other is left as it is, also where a call of its disk fails. A crash at any moment behind the first sync leaves it unfinished, or the journal of the
 -- state; behind the last sync, that journal.
 abbrev pub Writes : State → Store → Store → Result Unit CompactionFault → Type 0
 Writes state store store' (Ok _) = IsUnfinished store.reads × Always (IsUnfinishedOrCompacted state) (settled store) store' × EachImage (IsCompacted state) store'.now
 Writes state store store' (Err NotEmpty) = (IsUnfinished store.reads → ⊥) × (store' ≡ settled store)
-Writes state store store' (Err WriteFailed) = IsUnfinished store.reads → (store' ≡ store) ⊎ Always (IsUnfinishedOrCompacted state) (settled store) store'
+Writes state store store' (Err WriteFailed) = LeavesOthers store store' × (IsUnfinished store.reads → (store' ≡ store) ⊎ Always (IsUnfinishedOrCompacted state) (settled store) store')
 Writes state store store' (Err Memory) = IsUnfinished store.reads × Always IsUnfinished (settled store) store'
 Writes state store store' (Err (NotRead fault)) = ⊥
 

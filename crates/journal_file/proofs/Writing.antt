@@ -27,35 +27,33 @@ behind_keeps names payloads place n lt = λ old new has torn.
     let kept = front_kept front old new place n long has.rest (has.file ∙ sym (append_assoc (front_of has.name payloads) (has.gate ∷ []) has.rest)) torn in
     record { name = has.name; named = has.named; gate = has.gate; rest = kept.0; closed = has.closed; file = kept.1 ∙ append_assoc (front_of has.name payloads) (has.gate ∷ []) kept.0 }
 
--- the reads of three writes in a row behind a closed gate
-pub three_writes : (names payloads : List (List ℕ)) (block r0 : List ℕ) (gate : ℕ) → gate ≡ end_of payloads → HasBlocks names payloads r0
-    → HasBehind names payloads block (overwritten (overwritten (overwritten r0 (gate + 1) (eight_bytes (length block))) (gate + 9) block) (gate + 9 + length block) (0 ∷ []))
+-- what stands behind the closed gate once a block is written there
+abbrev pub block_parts : List ℕ → List ℕ → List ℕ
+block_parts size block = size ++ block ++ 0 ∷ []
+
+pub parts_long : (size block : List ℕ) → size ≡ eight_bytes (length block) → length (block_parts size block) ≡ length block + 9
+parts_long size block is = omega (arith, length-append (size ++ block) (0 ∷ []), length-append size block, ap length is, length-eight (length block))
+
+-- the reads of that write behind a closed gate
+pub block_written : (names payloads : List (List ℕ)) (block r0 : List ℕ) (gate : ℕ) → gate ≡ end_of payloads → HasBlocks names payloads r0
+    → HasBehind names payloads block (overwritten r0 (gate + 1) (block_parts (eight_bytes (length block)) block))
 unfolding block_bytes
-three_writes names payloads block r0 gate is has =
+block_written names payloads block r0 gate is has =
     let front = front_of has.name payloads ++ has.gate ∷ [] in
-    let size = eight_bytes (length block) in
+    let whole = eight_bytes (length block) ++ block in
     let long : length front ≡ gate + 1 = omega (arith, length-append (front_of has.name payloads) (has.gate ∷ []), front_long has.name payloads has.named.seven, is) in
-    let long2 : length (front ++ size) ≡ gate + 9 = omega (arith, long, length-append front size, length-eight (length block)) in
-    let long3 : length ((front ++ size) ++ block) ≡ gate + 9 + length block = omega (arith, long2, length-append (front ++ size) block) in
-    let r1 = drop (length size) has.rest in
-    let r2 = drop (length block) r1 in
-    let r3 = drop 1 r2 in
-    let one : overwritten r0 (gate + 1) size ≡ (front ++ size) ++ r1 =
-    ap (λ r. overwritten r (gate + 1) size) (has.file ∙ sym (append_assoc (front_of has.name payloads) (has.gate ∷ []) has.rest)) ∙ written_behind front has.rest size (gate + 1) long in
-    let two : overwritten (overwritten r0 (gate + 1) size) (gate + 9) block ≡ ((front ++ size) ++ block) ++ r2 =
-    ap (λ r. overwritten r (gate + 9) block) one ∙ written_behind (front ++ size) r1 block (gate + 9) long2 in
-    let three : overwritten (overwritten (overwritten r0 (gate + 1) size) (gate + 9) block) (gate + 9 + length block) (0 ∷ []) ≡ (((front ++ size) ++ block) ++ 0 ∷ []) ++ r3 =
-    ap (λ r. overwritten r (gate + 9 + length block) (0 ∷ [])) two ∙ written_behind ((front ++ size) ++ block) r2 (0 ∷ []) (gate + 9 + length block) long3 in
+    let rest = drop (length (whole ++ 0 ∷ [])) has.rest in
+    let one : overwritten r0 (gate + 1) (whole ++ 0 ∷ []) ≡ (front ++ (whole ++ 0 ∷ [])) ++ rest =
+    ap (λ r. overwritten r (gate + 1) (whole ++ 0 ∷ [])) (has.file ∙ sym (append_assoc (front_of has.name payloads) (has.gate ∷ []) has.rest)) ∙ written_behind front has.rest (whole ++ 0 ∷ []) (gate + 1) long in
     record {
       name = has.name;
       named = has.named;
       gate = has.gate;
-      rest = r3;
-      file = three
-          ∙ append_assoc ((front ++ size) ++ block) (0 ∷ []) r3
-          ∙ ap (λ l. l ++ 0 ∷ r3) (append_assoc front size block)
-          ∙ append_assoc front (size ++ block) (0 ∷ r3)
-          ∙ append_assoc (front_of has.name payloads) (has.gate ∷ []) ((size ++ block) ++ 0 ∷ r3);
+      rest = rest;
+      file = one
+          ∙ append_assoc front (whole ++ 0 ∷ []) rest
+          ∙ ap (λ l. front ++ l) (append_assoc whole (0 ∷ []) rest)
+          ∙ append_assoc (front_of has.name payloads) (has.gate ∷ []) (whole ++ 0 ∷ rest);
     }
 
 -- one call more
@@ -95,18 +93,12 @@ syncs_on names payloads place bytes lt s t u so_far stands e =
     let one = goes_on names payloads place (length bytes) lt s t (changed (write place (length bytes)) reads t) reads so_far refl in
     always_then _ s _ u one (always_settled _ _ u one.last (keeps t.reads reads (so_far.last t.reads stands) (torn_part t.reads bytes place (length bytes) (omega arith))) e)
 
--- once the three writes are synced, the block stands behind the gate in every image
-pub behind_now : (names payloads : List (List ℕ)) (block size : List ℕ) (gate : ℕ) (w1 w2 w3 : Change) (s0 s1 s2 s3 : Store) → gate ≡ end_of payloads → size ≡ eight_bytes (length block) → HasBlocks names payloads s0.reads
-    → s1 ≡ changed w1 (overwritten s0.reads (gate + 1) size) s0 → s2 ≡ changed w2 (overwritten s1.reads (gate + 9) block) s1
-    → s3 ≡ settled (changed w3 (overwritten s2.reads (gate + 9 + length block) (0 ∷ [])) s2) → EachImage (HasBehind names payloads block) s3.now
-behind_now names payloads block size gate w1 w2 w3 s0 s1 s2 s3 is size_is has e1 e2 e3 =
-    let b1 = overwritten s0.reads (gate + 1) (eight_bytes (length block)) in
-    let b2 = overwritten b1 (gate + 9) block in
-    let r1 : s1.reads ≡ b1 = ap (λ (u : Store). u.reads) e1 ∙ ap (λ n. overwritten s0.reads (gate + 1) n) size_is in
-    let r2 : s2.reads ≡ b2 = ap (λ (u : Store). u.reads) e2 ∙ ap (λ r. overwritten r (gate + 9) block) r1 in
-    let r3 : overwritten s2.reads (gate + 9 + length block) (0 ∷ []) ≡ overwritten b2 (gate + 9 + length block) (0 ∷ []) = ap (λ r. overwritten r (gate + 9 + length block) (0 ∷ [])) r2 in
-    let has3 = subst (HasBehind names payloads block) (sym r3) (three_writes names payloads block s0.reads gate is has) in
-    subst (λ (u : Store). EachImage (HasBehind names payloads block) u.now) (sym e3) (λ c i. subst (HasBehind names payloads block) (sym i) has3)
+-- once the write is synced, the block stands behind the gate in every image
+pub behind_now : (names payloads : List (List ℕ)) (block size : List ℕ) (gate : ℕ) (w : Change) (s t : Store) → gate ≡ end_of payloads → size ≡ eight_bytes (length block) → HasBlocks names payloads s.reads
+    → t ≡ settled (changed w (overwritten s.reads (gate + 1) (block_parts size block)) s) → EachImage (HasBehind names payloads block) t.now
+behind_now names payloads block size gate w s t is size_is has e =
+    let there = subst (λ n. HasBehind names payloads block (overwritten s.reads (gate + 1) (block_parts n block))) (sym size_is) (block_written names payloads block s.reads gate is has) in
+    subst (λ (u : Store). EachImage (HasBehind names payloads block) u.now) (sym e) (λ c i. subst (HasBehind names payloads block) (sym i) there)
 
 -- a write of the gate alone keeps what stands behind it
 pub gate_keeps : (names payloads : List (List ℕ)) (block : List ℕ) (gate : ℕ) → gate ≡ end_of payloads → Keeps (HasBehind names payloads block) (write gate 1)

@@ -11,7 +11,7 @@ use Rattle.journal_file.specs.declared.journal.Journal.{Journal}
 abbrev pub IsBeforeOrAfter : List (List ℕ) → List (List ℕ) → List ℕ → List ℕ → Type 0
 IsBeforeOrAfter names payloads block image = HasBlocks names payloads image ⊎ HasBlocks names (payloads ++ block ∷ []) image
 
--- what an image is where an append of the block stopped: in its first four calls, or in its last two
+-- what an image is where an append of the block stopped: in its first two calls, or in its last two
 abbrev pub StoppedAt : Stage → List (List ℕ) → List (List ℕ) → List ℕ → List ℕ → Type 0
 StoppedAt Whole names payloads block image = ⊥
 StoppedAt Block names payloads block image = HasBlocks names payloads image

@@ -3,7 +3,7 @@ ghost use Rattle.std.specs.Prelude.{◌≡◌, ◌⊎◌, ◌+◌, ◌<◌, ◌�
 ghost use Rattle.rtb_base.specs.Faults.{CountsErrors};
 ghost use Rattle.rtb_disk.specs.Stores.{Always, EachImage, Fails, changed, cut, settled};
 ghost use Rattle.journal_file.specs.Blocks.{HasBlocks, block_bytes, compacted_name, end_of, open_blocks};
-ghost use Rattle.journal_file.specs.Unfinished.{BeginsZero, IsUnfinished, IsUnfinishedOr};
+ghost use Rattle.journal_file.specs.Unfinished.{BeginsZero, IsUnfinished, IsUnfinishedOr, LeavesOthers};
 
 use crate::blocks::size_bytes;
 use crate::faults::{CompactFault, DiskFailed};
@@ -31,14 +31,15 @@ impl<D: Disk> Compact<D> {
     ghost use Rattle.rtb_base.specs.Faults.{CountsErrors, RisesOnlyWhere};
     ghost use Rattle.rtb_disk.specs.Stores.{Always, EachImage, settled};
     ghost use Rattle.journal_file.specs.Blocks.{HasBlocks, compacted_name};
-    ghost use Rattle.journal_file.specs.Unfinished.{IsUnfinished, IsUnfinishedOr};
+    ghost use Rattle.journal_file.specs.Unfinished.{IsUnfinished, IsUnfinishedOr, LeavesOthers};
     ghost use Rattle.journal_file.specs.Compaction.{Adds, disk_written, faults_written, has_failed, store_written};
 
     /// Syncs the disk, and begins to write it anew. It has to be a file that is short or that was not
-    /// finished; any other is left as it is.
+    /// finished; any other is left as it is, also where a call of the disk fails.
     pub fn start(disk: D) -> Result<Compact<D>, (D, CompactFault)>
         ensures accepted { (D.store disk).told ≡ true → MatchResult result (λ _. IsUnfinished (D.store disk).reads) (λ e. e.1 ≡ CompactFault.NotEmpty → IsUnfinished (D.store disk).reads → ⊥) }
         ensures refused { (D.store disk).told ≡ true → IfErr result (λ e. e.1 ≡ CompactFault.NotEmpty → D.store e.0 ≡ settled (D.store disk)) }
+        ensures others { (D.store disk).told ≡ true → IfErr result (λ e. LeavesOthers (D.store disk) (D.store e.0)) }
         ensures begun { (D.store disk).told ≡ true → IfOk result (λ c. Adds c []) }
         ensures whole { IfOk result (λ c. has_failed c ≡ false) }
         // A crash at any moment behind the first sync leaves a file that `start` takes.
@@ -99,6 +100,7 @@ impl<D: Disk> Compact<D> {
 fn prepare<D: Disk>(disk: &mut D) -> Result<bool, Failed>
     ensures accepted { (D.store disk.old).told ≡ true → IfOk result (λ taken. MatchBool taken (IsUnfinished (D.store disk.old).reads) (IsUnfinished (D.store disk.old).reads → ⊥)) }
     ensures refused { (D.store disk.old).told ≡ true → IfOk result (λ taken. taken ≡ false → D.store disk.new ≡ settled (D.store disk.old)) }
+    ensures others { (D.store disk.old).told ≡ true → LeavesOthers (D.store disk.old) (D.store disk.new) }
     ensures begun { (D.store disk.old).told ≡ true → IfOk result (λ taken. taken ≡ true → ((D.store disk.new).reads ≡ 0 ∷ compacted_name) × EachImage BeginsZero (D.store disk.new).now) }
     ensures long { (D.store disk.new).told ≡ true → IfOk result (λ taken. taken ≡ true → 8 ≤ length (D.store disk.new).reads) }
     ensures any_moment { (D.store disk.old).told ≡ true → IsUnfinished (D.store disk.old).reads → MatchResult result (λ _. Always IsUnfinished (settled (D.store disk.old)) (D.store disk.new)) (λ _. (D.store disk.new ≡ D.store disk.old) ⊎ Always IsUnfinished (settled (D.store disk.old)) (D.store disk.new)) }

@@ -5,7 +5,7 @@ use crate::blocks::{open_gate, write_block};
 use crate::faults::DiskFailed;
 use rtb_disk::Disk;
 
-// How far an append came: it is done, it stopped in its first four calls, or in its last two.
+// How far an append came: it is done, it stopped in its first two calls, or in its last two.
 #[derive(Clone, Copy)]
 pub(crate) enum Stage {
     Whole,
@@ -85,7 +85,7 @@ impl<D: Disk> Journal<D> {
         self.disk
     }
 
-    // The first four calls.
+    // The first two calls.
     fn place(&mut self, block: &[u8]) -> Result<(), DiskFailed>
         requires stage { self.old.stage ≡ Block }
         ensures stage { MatchResult result (λ _. self.new.stage ≡ Gate) (λ _. self.new.stage ≡ Block) }

@@ -29,4 +29,4 @@ returns-in-Ok-clause-cause g c =
 
 pub returns-in-Err-default-DiskFailed-clause-writes : goal.returns-in-Err-default-DiskFailed-clause-writes
 returns-in-Err-default-DiskFailed-clause-writes g c = λ told.
-    not_begun c.args.core.now.state (g.D.Disk.store c.args.disk) (g.D.Disk.store c.in-Err-default-DiskFailed.disk) (c.in-Err-default-DiskFailed.ensures.any_moment told)
+    not_begun c.args.core.now.state (g.D.Disk.store c.args.disk) (g.D.Disk.store c.in-Err-default-DiskFailed.disk) (c.in-Err-default-DiskFailed.ensures.others told) (c.in-Err-default-DiskFailed.ensures.any_moment told)

@@ -92,3 +92,37 @@ returns-clause-accepted g c = λ told.
 
 pub returns-clause-refused : goal.returns-clause-refused
 returns-clause-refused g c = λ told taken. c.in_ok-n.ensures.same ∙ c.in_ok-size.ensures.same ∙ c.in_ok-sync.ensures.done told
+
+pub returns-in_err-sync-clause-others : goal.returns-in_err-sync-clause-others
+returns-in_err-sync-clause-others g c = λ told no. inl (c.in_err-sync.ensures.failed told)
+
+pub returns-in_err-size-clause-others : goal.returns-in_err-size-clause-others
+returns-in_err-size-clause-others g c = λ told no. inr (c.in_err-size.ensures.same ∙ c.in_ok-sync.ensures.done told)
+
+pub returns-in_err-n-clause-others : goal.returns-in_err-n-clause-others
+returns-in_err-n-clause-others g c = λ told no. inr (c.in_err-n.ensures.same ∙ c.in_ok-size.ensures.same ∙ c.in_ok-sync.ensures.done told)
+
+pub returns-in_err-clear-clause-others : goal.returns-in_err-clear-clause-others
+returns-in_err-clear-clause-others g c = λ told no.
+    let s = g.D.Disk.store c.args.disk.now in
+    let told1 : (g.D.Disk.store c.sync.new.self).told ≡ true = c.in_ok-sync.ensures.told ∙ told in
+    let synced = c.in_ok-sync.ensures.done told in
+    let told2 = ap (λ (x : Store). x.told) c.in_ok-size.ensures.same ∙ told1 in
+    let read = first_bytes 9 _ _ c.in_ok-n.n (c.in_ok-n.ensures.count told2) (c.in_ok-n.ensures.bytes told2) in
+    let head = read ∙ ap (λ (x : Store). take 9 x.reads) (c.in_ok-size.ensures.same ∙ synced) in
+    let size = c.in_ok-size.ensures.value told1 ∙ ap (λ (x : Store). length x.reads) synced in
+    absurd (no (c.if-is_unfinished.ensures s.reads head size))
+
+pub returns-then-is_unfinished-clause-others : goal.returns-then-is_unfinished-clause-others
+returns-then-is_unfinished-clause-others g c = λ told no.
+    let s = g.D.Disk.store c.args.disk.now in
+    let told1 : (g.D.Disk.store c.sync.new.self).told ≡ true = c.in_ok-sync.ensures.told ∙ told in
+    let synced = c.in_ok-sync.ensures.done told in
+    let told2 = ap (λ (x : Store). x.told) c.in_ok-size.ensures.same ∙ told1 in
+    let read = first_bytes 9 _ _ c.in_ok-n.n (c.in_ok-n.ensures.count told2) (c.in_ok-n.ensures.bytes told2) in
+    let head = read ∙ ap (λ (x : Store). take 9 x.reads) (c.in_ok-size.ensures.same ∙ synced) in
+    let size = c.in_ok-size.ensures.value told1 ∙ ap (λ (x : Store). length x.reads) synced in
+    absurd (no (c.if-is_unfinished.ensures s.reads head size))
+
+pub returns-clause-others : goal.returns-clause-others
+returns-clause-others g c = λ told no. inr (c.in_ok-n.ensures.same ∙ c.in_ok-size.ensures.same ∙ c.in_ok-sync.ensures.done told)
