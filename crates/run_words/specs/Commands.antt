@@ -1,15 +1,16 @@
 -- The words of commands with options, as `clap` reads them. A command is told by its options alone; what its words
 -- are then is said by `clap`: whether they are refused (`fault_of`), and which options they give (`matches_of`).
-use Rattle.std.specs.Prelude.{ℕ, List, [], ◌∷◌, Option, None, Some, if◌then◌else◌, true, false, codes, ◌^◌, ◌-◌, option_and_then, option_map, unwrap_or}
+use Rattle.std.specs.Prelude.{ℕ, List, [], ◌∷◌, Bool, not, Option, None, Some, if◌then◌else◌, true, false, codes, ◌^◌, ◌-◌, option_and_then, option_map, unwrap_or}
 use Rattle.std.specs.List.{list_all}
-use Rattle.std.specs.Str.{is_utf8}
+use Rattle.std.specs.Str.{bytes_eq, is_utf8}
 use Rattle.std.specs.Str.Parse.{digits_value, without_leading_plus}
 use Rattle.clap.specs.Kinds.{Kinds}
 use Rattle.clap.specs.ValueTests.{accepts}
 use Rattle.clap.specs.Words.{App, Row, Rule, Text, fault_of, first_of, matches_of, new_app, new_rule, with_rule}
+use Rattle.clap.specs.declared.builder.action.ArgAction.TheVariants.{SetTrue}
 use Rattle.clap.specs.declared.builder.value_parser.ValueParser.{ValueParser}
 use Rattle.clap.specs.declared.builder.value_parser.ValueParser.TheVariants as parser
-use Rattle.run_words.specs.Addresses.{has_port_0}
+use Rattle.run_words.specs.Addresses.{has_port_0, is_public}
 use Rattle.run_words.specs.declared.serve.ServeOptions.{ServeOptions}
 use Rattle.run_words.specs.declared.recover.RecoverOptions.{RecoverOptions}
 
@@ -17,14 +18,18 @@ use Rattle.run_words.specs.declared.recover.RecoverOptions.{RecoverOptions}
 abbrev pub required : Text → Rule
 required name = record (new_rule name) { long = Some name; required = true }
 
+-- an option without a value, which is given or not
+abbrev pub flag_rule : Text → Rule
+flag_rule name = record (new_rule name) { long = Some name; action = Some SetTrue }
+
 -- an option with a number from the least to the most, which is the default where it is not given
 abbrev pub number_between : ℕ → ℕ → Text → Text → Rule
 number_between least most default name = record (new_rule name) { long = Some name; defaults = default ∷ []; parser = Some (parser.Unsigned least most) }
 
--- `serve --listen A --journal P --public U --workers N --ttl T --patience W`, with N from 1 to 64, T from 1 to a year and
+-- `serve --listen A --journal P --existing --public U --workers N --ttl T --patience W`, with N from 1 to 64, T from 1 to a year and
 -- W from 1 to an hour, in milliseconds
 abbrev pub serve_app : App
-serve_app = with_rule (with_rule (with_rule (with_rule (with_rule (with_rule (new_app (codes "serve")) (required (codes "listen"))) (required (codes "journal"))) (required (codes "public"))) (number_between 1 64 (codes "4") (codes "workers")))
+serve_app = with_rule (with_rule (with_rule (with_rule (with_rule (with_rule (with_rule (new_app (codes "serve")) (required (codes "listen"))) (required (codes "journal"))) (flag_rule (codes "existing"))) (required (codes "public"))) (number_between 1 64 (codes "4") (codes "workers")))
     (number_between 1 31536000000 (codes "300000") (codes "ttl"))) (number_between 1 3600000 (codes "60000") (codes "patience"))
 
 -- `recover --journal P`
@@ -43,6 +48,10 @@ given_by app words = unless (fault_of app words) (matches_of app words)
 abbrev pub text_of : Text → List Row → Text
 text_of name rows = unwrap_or (first_of name rows) []
 
+-- whether an option without a value is given
+abbrev pub flag_of : Text → List Row → Bool
+flag_of name rows = bytes_eq (text_of name rows) (codes "true")
+
 abbrev pub number_parser : ValueParser
 number_parser = parser.Unsigned 0 (2 ^ 64 - 1)
 
@@ -55,16 +64,18 @@ abbrev pub serve_numbers : List Row → Option (ℕ × ℕ × ℕ)
 serve_numbers rows = option_and_then (λ workers. option_and_then (λ ttl. option_map (λ patience. (workers, ttl, patience)) (number_in (text_of (codes "patience") rows)))
     (number_in (text_of (codes "ttl") rows))) (number_in (text_of (codes "workers") rows))
 
--- port 0 is none to listen at: nobody is told where the system then listens
+-- Port 0 is none to listen at: nobody is told where the system then listens. And no bidder reaches a notice whose
+-- address begins with no scheme and host.
 abbrev pub serve_of : List Row → Option ServeOptions
-serve_of rows = if has_port_0 (text_of (codes "listen") rows) then None else option_map (λ numbers. record {
+serve_of rows = if has_port_0 (text_of (codes "listen") rows) then None else (if not (is_public (text_of (codes "public") rows)) then None else option_map (λ numbers. record {
   listen = text_of (codes "listen") rows;
   journal = text_of (codes "journal") rows;
+  existing = flag_of (codes "existing") rows;
   public = text_of (codes "public") rows;
   workers = numbers.0;
   ttl = numbers.1;
   patience = numbers.2;
-}) (serve_numbers rows)
+}) (serve_numbers rows))
 
 abbrev pub recover_of : List Row → RecoverOptions
 recover_of rows = record { journal = text_of (codes "journal") rows }

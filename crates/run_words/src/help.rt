@@ -1,5 +1,5 @@
 //! Texts for a person, of which no contract speaks.
-use crate::address::has_port_0;
+use crate::address::{has_port_0, is_public};
 use crate::audit::audit_command;
 use crate::commands::Topic;
 use crate::compact::compact_command;
@@ -216,7 +216,7 @@ fn named<'a>(alloc: Global, name: &'a str, about: &'a str) -> Command<'a> {
 }
 
 /// What `clap` says of words that it refuses, the first of which is the command's name, or what is wrong with the
-/// port, as one line without its line feed. It is empty where the words are of no command with options, or not
+/// port or with what stands before the paths of notices, as one line without its line feed. It is empty where the words are of no command with options, or not
 /// refused.
 pub fn refusal_line(alloc: Global, words: &[Txt]) -> Result<Txt, AllocError> {
     match texts(alloc, words) {
@@ -291,12 +291,22 @@ fn is_path(given: Option<&str>, path: &str) -> bool {
     }
 }
 
-// What is wrong with the port, where there is one.
+// What is wrong with the port, where there is one, or with what stands before the paths of notices.
 fn port_refusal(alloc: Global, matches: &ArgMatches<'_>) -> Result<Txt, AllocError> {
     match matches.get_str("listen") {
         Some(address) if has_port_0(address.as_bytes()) => {
             Txt::from_slice(alloc, b"the port of --listen has to be from 1 to 65535")
         }
+        _ => public_refusal(alloc, matches),
+    }
+}
+
+fn public_refusal(alloc: Global, matches: &ArgMatches<'_>) -> Result<Txt, AllocError> {
+    match matches.get_str("public") {
+        Some(text) if !is_public(text.as_bytes()) => Txt::from_slice(
+            alloc,
+            b"--public has to begin with http:// or https:// and a host",
+        ),
         _ => Ok(Txt::new(alloc)),
     }
 }

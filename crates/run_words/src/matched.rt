@@ -1,8 +1,9 @@
 //! The words as `clap` matches them with a command's options.
-ghost use Rattle.std.specs.Prelude.{◌≡◌, IfOk, MatchResult, None, Some, map, true};
+ghost use Rattle.std.specs.Prelude.{◌≡◌, IfOk, MatchResult, None, Some, codes, map, true};
+ghost use Rattle.std.specs.Str.{bytes_eq};
 ghost use Rattle.clap.specs.Words.{app_of, found_of, is_simple_and_free, kind_of, rows_of};
 ghost use Rattle.clap.specs.declared.error.kind.ErrorKind.TheVariants as kind;
-ghost use Rattle.run_words.specs.Commands.{given_by, number_in, text_of};
+ghost use Rattle.run_words.specs.Commands.{flag_of, given_by, number_in, text_of};
 ghost use Rattle.run_words.specs.declared.fault.WordsFault.TheVariants.{Usage};
 
 use crate::fault::WordsFault;
@@ -47,6 +48,22 @@ pub(crate) fn option_text(
         text.extend(value.as_bytes())?;
     }
     Ok(text)
+}
+
+/// Whether the option without a value is given.
+pub(crate) fn flag(matches: &ArgMatches<'_>, name: &str) -> bool
+    ensures { result ≡ flag_of name.now (rows_of (found_of matches.now)) }
+{
+    match matches.get_str(name) {
+        Some(text) => is_true(text.as_bytes()),
+        None => false,
+    }
+}
+
+fn is_true(text: &[u8]) -> bool
+    ensures { result ≡ bytes_eq text.now (codes "true") }
+{
+    text == b"true".as_slice()
 }
 
 /// The number of the option, or none where its text tells none.

@@ -1,10 +1,10 @@
 //! Options as `clap` takes them: texts and numbers.
 ghost use Rattle.std.specs.Prelude.{◌≡◌, false};
 ghost use Rattle.clap.specs.Words.{rule_of};
-ghost use Rattle.run_words.specs.Commands.{number_between, required};
+ghost use Rattle.run_words.specs.Commands.{flag_rule, number_between, required};
 
-use clap::Arg;
 use clap::builder::ValueParser;
+use clap::{Arg, ArgAction};
 use std::alloc::Global;
 
 /// An option that has to be given.
@@ -13,6 +13,17 @@ pub(crate) fn text_option<'a>(alloc: Global, name: &'a str, help: &'a str) -> Ar
     ensures local { result.global ≡ false }
 {
     Arg::new(alloc, name).long(name).required(true).help(help)
+}
+
+/// An option without a value, which is given or not.
+pub(crate) fn flag_option<'a>(alloc: Global, name: &'a str, help: &'a str) -> Arg<'a>
+    ensures rule { rule_of result ≡ flag_rule name.entry.now }
+    ensures local { result.global ≡ false }
+{
+    Arg::new(alloc, name)
+        .long(name)
+        .action(ArgAction::SetTrue)
+        .help(help)
 }
 
 /// An option that is a number from the least to the most.

@@ -4,10 +4,10 @@ ghost use Rattle.clap.specs.Words.{app_of, found_of, rows_of, rule_of};
 ghost use Rattle.run_words.specs.Commands.{given_by, number_between, serve_app, serve_numbers, serve_of, serve_options};
 ghost use Rattle.run_words.specs.declared.fault.WordsFault.TheVariants.{Usage};
 
-use crate::address::has_port_0;
+use crate::address::{has_port_0, is_public};
 use crate::fault::WordsFault;
-use crate::matched::{match_words, number, option_text};
-use crate::options::{number_option, text_option};
+use crate::matched::{flag, match_words, number, option_text};
+use crate::options::{flag_option, number_option, text_option};
 use crate::texts::texts;
 use clap::{Arg, ArgMatches, Command};
 use rtb_num::Txt;
@@ -20,7 +20,10 @@ pub struct ServeOptions {
     pub listen: Txt,
     /// The path of the journal.
     pub journal: Txt,
-    /// What stands before `/bill/N` and `/lose/N` in notices, as `http://ads.example`.
+    /// Whether the journal has to be there, with something in it.
+    pub existing: bool,
+    /// What stands before `/bill/N` and `/lose/N` in notices, as `http://ads.example`: it begins with `http://` or
+    /// `https://`, and a host.
     pub public: Txt,
     /// How many workers serve, each with a door of its own: 1 to 64.
     pub workers: u64,
@@ -60,11 +63,16 @@ fn options(alloc: Global, matches: &ArgMatches<'_>) -> Result<ServeOptions, Word
         return Err(WordsFault::Usage);
     }
     let journal = option_text(alloc, matches, "journal")?;
+    let existing = flag(matches, "existing");
     let public = option_text(alloc, matches, "public")?;
+    if !is_public(public.as_bytes()) {
+        return Err(WordsFault::Usage);
+    }
     match numbers(matches) {
         Some((workers, ttl, patience)) => Ok(ServeOptions {
             listen,
             journal,
+            existing,
             public,
             workers,
             ttl,
@@ -89,8 +97,10 @@ const LISTEN_HELP: &str = "The host and the port to listen at, from 1 to 65535, 
 const JOURNAL_HELP: &str =
     "The file that keeps the exchange, as exchange.journal; it is made where there is none";
 
+const EXISTING_HELP: &str = "The journal has to be there, with something in it: none is made";
+
 const PUBLIC_HELP: &str =
-    "What stands before /bill/N and /lose/N in notices, as http://ads.example";
+    "What stands before /bill/N and /lose/N in notices, from http:// or https:// on, as http://ads.example";
 
 /// More workers than processors gain nothing but links that wait for less.
 const MAX_WORKERS: u64 = 64;
@@ -115,11 +125,12 @@ pub(crate) fn serve_command<'a>(alloc: Global) -> Result<Command<'a>, AllocError
 {
     let listen = text_option(alloc, "listen", LISTEN_HELP);
     let journal = text_option(alloc, "journal", JOURNAL_HELP);
+    let existing = flag_option(alloc, "existing", EXISTING_HELP);
     let public = text_option(alloc, "public", PUBLIC_HELP);
     let workers = workers_option(alloc);
     let ttl = ttl_option(alloc);
     let patience = patience_option(alloc);
-    let options = vec![in alloc; listen, journal, public, workers, ttl, patience]?;
+    let options = vec![in alloc; listen, journal, existing, public, workers, ttl, patience]?;
     Command::new(alloc, "serve").args(options)
 }
 
