@@ -1,10 +1,10 @@
 -- What lists are with one item more, for the loops.
 use Rattle.std.proofs.Common.{◌≡◌, ℕ, ◌+◌, ◌≤◌, ◌<◌, List, [], ◌∷◌, ◌++◌, Option, map, length, take, get_or, sym, ◌∙◌, ap, append_assoc, arith}
-use Rattle.std.specs.List.{cons_option, filter_map, flat_map, sum_by}
+use Rattle.std.specs.List.{cons_option, filter_map, flat_map, fold, sum_by}
 use Rattle.std.proofs.lemmas.List.{append-nil, map-append, map_more, take_more}
 use Rattle.std.proofs.lemmas.List.Concat.{flat_map-append}
 use Rattle.std.proofs.lemmas.List.Elements.{filter_map-append}
-use Rattle.std.proofs.lemmas.List.Sums.{sum_by_more}
+use Rattle.std.proofs.lemmas.List.Sums.{fold_more, sum_by_more}
 
 pub spread_more : {X Y : Type 0} (f : X → List Y) (xs : List X) (i : ℕ) (d : X) → i < length xs → flat_map f (take (i + 1) xs) ≡ flat_map f (take i xs) ++ f (get_or xs i d)
 spread_more f xs i d h = ap (flat_map f) (take_more xs i d h) ∙ flat_map-append f (take i xs) (get_or xs i d ∷ []) ∙ ap (λ l. flat_map f (take i xs) ++ l) (append-nil (f (get_or xs i d)))
@@ -42,3 +42,8 @@ listed_step f g v vs old new i d h was pushed =
 pub listed_cost : {X V : Type 0} (v : V → List X) (vs : List V) (start old new : ℕ) (i : ℕ) (d : V)
     → i < length vs → old ≤ start + sum_by (λ x. length (v x)) (take i vs) → new ≤ old + length (v (get_or vs i d)) → new ≤ start + sum_by (λ x. length (v x)) (take (i + 1) vs)
 listed_cost v vs start old new i d h was now = omega (arith, was, now, sum_by_more (λ x. length (v x)) vs i d h)
+
+-- a turn that takes the next item in
+pub folded_step : {X Y : Type 0} (f : Y → X → Y) (start : Y) (xs : List X) (old new : Y) (i : ℕ) (x : X)
+    → i < length xs → ((d : X) → x ≡ get_or xs i d) → old ≡ fold f start (take i xs) → new ≡ f old x → new ≡ fold f start (take (i + 1) xs)
+folded_step f start xs old new i x h is was now = now ∙ ap (λ y. f y x) was ∙ ap (f (fold f start (take i xs))) (is x) ∙ sym (fold_more f start xs i x h)

@@ -6,6 +6,7 @@ ghost use Rattle.cnf_match.specs.Content.{AreKept, IsIndexOf, all_negated, negat
 ghost use Rattle.cnf_match.specs.Growing.{Enters, IsGrown, clause_pairs, clauses_pairs, pairs_of, pred_pairs};
 
 use crate::MOST_CLAUSES;
+use crate::counted::Counted;
 use crate::expr::CnfExpr;
 use crate::growing::Growing;
 use crate::index::{CnfIndex, Entry, Key};
@@ -33,26 +34,26 @@ impl CnfIndex {
 // The index of these parts.
 fn made(
     keys: IndexMap<Key, ()>,
-    lists: List<List<Entry>>,
-    zeros: List<u32>,
+    lists: List<Counted<Entry>>,
+    zeros: Vec<u32>,
     negated: List<u8>,
 ) -> CnfIndex
-    ensures { result ≡ record { keys = keys; lists = lists; zeros = zeros; negated = negated } }
+    ensures { result ≡ record { keys = keys; lists = lists; zeros = zeros.items; negated = negated } }
 {
     CnfIndex {
         keys,
         lists,
-        zeros,
+        zeros: Counted::from_vec(zeros),
         negated,
     }
 }
 
 // The places of the expressions each clause of which has a negated predicate.
-fn zero_list(alloc: Global, exprs: &[CnfExpr<'_>]) -> Result<List<u32>, AllocError>
+fn zero_list(alloc: Global, exprs: &[CnfExpr<'_>]) -> Result<Vec<u32>, AllocError>
     requires { length exprs.now ≤ 4096 }
-    ensures { IfOk result (λ zeros. zeros ≡ zero_list exprs.now) }
+    ensures { IfOk result (λ zeros. zeros.items ≡ zero_list exprs.now) }
 {
-    let mut zeros = List::new(alloc);
+    let mut zeros = Vec::new(alloc);
     for (n, expr) in exprs.iter().enumerate() {
         if needs_none(expr.clauses()) {
             zeros.push(n as u32)?;
@@ -205,12 +206,12 @@ fn enter_pred(
 }
 
 // The same lists, as an index has them.
-fn lists_in(alloc: Global, lists: Vec<Vec<Entry>>) -> Result<List<List<Entry>>, AllocError>
+fn lists_in(alloc: Global, lists: Vec<Vec<Entry>>) -> Result<List<Counted<Entry>>, AllocError>
     ensures { IfOk result (λ made. made ≡ map (λ l. l.items) lists.items) }
 {
     let mut made = List::with_capacity(alloc, lists.len())?;
     for list in lists {
-        made.push(List::from_vec(list))?;
+        made.push(Counted::from_vec(list))?;
     }
     Ok(made)
 }

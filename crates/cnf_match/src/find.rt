@@ -8,6 +8,7 @@ ghost use Rattle.cnf_match.specs.Find.{find_cost, found_lists, key_of, list_at, 
 ghost use Rattle.cnf_match.specs.Searching.{is_left, mark, mark_all, marked, number_left};
 
 use crate::MOST_CLAUSES;
+use crate::counted::Counted;
 use crate::index::{CnfIndex, Entry, Key};
 use rtb_base::Steps;
 use rtb_num::{List, Txt};
@@ -31,13 +32,7 @@ impl CnfIndex {
     {
         let lists = found_lists(alloc, self, assignment.pairs())?;
         let left = mark_all(alloc, self.negated.as_slice(), lists.as_slice(), steps)?;
-        let mut numbers = numbers_of(
-            alloc,
-            lists.as_slice(),
-            self.zeros.as_slice(),
-            left.as_slice(),
-            steps,
-        )?;
+        let mut numbers = numbers_of(alloc, lists.as_slice(), &self.zeros, left.as_slice(), steps)?;
         numbers.sort_unstable();
         numbers.dedup();
         Ok(List::from_vec(numbers))
@@ -49,7 +44,7 @@ fn found_lists<'a>(
     alloc: Global,
     index: &'a CnfIndex,
     pairs: &[(Attr, Txt)],
-) -> Result<Vec<&'a [Entry]>, AllocError>
+) -> Result<Vec<&'a Counted<Entry>>, AllocError>
     ensures { IfOk result (λ lists. map (λ l. l.now) lists.items ≡ found_lists pairs.now index.now) }
 {
     let mut lists = Vec::with_capacity(alloc, pairs.len())?;
@@ -66,12 +61,11 @@ fn found_lists<'a>(
 }
 
 // The list of the key, where there is one.
-fn list_at<'a>(index: &'a CnfIndex, key: &Key) -> Option<&'a [Entry]>
+fn list_at<'a>(index: &'a CnfIndex, key: &Key) -> Option<&'a Counted<Entry>>
     ensures { option_copied result ≡ list_at index.now key.now }
 {
     let place = position_of(index, key)?;
-    let list = index.lists.get(place)?;
-    Some(list.as_slice())
+    index.lists.get(place)
 }
 
 fn position_of(index: &CnfIndex, key: &Key) -> Option<usize>
@@ -84,7 +78,7 @@ fn position_of(index: &CnfIndex, key: &Key) -> Option<usize>
 fn mark_all<L: Ledger>(
     alloc: Global,
     negated: &[u8],
-    lists: &[&[Entry]],
+    lists: &[&Counted<Entry>],
     steps: &mut Steps<L>,
 ) -> Result<Vec<u8>, AllocError>
     ensures left { IfOk result (λ left. left.items ≡ mark_all negated.now (flat_map (λ l. l.now) lists.now)) }
@@ -98,13 +92,13 @@ fn mark_all<L: Ledger>(
     Ok(left)
 }
 
-fn mark_list<L: Ledger>(left: &mut [u8], list: &[Entry], steps: &mut Steps<L>)
+fn mark_list<L: Ledger>(left: &mut [u8], list: &Counted<Entry>, steps: &mut Steps<L>)
     ensures left { left.new ≡ mark_all left.old list.now }
     ensures cost { steps.new ≤ steps.old + length list.now }
 {
-    for entry in list {
-        steps.tick();
-        mark(left, *entry);
+    for place in 0..list.len() {
+        let entry = list.at(place, steps);
+        mark(left, entry);
     }
 }
 
@@ -131,8 +125,8 @@ fn marked(negated: bool, count: u8) -> u8
 // The numbers of the expressions of these entries and places that are true, some more than once.
 fn numbers_of<L: Ledger>(
     alloc: Global,
-    lists: &[&[Entry]],
-    zeros: &[u32],
+    lists: &[&Counted<Entry>],
+    zeros: &Counted<u32>,
     left: &[u8],
     steps: &mut Steps<L>,
 ) -> Result<Vec<u32>, AllocError>
@@ -149,15 +143,15 @@ fn numbers_of<L: Ledger>(
 
 fn push_listed<L: Ledger>(
     numbers: &mut Vec<u32>,
-    list: &[Entry],
+    list: &Counted<Entry>,
     left: &[u8],
     steps: &mut Steps<L>,
 ) -> Result<(), AllocError>
     ensures numbers { OnOk result (numbers.new.items ≡ numbers.old.items ++ filter_map (number_left left.now) (map (λ e. e.expression) list.now)) }
     ensures cost { steps.new ≤ steps.old + length list.now }
 {
-    for entry in list {
-        steps.tick();
+    for place in 0..list.len() {
+        let entry = list.at(place, steps);
         push_some(numbers, number_left(left, entry.expression as u32))?;
     }
     Ok(())
@@ -165,16 +159,16 @@ fn push_listed<L: Ledger>(
 
 fn push_zeros<L: Ledger>(
     numbers: &mut Vec<u32>,
-    zeros: &[u32],
+    zeros: &Counted<u32>,
     left: &[u8],
     steps: &mut Steps<L>,
 ) -> Result<(), AllocError>
     ensures numbers { OnOk result (numbers.new.items ≡ numbers.old.items ++ filter_map (number_left left.now) zeros.now) }
     ensures cost { steps.new ≤ steps.old + length zeros.now }
 {
-    for place in zeros {
-        steps.tick();
-        push_some(numbers, number_left(left, *place))?;
+    for i in 0..zeros.len() {
+        let place = zeros.at(i, steps);
+        push_some(numbers, number_left(left, place))?;
     }
     Ok(())
 }

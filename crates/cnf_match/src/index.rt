@@ -1,4 +1,5 @@
 //! The index of expressions in conjunctive form: keys, entries and the zero list.
+use crate::counted::Counted;
 use indexmap::IndexMap;
 use rtb_num::{List, Txt};
 use target_expr::Attr;
@@ -23,14 +24,15 @@ pub struct Entry {
 
 /// An index of expressions in conjunctive form. It holds no expression.
 ///
-/// A key's position in `keys` is the place of its list in `lists`.
+/// A key's position in `keys` is the place of its list in `lists`. What it knows of expressions is read an entry at a
+/// time, each for a step.
 #[derive(Drop)]
 pub struct CnfIndex {
     pub keys: IndexMap<Key, ()>,
-    pub lists: List<List<Entry>>,
+    pub lists: List<Counted<Entry>>,
     /// The places of the expressions each clause of which has a negated predicate: such a one may be true where no
     /// entry of it is found.
-    pub zeros: List<u32>,
+    pub zeros: Counted<u32>,
     /// How many predicates of each clause are negated: sixteen places an expression, with 1 where it has no clause.
     pub negated: List<u8>,
 }

@@ -8,6 +8,7 @@
 
 mod build;
 mod check;
+mod counted;
 mod expr;
 mod fault;
 mod find;
@@ -23,6 +24,7 @@ mod truth;
 mod values;
 mod weight;
 
+pub use counted::Counted;
 pub use expr::CnfExpr;
 pub use fault::CnfFault;
 pub use index::{CnfIndex, Entry, Key};

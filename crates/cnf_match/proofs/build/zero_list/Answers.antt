@@ -14,8 +14,8 @@ loop-n-preserved c =
     let item = c.index-exprs-n.result in
     let tested = ap needs_none (sym c.index-exprs-n.is) ∙ ap (list_all (list_any (λ (p : Pred). p.negated))) (sym c.clauses.ensures.value) ∙ sym c.needs_none.ensures in
     elim c.if-needs_none.branch [
-      | then-needs_none+in_ok-push w ↦ zero_there xs i item c.loop-n.zeros c.if-needs_none.zeros c.loop-n-test.true (tested ∙ w.if-needs_none.true) c.loop-n.invariant (w.zeros-is ∙ w.in_ok-push.ensures.ok)
-      | else-needs_none w ↦ zero_absent xs i item c.loop-n.zeros c.if-needs_none.zeros c.loop-n-test.true (tested ∙ w.if-needs_none.false) c.loop-n.invariant w.zeros-is
+      | then-needs_none+in_ok-push w ↦ zero_there xs i item c.loop-n.zeros.items c.if-needs_none.zeros.items c.loop-n-test.true (tested ∙ w.if-needs_none.true) c.loop-n.invariant (ap (λ v. v.items) w.zeros-is ∙ w.in_ok-push.ensures.items)
+      | else-needs_none w ↦ zero_absent xs i item c.loop-n.zeros.items c.if-needs_none.zeros.items c.loop-n-test.true (tested ∙ w.if-needs_none.false) c.loop-n.invariant (ap (λ v. v.items) w.zeros-is)
     ]
 
 pub returns : goal.returns

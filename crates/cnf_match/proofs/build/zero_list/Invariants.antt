@@ -4,4 +4,4 @@ use Rattle.cnf_match.specs.Content.{zero_place}
 use Rattle.cnf_match.proofs.build.zero_list.Given as goal
 
 abbrev pub invariant-loop-n : goal.invariant-loop-n
-invariant-loop-n l = l.zeros ≡ filter_map zero_place (take l.n (enumerate_from 0 l.exprs))
+invariant-loop-n l = l.zeros.items ≡ filter_map zero_place (take l.n (enumerate_from 0 l.exprs))

@@ -17,9 +17,8 @@ returns-clause-answer g c = λ es is.
     c.pairs.ensures.single is c.pairs.ensures.value c.in_ok-lists.ensures
     (c.in_ok-left.ensures.left ∙ ap (λ n. mark_all n (read c.as_slice-2.result.now)) c.as_slice.ensures ∙ ap (λ ls. mark_all index.negated (read ls)) c.as_slice-2.ensures.value)
     (c.in_ok-numbers.ensures.numbers
-    ∙ ap (λ left. numbers left c.as_slice-3.result.now c.as_slice-4.result.now) c.as_slice-5.ensures.value
-    ∙ ap (λ ls. numbers c.in_ok-left.left.items ls c.as_slice-4.result.now) c.as_slice-3.ensures.value
-    ∙ ap (λ zeros. numbers c.in_ok-left.left.items lists zeros) c.as_slice-4.ensures)
+    ∙ ap (λ left. numbers left c.as_slice-3.result.now index.zeros) c.as_slice-4.ensures.value
+    ∙ ap (λ ls. numbers c.in_ok-left.left.items ls index.zeros) c.as_slice-3.ensures.value)
     c.sort_unstable.ensures.permutation c.sort_unstable.ensures.sorted
 
 pub returns-clause-cost : goal.returns-clause-cost
@@ -28,5 +27,4 @@ returns-clause-cost g c =
     cost_is (λ (l : Bor (List Entry)). l.now) c.in_ok-lists.lists.items c.args.assignment.now c.pairs.result.now c.args.self.now c.args.steps.now c.mark_all.new.steps c.numbers_of.new.steps
     c.pairs.ensures.value c.in_ok-lists.ensures
     (subst (λ (ls : List (Bor (List Entry))). c.mark_all.new.steps ≤ c.args.steps.now + total ls) c.as_slice-2.ensures.value c.mark_all.ensures.cost)
-    (subst (λ (ls : List (Bor (List Entry))). c.numbers_of.new.steps ≤ c.mark_all.new.steps + (total ls + length c.args.self.now.zeros)) c.as_slice-3.ensures.value
-    (subst (λ (zeros : List ℕ). c.numbers_of.new.steps ≤ c.mark_all.new.steps + (total c.as_slice-3.result.now + length zeros)) c.as_slice-4.ensures c.numbers_of.ensures.cost))
+    (subst (λ (ls : List (Bor (List Entry))). c.numbers_of.new.steps ≤ c.mark_all.new.steps + (total ls + length c.args.self.now.zeros)) c.as_slice-3.ensures.value c.numbers_of.ensures.cost)
