@@ -50,7 +50,7 @@ module _ {D : Type 0} (G : Ghosts D) where
   of_report turn n f f' (given.Text answer false) is (inl (c, a)) = quiet turn f f' _ c (count_is turn (given.Text answer false) is)
   of_report turn n f f' (given.Text answer false) is (inr (at, c, a)) = quiet turn f f' _ c (count_is turn (given.Text answer false) is)
   of_report turn n f f' given.StoreFailed is c = failed turn f f' c (count_is turn given.StoreFailed is)
-  of_report turn n f f' given.Memory is (r, c) = quiet turn f f' r c (count_is turn given.Memory is)
+  of_report turn n f f' given.Memory is (r, c, other) = quiet turn f f' r c (count_is turn given.Memory is)
   of_report turn n f f' given.MemoryLate is r = absurd r
 
   of_plain : (turn : Turn) (plain : Answer) (f f' : Follower D) (g : Given) → turn.given ≡ g → IsPlain G plain f f' g → Follows G (turn ∷ []) f f'

@@ -2,6 +2,7 @@ mod Asking
 mod Beginning
 mod Effects
 mod Following
+mod Growing
 mod Holding
 mod Pieces
 mod Reports

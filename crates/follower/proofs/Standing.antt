@@ -40,7 +40,7 @@ take_both xs more left n le e =
 both_le : (xs more left : List Effect) (n : ℕ) → n ≤ length xs → drop n xs ≡ more ++ left → n + length more ≤ length xs
 both_le xs more left n le e = omega (arith, le, length-drop n xs, ap length e, length-append more left)
 
-same_block : (p q x y : List ℕ) → length (block_bytes p ++ x) < 2 ^ 64 → block_bytes p ++ x ≡ block_bytes q ++ y → p ≡ q
+pub same_block : (p q x y : List ℕ) → length (block_bytes p ++ x) < 2 ^ 64 → block_bytes p ++ x ≡ block_bytes q ++ y → p ≡ q
 unfolding block_bytes
 same_block p q x y small e =
     let apart = append_assoc (eight_bytes (length p)) p x in
@@ -53,7 +53,7 @@ same_block p q x y small e =
     let same = eight_code.unique (length p) (length q) (p ++ x) (q ++ y) fits fits2 a in
     sym (take_at p x (length p) refl) ∙ ap (take (length p)) same.1 ∙ take_at q y (length p) (sym same.0)
 
-same_effects : (b c : List Effect) → All IsEncodable b → All IsEncodable c → effects_bytes b ≡ effects_bytes c → b ≡ c
+pub same_effects : (b c : List Effect) → All IsEncodable b → All IsEncodable c → effects_bytes b ≡ effects_bytes c → b ≡ c
 same_effects b c v w e = only_these c (Ok b) w (v, sym e)
 
 front_part : (bytes payload : List ℕ) (done : ℕ) (part block : List Effect) → length bytes < 2 ^ 64 → IsPart done bytes part → HasBlock payload bytes → IsDecoded payload (Ok block) → (done ≤ length block) × (part ≡ take done block)

@@ -50,14 +50,15 @@ AsksFor message (Some n) = IsCommandOf message (Ok (command.Report n))
 AsksFor message None = (n : ℕ) → IsCommandOf message (Ok (command.Report n)) → ⊥
 
 module _ {D : Type 0} (G : Ghosts D) where
-  -- The report of campaign n: the follower caught up first, and where it could not that is answered.
+  -- The report of campaign n: the follower caught up first, and where it could not that is answered. A disk that failed is
+  -- told as that, and never as want of memory.
   abbrev pub IsReport : ℕ → Follower D → Follower D → Given → Type 0
   IsReport n old new (given.Text answer true) = ⊥
   IsReport n old new (given.Text answer false) =
       (CatchesUp G old new (Ok (count_in new)) × (answer ≡ found_answer (state_in new) n (count_in new)))
       ⊎ ((at : ℕ) × CatchesUp G old new (Err (fault.Damaged at)) × (answer ≡ damaged_at at))
   IsReport n old new given.StoreFailed = CatchesUp G old new (Err fault.DiskFailed)
-  IsReport n old new given.Memory = (caught : Result ℕ JournalFault) × CatchesUp G old new caught
+  IsReport n old new given.Memory = (caught : Result ℕ JournalFault) × CatchesUp G old new caught × (caught ≡ Err fault.DiskFailed → ⊥)
   IsReport n old new given.MemoryLate = ⊥
 
   -- This answer, or want of memory for it; nothing was read.
