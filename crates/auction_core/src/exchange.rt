@@ -42,6 +42,13 @@ impl Core {
         }
     }
 
+    /// From now on a sale is held for `ttl` milliseconds.
+    pub fn hold_for(&mut self, ttl: u64)
+        ensures { self.new ≡ record self.old { ttl = ttl } }
+    {
+        self.ttl = ttl;
+    }
+
     /// The table of its campaigns.
     pub fn table(&self) -> &Table
         ensures campaigns { result.now.campaigns ≡ listed self.now.state }

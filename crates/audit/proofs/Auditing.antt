@@ -1,22 +1,24 @@
--- An audit over a journal.
-use Rattle.std.proofs.Common.{◌≡◌, ℕ, List, [], Option, Result, Ok, Err, true, refl, inl, inr}
-use Rattle.std.specs.Prelude.{IfErr, IfOk}
+-- An audit over a journal, and what it reads of the source.
+use Rattle.std.proofs.Common.{◌≡◌, ◌∙◌, ℕ, List, Option, Result, Ok, Err, true, refl, sym, ap, subst, arith, inl, inr}
+use Rattle.std.specs.Prelude.{IfErr, IfOk, OnOk}
 use Rattle.auction_core.specs.Core.{CoreState}
-use Rattle.audit.specs.Inputs.{IsNext}
 use Rattle.audit.specs.Standing.{Said}
-use Rattle.audit.specs.Verdicts.{Audits, of_journal}
+use Rattle.audit.specs.Verdicts.{Audits, IsOfJournal, of_journal, of_source}
 use Rattle.audit.specs.declared.input.Next.{Next}
 use Rattle.audit.specs.declared.verdict.AuditFault.{AuditFault}
 use Rattle.audit.specs.declared.verdict.AuditFault.TheVariants as fault
 use Rattle.audit.specs.declared.verdict.Verdict.{Verdict}
+use Rattle.audit.proofs.Coming.{stands}
 use Rattle.journal_file.specs.declared.faults.JournalFault.{JournalFault}
 use Rattle.journal_file.specs.declared.faults.JournalFault.TheVariants as journal
 use Rattle.plain_exchange.specs.State.{State}
 use Rattle.recovery.specs.Openings.{Opens}
 use Rattle.recovery.specs.Texts.{GivesState}
+use Rattle.rtb_base.specs.Faults.{RisesOnlyWhere, Rose}
+use Rattle.rtb_base.proofs.Chains.{RisesOnlyWhere-last}
 use Rattle.rtb_disk.specs.Stores.{Store}
 use Rattle.rtb_io.specs.declared.ReadFault.{ReadFault}
-use Rattle.trace.specs.Traces.{IsHeader, header_bytes}
+use Rattle.rtb_io.specs.declared.ReadFault.TheVariants as read
 use Rattle.trace.specs.declared.header.Header.{Header}
 
 -- what was said of a trace over a journal that gives this state
@@ -35,9 +37,49 @@ unread_audits store left left' said journal.DiskFailed opens is = Audits.unread 
 unread_audits store left left' said (journal.Damaged at) opens is = Audits.damaged at is opens
 unread_audits store left left' said journal.Memory opens is = Audits.unread (inr (inr is))
 
-pub audits_by : (store : Store) (left mid left' : Option (List ℕ)) (read : Result CoreState JournalFault) (header : Result (Next Header) ReadFault) (input : List ℕ) (said : Result Verdict AuditFault)
-    → (store.told ≡ true → Opens store.reads read) → IfOk header (IsNext IsHeader header_bytes left mid [] input)
-    → IfOk read (λ core. (l : Option (List ℕ)) → IfOk header (IsNext IsHeader header_bytes l mid [] input) → Said core.state l left' said)
-    → IfErr read (λ f. said ≡ Err (of_journal f)) → Audits store left left' said
-audits_by store left mid left' (Ok core) header input said opens came says unread = said_audits store core.state left left' said opens (says left came)
-audits_by store left mid left' (Err f) header input said opens came says unread = unread_audits store left left' said f opens unread
+pub audits_by : (store : Store) (left left' : Option (List ℕ)) (read : Result CoreState JournalFault) (said : Result Verdict AuditFault) → (store.told ≡ true → Opens store.reads read)
+    → IfOk read (λ core. Said core.state left left' said) → IfErr read (λ f. said ≡ Err (of_journal f)) → Audits store left left' said
+audits_by store left left' (Ok core) said opens says unread = said_audits store core.state left left' said opens says
+audits_by store left left' (Err f) said opens says unread = unread_audits store left left' said f opens unread
+
+-- ---- what of the source was read
+
+-- what is said of a trace is nothing of the journal
+not_of_journal : (s : State) (left left' : Option (List ℕ)) (said : Result Verdict AuditFault) → Said s left left' said → IsOfJournal said → ⊥
+not_of_journal s left left' (Ok v) says is = is
+not_of_journal s left left' (Err fault.DiskFailed) says is = says
+not_of_journal s left left' (Err (fault.Damaged at)) says is = says
+not_of_journal s left left' (Err fault.SourceFailed) says is = is
+not_of_journal s left left' (Err (fault.Torn at)) says is = is
+not_of_journal s left left' (Err fault.TooLong) says is = is
+not_of_journal s left left' (Err fault.Memory) says is = is
+
+-- so nothing was read
+pub first_by : {Source : Type 0} (old new : Source) (left left' : Option (List ℕ)) (read : Result CoreState JournalFault) (said : Result Verdict AuditFault) → IfOk read (λ core. Said core.state left left' said)
+    → IfErr read (λ _. new ≡ old) → IsOfJournal said → new ≡ old
+first_by old new left left' (Ok core) said says same is = absurd (not_of_journal core.state left left' said says is)
+first_by old new left left' (Err f) said says same is = same
+
+-- a fault of the journal is none of the source
+no_source : (f : JournalFault) (said : Result Verdict AuditFault) → said ≡ Err (of_journal f) → said ≡ Err fault.SourceFailed → ⊥
+no_source journal.DiskFailed said is e = cc (is, e)
+no_source (journal.Damaged at) said is e = cc (is, e)
+no_source journal.Memory said is e = cc (is, e)
+
+pub quiet_by : (f : JournalFault) (said : Result Verdict AuditFault) (n : ℕ) → said ≡ Err (of_journal f) → RisesOnlyWhere (said ≡ Err fault.SourceFailed) n n
+quiet_by f said n is = stands (said ≡ Err fault.SourceFailed) n n refl (no_source f said is)
+
+-- the count of a source from which a header was read, and then the rest of the trace
+pub rises_behind : {Source : Type 0} (faults : Source → ℕ) (old mid new : Source) (header : Result (Next Header) ReadFault) (said : Result Verdict AuditFault) → RisesOnlyWhere (header ≡ Err read.Failed) (faults old) (faults mid)
+    → OnOk header (RisesOnlyWhere (said ≡ Err fault.SourceFailed) (faults mid) (faults new)) → IfErr header (λ f. (said ≡ Err (of_source f)) × (new ≡ mid)) → RisesOnlyWhere (said ≡ Err fault.SourceFailed) (faults old) (faults new)
+rises_behind faults old mid new (Ok h) said first rest none = RisesOnlyWhere-last (said ≡ Err fault.SourceFailed) (faults old) (faults mid) (faults new) (first.2 (λ e. cc e)) rest
+rises_behind faults old mid new (Err read.Failed) said first rest none =
+    let same : faults new ≡ faults mid = ap faults none.1 in
+    (omega (arith, first.0, same), λ _. subst (Rose (faults old)) (sym same) (first.1 refl), λ no. absurd (no none.0))
+rises_behind faults old mid new (Err read.Memory) said first rest none =
+    stands (said ≡ Err fault.SourceFailed) (faults old) (faults new) (ap faults none.1 ∙ first.2 (λ e. cc e)) (λ e. cc (none.0, e))
+
+-- what was said is none of the source, whatever was read before
+pub quiet_torn : {A E : Type 0} (r : Result A E) (said : Result Verdict AuditFault) (at n : ℕ) → said ≡ Err (fault.Torn at) → OnOk r (RisesOnlyWhere (said ≡ Err fault.SourceFailed) n n)
+quiet_torn (Ok x) said at n is = stands (said ≡ Err fault.SourceFailed) n n refl (λ e. cc (is, e))
+quiet_torn (Err f) said at n is = tt

@@ -2,3 +2,4 @@ pub mod Auditing
 pub mod Coming
 pub mod Judging
 pub mod Leading
+pub mod OneVerdict

@@ -5,8 +5,6 @@ use Rattle.std.specs.Io.KnownBytes.{Consumes}
 use Rattle.audit.specs.Accounts.{Accounts, passes}
 use Rattle.audit.specs.Verdicts.{Says}
 use Rattle.audit.specs.declared.entries.Audit.{Audit}
-use Rattle.audit.specs.declared.input.Next.{Next}
-use Rattle.audit.specs.declared.input.Next.TheVariants as next
 use Rattle.audit.specs.declared.verdict.AuditFault.{AuditFault}
 use Rattle.audit.specs.declared.verdict.AuditFault.TheVariants as fault
 use Rattle.audit.specs.declared.verdict.Verdict.{Verdict}
@@ -14,12 +12,6 @@ use Rattle.plain_exchange.specs.State.{State}
 use Rattle.trace.specs.Traces.{IsEntry, IsHeader, entry_bytes, header_bytes}
 use Rattle.trace.specs.declared.entry.Entry.{Entry}
 use Rattle.trace.specs.declared.header.Header.{Header}
-
--- where a header came, a sale is held for so long as it says
-abbrev pub HasTtl : ℕ → Next Header → Type 0
-HasTtl ttl (next.Item h size) = ttl ≡ h.ttl
-HasTtl ttl next.End = Unit {0}
-HasTtl ttl next.Torn = Unit {0}
 
 -- The bytes that came begin with the header and with entries that account for themselves from the state to that of the
 -- exchange, and what is held is left of them.

@@ -104,8 +104,22 @@ IsJournalOf store s = store.told ≡ true → GivesState store.reads s
 abbrev pub IsDamaged : Store → ℕ → Type 0
 IsDamaged store at = store.told ≡ true → IsDamagedAt store.reads at
 
+-- this says that the journal gives no state
+abbrev pub IsOfJournal : Result Verdict AuditFault → Type 0
+IsOfJournal (Ok v) = ⊥
+IsOfJournal (Err fault.DiskFailed) = Unit {0}
+IsOfJournal (Err (fault.Damaged at)) = Unit {0}
+IsOfJournal (Err fault.SourceFailed) = ⊥
+IsOfJournal (Err (fault.Torn at)) = ⊥
+IsOfJournal (Err fault.TooLong) = ⊥
+IsOfJournal (Err fault.Memory) = ⊥
+
 -- What was said of a journal and a trace: the journal is damaged, or was not read, or this was said of the trace.
 pub data Audits (store : Store) (left left' : Option (List ℕ)) (said : Result Verdict AuditFault) : Type 0 where
   damaged : (at : ℕ) → said ≡ Err (fault.Damaged at) → IsDamaged store at → Audits store left left' said
   unread : (said ≡ Err fault.DiskFailed) ⊎ (said ≡ Err fault.SourceFailed) ⊎ (said ≡ Err fault.Memory) → Audits store left left' said
   judged : (s : State) (bytes : List ℕ) → IsJournalOf store s → Consumes left left' bytes → Says s left' bytes said → Audits store left left' said
+
+-- the journal and the trace were read, and memory was at hand
+abbrev pub WasRead : Result Verdict AuditFault → Type 0
+WasRead said = (said ≡ Err fault.DiskFailed) ⊎ (said ≡ Err fault.SourceFailed) ⊎ (said ≡ Err fault.Memory) → ⊥

@@ -8,9 +8,11 @@
 mod accounting;
 mod entries;
 mod input;
+mod laws;
 mod run;
 mod verdict;
 
 pub use accounting::{account, account_found, passes};
+pub use laws::a_trace_has_one_verdict;
 pub use run::audit_run;
 pub use verdict::{AuditFault, Verdict};
