@@ -1,15 +1,13 @@
 -- A change that is written first: it is staged, carried out and put back, while the list goes on.
 use Rattle.std.proofs.Common.{◌≡◌, ℕ, ◌+◌, ◌≤◌, if◌then◌else◌, Bool, true, false, List, [], ◌∷◌, ◌++◌, All, length, refl, sym, ◌∙◌, ap, subst, arith, append_assoc, length-append, option_to_list, Option, Some, None}
 use Rattle.std.proofs.lemmas.List.{append-nil}
-use Rattle.std.proofs.lemmas.List.Sums.{fold-append}
 use Rattle.atomic_table.specs.Seated.{TableId}
 use Rattle.effects.specs.Bytes.{IsEncodable}
 use Rattle.hist_lock.specs.Views.{Enters, seat_with}
 use Rattle.exchange_shared.specs.declared.changing.Changed.{Changed}
 use Rattle.exchange_shared.specs.declared.changing.Changed.TheVariants as changed
 use Rattle.exchange_shared.specs.Errands.{HasEntered, HasStaged, LandsAhead, MayPutBy, Puts, put_by, taken_by}
-use Rattle.exchange_shared.specs.Seats.{Changes, Gains, IsOrdered, Lands, MayCall, Seat, Waits, effects_in, worker_of}
-use Rattle.exchange_shared.proofs.Errands.{rose_less}
+use Rattle.exchange_shared.specs.Seats.{Changes, Gains, Lands, MayCall, Seat, Waits, effects_in, worker_of}
 use Rattle.exchange_shared.proofs.Posting.{wait_on}
 use Rattle.exchange_shared.proofs.Seats.{gains, out_then, own_append, own_one, own_others, waits, worker_stays}
 use Rattle.exchange_state.specs.declared.entries.Entry.{Entry}
@@ -21,18 +19,16 @@ use Rattle.exchange_state.specs.Errands.{IsDone, IsStaged, IsTried, staging_mark
 use Rattle.exchange_state.specs.Settling.{Enters as IsEntered}
 use Rattle.exchange_state.specs.Standing.{StandsFor}
 use Rattle.exchange_state.specs.Tickets.{IsLegalFrom, effects_after, state_after}
-use Rattle.exchange_state.specs.Views.{AreInTurn, IsRising, Taking, called, calls, faults_of as faults_in, faults_told, out, out_of, own, put, stable, taken, told_or}
+use Rattle.exchange_state.specs.Views.{AreInTurn, Taking, called, calls, out, out_of, own, put, stable, taken, told_or}
 use Rattle.exchange_state.proofs.Growing.{effect_then, effects_more}
 use Rattle.exchange_state.proofs.Later.{calls_on}
 use Rattle.exchange_state.proofs.Owning.{knows_journal}
-use Rattle.exchange_state.proofs.Rising.{faults_later, rising_front}
 use Rattle.journal_file.specs.Standing.{faults_of}
 use Rattle.plain_exchange.specs.declared.changes.Effect.{Effect}
 use Rattle.plain_exchange.specs.declared.commands.Command.{Command}
 use Rattle.plain_exchange.specs.declared.commands.Reply.{Reply}
 use Rattle.plain_exchange.specs.History.{Call}
 use Rattle.plain_exchange.specs.Step.{effect_of}
-use Rattle.rtb_base.specs.Faults.{Rose}
 use Rattle.rtb_disk.specs.declared.disk.Disk.{Ghosts}
 
 -- ---- lists
@@ -53,14 +49,6 @@ effects_of_call o l w command moment reply =
     let more : length (effects_after o (calls l ++ c ∷ [])) ≡ length (effects_after o (calls l) ++ effect_then o (calls l) c) = ap (λ (es : List Effect). length es) (effects_more o (calls l) c) in
     let one : length (effect_then o (calls l) c) ≤ 1 = one_effect (effect_of o.ttl moment (state_after o (calls l)) command) in
     omega (arith, on, more, length-append (effects_after o (calls l)) (effect_then o (calls l) c), one)
-
--- the count of failed calls rose above what the mark of the taking tells, and so above what was told before it
-rose_from : (o : Origin) (l more : List Entry) (w end : ℕ) (again : Bool) (k n : ℕ) → IsRising o ((l ++ more) ++ taken w end again k ∷ []) → Rose k n → Rose (faults_told o l) n
-rose_from o l more w end again k n r rose =
-    let told : faults_told o ((l ++ more) ++ taken w end again k ∷ []) ≡ k = fold-append (told_or faults_in) o.faults (l ++ more) (taken w end again k ∷ []) in
-    let first : faults_told o l ≤ faults_told o (l ++ more) = faults_later o l more (rising_front o (l ++ more) (taken w end again k ∷ []) r) in
-    let last : faults_told o (l ++ more) ≤ faults_told o ((l ++ more) ++ taken w end again k ∷ []) = faults_later o (l ++ more) (taken w end again k ∷ []) r in
-    rose_less (faults_told o l) k n (omega (arith, told, first, last)) rose
 
 pub waits_none : (s : Seat) → s.turn ≡ false → Waits s s
 waits_none s free = record {
@@ -226,9 +214,9 @@ module _ {D : Type 0} {G : Ghosts D} where
 
   -- ---- the whole call
 
-  lands : (here : TableId) (s u v : Seat) (command : Command) (moment : ℕ) (e : Errand D G) (settled : Settled) (written : Bool) → IsOrdered u.origin u.seen → HasStaged here u command moment e → Gains (taken_by s e) s u
+  lands : (here : TableId) (s u v : Seat) (command : Command) (moment : ℕ) (e : Errand D G) (settled : Settled) (written : Bool) → HasStaged here u command moment e → Gains (taken_by s e) s u
       → LandsAhead command moment u e v settled written → Lands command moment s v settled written
-  lands here s u v command moment e settled written o h a b =
+  lands here s u v command moment e settled written h a b =
       let same_worker : u.worker ≡ s.worker = ap (λ (z : Seat). z.worker) a.same in
       record {
         end = e.upto;
@@ -243,10 +231,10 @@ module _ {D : Type 0} {G : Ghosts D} where
         count = b.count;
         put_is = subst (λ n. Gains (put n written b.durable b.count) b.calling v) same_worker b.put_is;
         there = b.there;
-        rose = λ is. rose_from s.origin s.seen a.more s.worker e.upto e.again (faults_of e.journal) b.count (subst (λ (z : Seat). IsRising z.origin z.seen) a.same o.rising) (b.rose is);
+        rose = b.rose;
       }
 
-  pub changes : (here : TableId) (s u v : Seat) (command : Command) (moment : ℕ) (e : Errand D G) (c : Changed) → IsOrdered u.origin u.seen → HasStaged here u command moment e × Gains (taken_by s e) s u → Puts command moment u e v c → Changes command moment s v c
-  changes here s u v command moment e (changed.Durable settled) o p b = lands here s u v command moment e settled true o p.0 p.1 b
-  changes here s u v command moment e (changed.StoreFailed settled) o p b = lands here s u v command moment e settled false o p.0 p.1 b
-  changes here s u v command moment e changed.NotAlone o p b = absurd b
+  pub changes : (here : TableId) (s u v : Seat) (command : Command) (moment : ℕ) (e : Errand D G) (c : Changed) → HasStaged here u command moment e × Gains (taken_by s e) s u → Puts command moment u e v c → Changes command moment s v c
+  changes here s u v command moment e (changed.Durable settled) p b = lands here s u v command moment e settled true p.0 p.1 b
+  changes here s u v command moment e (changed.StoreFailed settled) p b = lands here s u v command moment e settled false p.0 p.1 b
+  changes here s u v command moment e changed.NotAlone p b = absurd b

@@ -35,7 +35,7 @@ joined : (s m1 T m2 P : List Entry) → (((s ++ m1) ++ T) ++ m2) ++ P ≡ s ++ (
 joined s m1 T m2 P = ap (λ k. (k ++ m2) ++ P) (append_assoc s m1 T) ∙ ap (λ k. k ++ P) (append_assoc s (m1 ++ T) m2) ∙ append_assoc s ((m1 ++ T) ++ m2) P
 
 -- the count of failed calls rose above what was told earlier too
-pub rose_less : (a b n : ℕ) → a ≤ b → Rose b n → Rose a n
+rose_less : (a b n : ℕ) → a ≤ b → Rose b n → Rose a n
 rose_less a b n le rose = omega (arith, le, rose)
 
 rose_since : (o : Origin) (l more : List Entry) (e : Entry) (n : ℕ) → IsRising o ((l ++ more) ++ e ∷ []) → Rose (faults_told o (l ++ more)) n → Rose (faults_told o l) n

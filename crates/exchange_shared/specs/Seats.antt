@@ -88,7 +88,8 @@ pub record MayBeSettled (s : Seat) (v : Version) (found : List (List ℕ)) (comm
 
 -- The worker took the journal, entered the call of the command with the reply of the exchange of one thread at that
 -- place, and put the journal back, with the block written or not. With the block written the effects up to the call are
--- durable; where it was not, the count of failed calls of the disk rose above what the seat had seen.
+-- durable; where it was not, the count of failed calls of the disk rose since the taking, so a call that this worker
+-- made for the block failed.
 pub record Lands (command : Command) (moment : ℕ) (s t : Seat) (settled : Settled) (written : Bool) : Type 0 where
   pub end : ℕ
   pub faults : ℕ
@@ -102,7 +103,7 @@ pub record Lands (command : Command) (moment : ℕ) (s t : Seat) (settled : Sett
   pub count : ℕ
   pub put_is : Gains (put s.worker written durable count) calling t
   pub there : written ≡ true → durable ≡ settled.upto
-  pub rose : written ≡ false → Rose (faults_told s.origin s.seen) count
+  pub rose : written ≡ false → Rose faults count
 
 -- The change landed, or a call of the disk failed. Or nothing was carried out, since it could not go ahead: the journal
 -- was out or broken, effects were not durable, or it has none.

@@ -14,7 +14,7 @@ pub returns-in-Ok-Errand-clause-changed : goal.returns-in-Ok-Errand-clause-chang
 returns-in-Ok-Errand-clause-changed g c =
     let a = subst (λ r. IfOk r (Stages (lock_of c.args.self.now) c.args.command.now c.args.moment c.args.seat c.stage-seat.result.0)) c.in-Ok-Errand.is c.stage-seat.ensures.staged in
     let p = subst (Stages (lock_of c.args.self.now) c.args.command.now c.args.moment c.args.seat c.stage-seat.result.0) c.in-Ok-Errand.field-0-is a in
-    changes _ c.args.seat c.stage-seat.result.0 c.carry_ahead-seat.result.0 _ _ c.in-Ok-Errand.errand c.carry_ahead-seat.result.1 c.stage-seat.ensures.order p c.carry_ahead-seat.ensures.changed
+    changes _ c.args.seat c.stage-seat.result.0 c.carry_ahead-seat.result.0 _ _ c.in-Ok-Errand.errand c.carry_ahead-seat.result.1 p c.carry_ahead-seat.ensures.changed
 
 pub returns-in-Ok-NotAlone-clause-seat : goal.returns-in-Ok-NotAlone-clause-seat
 returns-in-Ok-NotAlone-clause-seat g c =
