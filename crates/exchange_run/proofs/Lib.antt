@@ -12,3 +12,4 @@ pub mod Wanted
 pub mod Apart
 pub mod Appending
 pub mod Tracing
+pub mod Asked

@@ -1,6 +1,5 @@
 -- A run that ends as usage is one of words that are of no command.
-use Rattle.std.proofs.Common.{◌≡◌, ◌∙◌, ℕ, List, Option, None, Bool, true, false, ap, arith, inl, inr, sym, Result, Ok, Err}
-use Rattle.std.proofs.lemmas.Bool.{false≢true}
+use Rattle.std.proofs.Common.{◌≡◌, ◌∙◌, ℕ, List, Option, None, Some, Bool, true, false, ap, arith, inl, inr, refl, sym, Result, Ok, Err}
 use Rattle.audit.specs.declared.verdict.AuditFault.{AuditFault}
 use Rattle.audit.specs.declared.verdict.AuditFault.TheVariants as unsaid
 use Rattle.audit.specs.declared.verdict.Verdict.{Verdict}
@@ -36,6 +35,9 @@ use Rattle.run_words.specs.declared.serve.ServeOptions.{ServeOptions}
 use Rattle.worker_pool.specs.Pools.{History}
 use Rattle.worker_pool.specs.declared.pool.PoolEnd.{PoolEnd}
 use Rattle.worker_pool.specs.declared.pool.PoolEnd.TheVariants as ending
+use Rattle.run_words.specs.declared.commands.CommandLine.{CommandLine}
+use Rattle.run_words.specs.declared.commands.CommandLine.TheVariants as line
+use Rattle.exchange_run.specs.Lines.{IsOfAsked, IsOfLine}
 use Rattle.exchange_run.specs.Plan as plan
 use Rattle.exchange_run.specs.Run as run
 
@@ -140,7 +142,7 @@ module _ {Disk : Type 0} (G : DiskGhosts Disk) where
       → compact.RunsCompact G o a a' l l' c c' w w' code back other → code ≡ 2 → ⊥
   no_usage_compacting o a a' l l' c c' w w' code back other (compact.no_journal p q r s t ends) e = no_usage status.NoDisk _ w w' code ends (λ n. omega (arith, n)) e
   no_usage_compacting o a a' l l' c c' w w' code back other (compact.no_file from p q r s t ends) e = no_usage status.NoDisk _ w w' code ends (λ n. omega (arith, n)) e
-  no_usage_compacting o a a' l l' c c' w w' code back other (compact.compacted from from' into into' p q r s t done) e = no_usage_compacted done.done done.line w w' code done.ends e
+  no_usage_compacting o a a' l l' c c' w w' code back other (compact.compacted from from' into into' p q r s t there done) e = no_usage_compacted done.done done.line w w' code done.ends e
 
 -- ---- the run
 
@@ -160,20 +162,26 @@ no_usage_of l l' f f' end text (plan.short_of_memory same is text_is) e = let ni
 no_usage_planned : (l l' : Option (List ℕ)) (f f' : ℕ) (w w' : Option (List ℕ)) (code : ℕ) → plan.Plans l l' f f' w w' code → code ≡ 2 → ⊥
 no_usage_planned l l' f f' w w' code plans e = no_usage plans.end plans.text w w' code plans.went (no_usage_of l l' f f' plans.end plans.text plans.plan) e
 
-module _ {World Disk Door Link : Type 0} (W : WorldGhosts World Door Disk Link) (G : DiskGhosts Disk) (H : DoorGhosts Door Link) (K : LinkGhosts Link) (words : List (List ℕ)) where
-  pub named : (v v' : World) (w w' : Option (List ℕ)) (code : ℕ) (back : run.Back Door Disk) → run.Runs W G H K words v v' w w' code back → run.names_try words ≡ false
-      → (run.asks_which (run.words_of words) ≡ true → (code ≡ 2 → ⊥)) → code ≡ 2 → run.words_of words ≡ None
-  named v v' w w' code back (run.tries is_try a) no_try plans e = absurd (false≢true (sym no_try ∙ is_try))
-  named v v' w w' code back (run.serves options a b serves) no_try plans e = absurd (no_usage_serving W G H K options v v' w w' code back.doors back.disk back.past serves e)
-  named v v' w w' code back (run.recovers options a b c d f recovers) no_try plans e = absurd (no_usage_recovering G _ _ _ _ _ _ _ w w' code back.disk recovers e)
-  named v v' w w' code back (run.compacts options a b c d compacts) no_try plans e = absurd (no_usage_compacting G options _ _ _ _ _ _ w w' code back.disk back.other compacts e)
-  named v v' w w' code back (run.follows options a b c follows) no_try plans e = absurd (no_usage_following W G H K options v v' w w' code back.doors back.disk follows e)
-  named v v' w w' code back (run.audits options a b c d l l' f f' audits) no_try plans e = absurd (no_usage_auditing W G options.journal v v' l l' f f' w w' code back.disk audits e)
-  named v v' w w' code back (run.makes options a b makes) no_try plans e = absurd (no_usage_made options w w' code makes e)
-  named v v' w w' code back (run.shows asked a b c told) no_try plans e = absurd (no_usage_shown w w' code told e)
-  named v v' w w' code back (run.plans asks a) no_try plans e = absurd (plans asks e)
-  named v v' w w' code back (run.unnamed none a ends) no_try plans e = none
-  named v v' w w' code back (run.starved a ends) no_try plans e = absurd (no_usage status.Memory _ w w' code ends (λ n. omega (arith, n)) e)
+module _ {World Disk Door Link : Type 0} (W : WorldGhosts World Door Disk Link) (G : DiskGhosts Disk) (H : DoorGhosts Door Link) (K : LinkGhosts Link) (v v' : World) (l l' : Option (List ℕ)) (f f' : ℕ)
+    (w w' : Option (List ℕ)) (code : ℕ) (back : run.Back Door Disk) where
+  no_usage_starved : run.IsStarved v v' back w w' code → code ≡ 2 → ⊥
+  no_usage_starved starved e = no_usage status.Memory _ w w' code starved.ends (λ n. omega (arith, n)) e
 
-pub not_planned : (l l' : Option (List ℕ)) (f f' : ℕ) (w w' : Option (List ℕ)) (code : ℕ) → plan.Plans l l' f f' w w' code → code ≡ 2 → ⊥
-not_planned = no_usage_planned
+  no_usage_line : (asked : CommandLine) → IsOfLine W G H K v v' l l' f f' w w' code back asked → code ≡ 2 → ⊥
+  no_usage_line (line.Serve options) its e = no_usage_serving W G H K options v v' w w' code back.doors back.disk back.past its.serves e
+  no_usage_line (line.Recover options) (inl its) e = no_usage_recovering G options.journal _ _ _ _ _ _ w w' code back.disk its.recovers e
+  no_usage_line (line.Recover options) (inr starved) e = no_usage_starved starved e
+  no_usage_line (line.Compact options) (inl its) e = no_usage_compacting G options _ _ _ _ _ _ w w' code back.disk back.other its.compacts e
+  no_usage_line (line.Compact options) (inr starved) e = no_usage_starved starved e
+  no_usage_line (line.Follow options) (inl its) e = no_usage_following W G H K options v v' w w' code back.doors back.disk its.follows e
+  no_usage_line (line.Follow options) (inr starved) e = no_usage_starved starved e
+  no_usage_line line.Which its e = no_usage_planned l l' f f' w w' code its.plans e
+  no_usage_line (line.Audit options) its e = no_usage_auditing W G options.journal v v' l l' f f' w w' code back.disk its.audits e
+  no_usage_line (line.Make options) its e = no_usage_made options w w' code its.makes e
+  no_usage_line (line.Help topic) its e = no_usage_shown w w' code its.shown e
+  no_usage_line line.Version its e = no_usage_shown w w' code its.shown e
+
+  pub named : (o : Option run.Asked) → IsOfAsked W G H K v v' l l' f f' w w' code back o → code ≡ 2 → o ≡ None
+  named None its e = refl
+  named (Some (run.sale campaigns)) its e = absurd its
+  named (Some (run.other asked)) its e = absurd (no_usage_line asked its e)

@@ -7,3 +7,4 @@ pub mod Answer
 pub mod View
 pub mod Plan
 pub mod Run
+pub mod Lines

@@ -25,6 +25,7 @@ use Rattle.run_words.specs.declared.recover.RecoverOptions.{RecoverOptions}
 use Rattle.run_words.specs.declared.serve.ServeOptions.{ServeOptions}
 use Rattle.worker_pool.specs.Pools.{History}
 use Rattle.exchange_run.specs.Answer.{HalfTold, Told}
+use Rattle.exchange_run.specs.Plan.{Plans}
 use Rattle.exchange_run.specs.Words.{Campaign, command_of}
 
 -- ---- the words
@@ -119,27 +120,64 @@ pub record IsApart {World Door Disk : Type 0} (w w' : World) (back : Back Door D
   pub world : w' ≡ w
   pub none : back ≡ nothing
 
--- What the run comes to by its words, from the world w to the world w'.
-pub data Runs {World Disk Door Link : Type 0} (W : WorldGhosts World Door Disk Link) (G : DiskGhosts Disk) (H : DoorGhosts Door Link) (K : LinkGhosts Link) (words : List (List ℕ))
-    (w w' : World) (written written' : Option (List ℕ)) (code : ℕ) (back : Back Door Disk) : Type 0 where
-  tries : names_try words ≡ true → IsApart w w' back → Runs W G H K words w w' written written' code back
-  serves : (options : ServeOptions) → words_of words ≡ Some (other (line.Serve options)) → back.other ≡ None → Serves W G H K options w w' written written' code back.doors back.disk back.past
-      → Runs W G H K words w w' written written' code back
-  recovers : (options : RecoverOptions) → words_of words ≡ Some (other (line.Recover options)) → W.doors_left w' ≡ W.doors_left w → back.doors ≡ [] → back.other ≡ None → back.past ≡ None
-      → Recovers G options.journal (W.asked w) (W.asked w') (W.disks_left w) (W.disks_left w') (W.faults w) (W.faults w') written written' code back.disk
-      → Runs W G H K words w w' written written' code back
-  compacts : (options : CompactOptions) → words_of words ≡ Some (other (line.Compact options)) → W.doors_left w' ≡ W.doors_left w → back.doors ≡ [] → back.past ≡ None
-      → RunsCompact G options (W.asked w) (W.asked w') (W.disks_left w) (W.disks_left w') (W.faults w) (W.faults w') written written' code back.disk back.other
-      → Runs W G H K words w w' written written' code back
-  follows : (options : FollowOptions) → words_of words ≡ Some (other (line.Follow options)) → back.other ≡ None → back.past ≡ None → Follows W G H K options w w' written written' code back.doors back.disk
-      → Runs W G H K words w w' written written' code back
-  shows : (asked : CommandLine) → IsQuestion asked → words_of words ≡ Some (other asked) → IsApart w w' back → Shows written written' code
-      → Runs W G H K words w w' written written' code back
-  audits : (options : AuditOptions) → words_of words ≡ Some (other (line.Audit options)) → back.doors ≡ [] → back.other ≡ None → back.past ≡ None
-      → (left left' : Option (List ℕ)) (faults faults' : ℕ) → RunsAudit W G options.journal w w' left left' faults faults' written written' code back.disk
-      → Runs W G H K words w w' written written' code back
-  makes : (options : MakeOptions) → words_of words ≡ Some (other (line.Make options)) → IsApart w w' back → RunsMake options written written' code
-      → Runs W G H K words w w' written written' code back
-  plans : asks_which (words_of words) ≡ true → IsApart w w' back → Runs W G H K words w w' written written' code back
-  unnamed : words_of words ≡ None → IsApart w w' back → EndsBy status.Usage written written' code → Runs W G H K words w w' written written' code back
-  starved : IsApart w w' back → EndsBy status.Memory written written' code → Runs W G H K words w w' written written' code back
+-- memory was short for the words
+pub record IsStarved {World Door Disk : Type 0} (w w' : World) (back : Back Door Disk) (written written' : Option (List ℕ)) (code : ℕ) : Type 0 where
+  pub apart : IsApart w w' back
+  pub ends : EndsBy status.Memory written written' code
+
+-- ---- each command, from the world w to the world w'
+
+module _ {World Disk Door Link : Type 0} (W : WorldGhosts World Door Disk Link) (G : DiskGhosts Disk) (H : DoorGhosts Door Link) (K : LinkGhosts Link)
+    (w w' : World) (written written' : Option (List ℕ)) (code : ℕ) (back : Back Door Disk) where
+  pub record IsServing (options : ServeOptions) : Type 0 where
+    pub one_disk : back.other ≡ None
+    pub serves : Serves W G H K options w w' written written' code back.doors back.disk back.past
+
+  -- no door was asked for
+  pub record IsRecovery (options : RecoverOptions) : Type 0 where
+    pub doors_left : W.doors_left w' ≡ W.doors_left w
+    pub no_doors : back.doors ≡ []
+    pub one_disk : back.other ≡ None
+    pub no_past : back.past ≡ None
+    pub recovers : Recovers G options.journal (W.asked w) (W.asked w') (W.disks_left w) (W.disks_left w') (W.faults w) (W.faults w') written written' code back.disk
+
+  pub record IsCompaction (options : CompactOptions) : Type 0 where
+    pub doors_left : W.doors_left w' ≡ W.doors_left w
+    pub no_doors : back.doors ≡ []
+    pub no_past : back.past ≡ None
+    pub compacts : RunsCompact G options (W.asked w) (W.asked w') (W.disks_left w) (W.disks_left w') (W.faults w) (W.faults w') written written' code back.disk back.other
+
+  pub record IsFollowing (options : FollowOptions) : Type 0 where
+    pub one_disk : back.other ≡ None
+    pub no_past : back.past ≡ None
+    pub follows : Follows W G H K options w w' written written' code back.doors back.disk
+
+  -- with what the source has, and its count of faults
+  pub record IsAudit (left left' : Option (List ℕ)) (faults faults' : ℕ) (options : AuditOptions) : Type 0 where
+    pub no_doors : back.doors ≡ []
+    pub one_disk : back.other ≡ None
+    pub no_past : back.past ≡ None
+    pub audits : RunsAudit W G options.journal w w' left left' faults faults' written written' code back.disk
+
+-- The others ask for nothing of the world.
+module _ {World Disk Door : Type 0} (w w' : World) (written written' : Option (List ℕ)) (code : ℕ) (back : Back Door Disk) where
+  pub record IsMaking (options : MakeOptions) : Type 0 where
+    pub apart : IsApart w w' back
+    pub makes : RunsMake options written written' code
+
+  pub record IsPlanning (left left' : Option (List ℕ)) (faults faults' : ℕ) : Type 0 where
+    pub apart : IsApart w w' back
+    pub plans : Plans left left' faults faults' written written' code
+
+  pub record IsTrying (left left' : Option (List ℕ)) (faults faults' : ℕ) (words : List (List ℕ)) : Type 0 where
+    pub apart : IsApart w w' back
+    pub tries : Tries words left left' faults faults' written written' code
+
+  pub record IsShown : Type 0 where
+    pub apart : IsApart w w' back
+    pub shown : Shows written written' code
+
+  -- words that are of no command
+  pub record IsUnnamed : Type 0 where
+    pub apart : IsApart w w' back
+    pub ends : EndsBy status.Usage written written' code ⊎ EndsBy status.Memory written written' code

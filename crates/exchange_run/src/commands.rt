@@ -1,13 +1,18 @@
 //! The one call that the program makes: the command that the words name, run to its end.
-ghost use Rattle.std.specs.Prelude.{◌≡◌, ◌⊎◌, ℕ, List, None, Some, true, false};
+ghost use Rattle.std.specs.Prelude.{◌≡◌, ◌⊎◌, None, Some, false, true};
 ghost use Rattle.rtb_base.specs.Faults.{RisesOnlyWhere};
 ghost use Rattle.rtb_io.specs.Statuses.{code_of};
 ghost use Rattle.rtb_io.specs.declared.status.Status.TheVariants.{Memory, NotWritten, Usage};
-ghost use Rattle.exchange_run.specs.Run.{Runs, Shows, Tries, asks_audit, asks_which, is_audit, is_which, names_try, other, takes_input, words_of};
-ghost use Rattle.exchange_run.specs.Plan.{Plans};
-ghost use Rattle.run_commands.specs.Audit.{RunsAudit};
+ghost use Rattle.exchange_run.specs.Lines.{IsOfAsked, IsOfLine, IsOfWords};
+ghost use Rattle.exchange_run.specs.Run.{IsAudit, IsCompaction, IsFollowing, IsMaking, IsPlanning, IsQuestion, IsRecovery, IsServing, IsShown, IsStarved, IsTrying, IsUnnamed, Shows, asks_audit, asks_which, is_audit, is_which, names_try, other, takes_input, words_of};
 ghost use Rattle.run_words.specs.declared.audit.AuditOptions.{AuditOptions};
-ghost use Rattle.run_words.specs.declared.commands.CommandLine.TheVariants as asked_line;
+ghost use Rattle.run_words.specs.declared.commands.CommandLine.{CommandLine as ALine};
+ghost use Rattle.run_words.specs.declared.commands.CommandLine.TheVariants as asked;
+ghost use Rattle.run_words.specs.declared.compact.CompactOptions.{CompactOptions};
+ghost use Rattle.run_words.specs.declared.follow.FollowOptions.{FollowOptions};
+ghost use Rattle.run_words.specs.declared.make.MakeOptions.{MakeOptions};
+ghost use Rattle.run_words.specs.declared.recover.RecoverOptions.{RecoverOptions};
+ghost use Rattle.run_words.specs.declared.serve.ServeOptions.{ServeOptions};
 
 use crate::try_command::try_run;
 use crate::which_command::run_which;
@@ -36,20 +41,53 @@ pub fn run<W: World, P: Pause + Sync, S: Source, K: Sink, R: Threads + Wait + Sy
     sink: &mut K,
     rt: &R,
 ) -> Outcome<W>
-    ensures runs { Runs ⟦<W as World>⟧ ⟦<W::Disk as Disk>⟧ ⟦<W::Door as Door>⟧ ⟦<<W::Door as Door>::Link as Link>⟧ words.now world.old world.new (K.written sink.old) (K.written sink.new) result.status
+    // Each command has a clause of its own.
+    ensures serves { (options : ServeOptions) → words_of words.now ≡ Some (other (asked.Serve options)) → IsServing ⟦<W as World>⟧ ⟦<W::Disk as Disk>⟧ ⟦<W::Door as Door>⟧ ⟦<<W::Door as Door>::Link as Link>⟧ world.old world.new (K.written sink.old) (K.written sink.new) result.status
+        (record { doors = result.doors; disk = result.disk; other = result.other; past = result.past }) options }
+    ensures recovers { (options : RecoverOptions) → words_of words.now ≡ Some (other (asked.Recover options)) → IsRecovery ⟦<W as World>⟧ ⟦<W::Disk as Disk>⟧ ⟦<W::Door as Door>⟧ ⟦<<W::Door as Door>::Link as Link>⟧ world.old world.new (K.written sink.old) (K.written sink.new) result.status
+        (record { doors = result.doors; disk = result.disk; other = result.other; past = result.past }) options ⊎ IsStarved world.old world.new (record { doors = result.doors; disk = result.disk; other = result.other; past = result.past }) (K.written sink.old) (K.written sink.new) result.status }
+    ensures compacts { (options : CompactOptions) → words_of words.now ≡ Some (other (asked.Compact options)) → IsCompaction ⟦<W as World>⟧ ⟦<W::Disk as Disk>⟧ ⟦<W::Door as Door>⟧ ⟦<<W::Door as Door>::Link as Link>⟧ world.old world.new (K.written sink.old) (K.written sink.new) result.status
+        (record { doors = result.doors; disk = result.disk; other = result.other; past = result.past }) options ⊎ IsStarved world.old world.new (record { doors = result.doors; disk = result.disk; other = result.other; past = result.past }) (K.written sink.old) (K.written sink.new) result.status }
+    ensures follows { (options : FollowOptions) → words_of words.now ≡ Some (other (asked.Follow options)) → IsFollowing ⟦<W as World>⟧ ⟦<W::Disk as Disk>⟧ ⟦<W::Door as Door>⟧ ⟦<<W::Door as Door>::Link as Link>⟧ world.old world.new (K.written sink.old) (K.written sink.new) result.status
+        (record { doors = result.doors; disk = result.disk; other = result.other; past = result.past }) options ⊎ IsStarved world.old world.new (record { doors = result.doors; disk = result.disk; other = result.other; past = result.past }) (K.written sink.old) (K.written sink.new) result.status }
+    ensures audits { (options : AuditOptions) → words_of words.now ≡ Some (other (asked.Audit options)) → IsAudit ⟦<W as World>⟧ ⟦<W::Disk as Disk>⟧ ⟦<W::Door as Door>⟧ ⟦<<W::Door as Door>::Link as Link>⟧ world.old world.new (K.written sink.old) (K.written sink.new) result.status
+        (record { doors = result.doors; disk = result.disk; other = result.other; past = result.past }) (S.left source.old) (S.left source.new) (S.faults source.old) (S.faults source.new) options }
+    ensures makes { (options : MakeOptions) → words_of words.now ≡ Some (other (asked.Make options)) → IsMaking world.old world.new (K.written sink.old) (K.written sink.new) result.status
+        (record { doors = result.doors; disk = result.disk; other = result.other; past = result.past }) options }
+    ensures plans { words_of words.now ≡ Some (other asked.Which) → IsPlanning world.old world.new (K.written sink.old) (K.written sink.new) result.status
+        (record { doors = result.doors; disk = result.disk; other = result.other; past = result.past }) (S.left source.old) (S.left source.new) (S.faults source.old) (S.faults source.new) }
+    ensures tries { names_try words.now ≡ true → IsTrying world.old world.new (K.written sink.old) (K.written sink.new) result.status
+        (record { doors = result.doors; disk = result.disk; other = result.other; past = result.past }) (S.left source.old) (S.left source.new) (S.faults source.old) (S.faults source.new) words.now }
+    ensures shows { (question : ALine) → IsQuestion question → words_of words.now ≡ Some (other question) → IsShown world.old world.new (K.written sink.old) (K.written sink.new) result.status
         (record { doors = result.doors; disk = result.disk; other = result.other; past = result.past }) }
-    ensures cause { RisesOnlyWhere (result.status ≡ code_of NotWritten) (K.faults sink.old) (K.faults sink.new) }
-
-    // With `try` and its campaigns it is `try_run`, with `which` `run_which`, and with `audit` the audit of what the source
-    // has; the source is for those alone.
-    ensures tries { names_try words.now ≡ true → Tries words.now (S.left source.old) (S.left source.new) (S.faults source.old) (S.faults source.new) (K.written sink.old) (K.written sink.new) result.status }
-    ensures plans { asks_which (words_of words.now) ≡ true → Plans (S.left source.old) (S.left source.new) (S.faults source.old) (S.faults source.new) (K.written sink.old) (K.written sink.new) result.status }
-    ensures audits { (options : AuditOptions) → words_of words.now ≡ Some (other (asked_line.Audit options)) → RunsAudit ⟦<W as World>⟧ ⟦<W::Disk as Disk>⟧ options.journal world.old world.new (S.left source.old) (S.left source.new) (S.faults source.old) (S.faults source.new) (K.written sink.old) (K.written sink.new) result.status result.disk }
-    ensures unread { takes_input words.now ≡ false → source.new ≡ source.old }
 
     // It is usage exactly where the words are of no command, unless the sink fails or memory is refused.
-    ensures usage { words_of words.now ≡ None → (result.status ≡ code_of Usage) ⊎ (result.status ≡ code_of NotWritten) ⊎ (result.status ≡ code_of Memory) }
+    ensures unnamed { words_of words.now ≡ None → IsUnnamed world.old world.new (K.written sink.old) (K.written sink.new) result.status
+        (record { doors = result.doors; disk = result.disk; other = result.other; past = result.past }) }
     ensures named { result.status ≡ code_of Usage → words_of words.now ≡ None }
+
+    ensures cause { RisesOnlyWhere (result.status ≡ code_of NotWritten) (K.faults sink.old) (K.faults sink.new) }
+    // The source is for `try`, `which` and `audit` alone.
+    ensures unread { takes_input words.now ≡ false → source.new ≡ source.old }
+{
+    run_asked(alloc, words, world, pause, source, sink, rt)
+}
+
+// The same, with all that is said of it together.
+fn run_asked<W: World, P: Pause + Sync, S: Source, K: Sink, R: Threads + Wait + Sync>(
+    alloc: Global,
+    words: &[Txt],
+    world: &mut W,
+    pause: &P,
+    source: &mut S,
+    sink: &mut K,
+    rt: &R,
+) -> Outcome<W>
+    ensures runs { IsOfWords ⟦<W as World>⟧ ⟦<W::Disk as Disk>⟧ ⟦<W::Door as Door>⟧ ⟦<<W::Door as Door>::Link as Link>⟧ world.old world.new (S.left source.old) (S.left source.new) (S.faults source.old) (S.faults source.new) (K.written sink.old) (K.written sink.new) result.status
+        (record { doors = result.doors; disk = result.disk; other = result.other; past = result.past }) words.now }
+    ensures named { result.status ≡ code_of Usage → words_of words.now ≡ None }
+    ensures cause { RisesOnlyWhere (result.status ≡ code_of NotWritten) (K.faults sink.old) (K.faults sink.new) }
+    ensures unread { takes_input words.now ≡ false → source.new ≡ source.old }
 {
     if is_try(words) {
         return Outcome::without_world(alloc, try_run(alloc, words, source, sink));
@@ -77,11 +115,9 @@ fn run_other<W: World, P: Pause + Sync, S: Source, K: Sink, R: Threads + Wait + 
     rt: &R,
 ) -> Outcome<W>
     requires { names_try words.now ≡ false }
-    ensures runs { Runs ⟦<W as World>⟧ ⟦<W::Disk as Disk>⟧ ⟦<W::Door as Door>⟧ ⟦<<W::Door as Door>::Link as Link>⟧ words.now world.old world.new (K.written sink.old) (K.written sink.new) result.status
-        (record { doors = result.doors; disk = result.disk; other = result.other; past = result.past }) }
+    ensures runs { IsOfAsked ⟦<W as World>⟧ ⟦<W::Disk as Disk>⟧ ⟦<W::Door as Door>⟧ ⟦<<W::Door as Door>::Link as Link>⟧ world.old world.new (S.left source.old) (S.left source.new) (S.faults source.old) (S.faults source.new) (K.written sink.old) (K.written sink.new) result.status
+        (record { doors = result.doors; disk = result.disk; other = result.other; past = result.past }) (words_of words.now) }
     ensures cause { RisesOnlyWhere (result.status ≡ code_of NotWritten) (K.faults sink.old) (K.faults sink.new) }
-    ensures plans { asks_which (words_of words.now) ≡ true → Plans (S.left source.old) (S.left source.new) (S.faults source.old) (S.faults source.new) (K.written sink.old) (K.written sink.new) result.status }
-    ensures audits { (options : AuditOptions) → words_of words.now ≡ Some (other (asked_line.Audit options)) → RunsAudit ⟦<W as World>⟧ ⟦<W::Disk as Disk>⟧ options.journal world.old world.new (S.left source.old) (S.left source.new) (S.faults source.old) (S.faults source.new) (K.written sink.old) (K.written sink.new) result.status result.disk }
     ensures unread { asks_which (words_of words.now) ≡ false → asks_audit (words_of words.now) ≡ false → source.new ≡ source.old }
 {
     match command_line(alloc, words) {
@@ -114,11 +150,9 @@ fn run_line<W: World, P: Pause + Sync, S: Source, K: Sink, R: Threads + Wait + S
     sink: &mut K,
     rt: &R,
 ) -> Outcome<W>
-    ensures runs { (words : List (List ℕ)) → words_of words ≡ Some (other line.now) → Runs ⟦<W as World>⟧ ⟦<W::Disk as Disk>⟧ ⟦<W::Door as Door>⟧ ⟦<<W::Door as Door>::Link as Link>⟧ words world.old world.new (K.written sink.old) (K.written sink.new) result.status
-        (record { doors = result.doors; disk = result.disk; other = result.other; past = result.past }) }
+    ensures runs { IsOfLine ⟦<W as World>⟧ ⟦<W::Disk as Disk>⟧ ⟦<W::Door as Door>⟧ ⟦<<W::Door as Door>::Link as Link>⟧ world.old world.new (S.left source.old) (S.left source.new) (S.faults source.old) (S.faults source.new) (K.written sink.old) (K.written sink.new) result.status
+        (record { doors = result.doors; disk = result.disk; other = result.other; past = result.past }) line.now }
     ensures cause { RisesOnlyWhere (result.status ≡ code_of NotWritten) (K.faults sink.old) (K.faults sink.new) }
-    ensures plans { is_which line.now ≡ true → Plans (S.left source.old) (S.left source.new) (S.faults source.old) (S.faults source.new) (K.written sink.old) (K.written sink.new) result.status }
-    ensures audits { (options : AuditOptions) → line.now ≡ asked_line.Audit options → RunsAudit ⟦<W as World>⟧ ⟦<W::Disk as Disk>⟧ options.journal world.old world.new (S.left source.old) (S.left source.new) (S.faults source.old) (S.faults source.new) (K.written sink.old) (K.written sink.new) result.status result.disk }
     ensures unread { is_which line.now ≡ false → is_audit line.now ≡ false → source.new ≡ source.old }
 {
     match line {

@@ -5,7 +5,7 @@ ghost use Rattle.rtb_base.specs.Faults.{CountsErrors, one_more};
 ghost use Rattle.rtb_disk.specs.Images.{untold_stands};
 ghost use Rattle.rtb_disk.specs.Stores.{untold};
 
-use rtb_disk::Disk;
+use rtb_disk::{Disk, parts_len};
 use rtb_num::Failed;
 use std::alloc::{AllocError, Global};
 
@@ -62,6 +62,16 @@ fn write_over(items: &mut Vec<u8>, place: usize, bytes: &[u8]) -> Result<(), All
     Ok(())
 }
 
+// The same, of all parts, one behind the other.
+fn write_all_over(items: &mut Vec<u8>, place: usize, parts: [&[u8]; 3]) -> Result<(), AllocError> {
+    let mut at = place;
+    for part in parts {
+        write_over(items, at, part)?;
+        at = at.saturating_add(part.len());
+    }
+    Ok(())
+}
+
 // Moves as much as fits.
 fn fill(out: &mut [u8], rest: &[u8]) -> usize
     ensures count { result ≤ length out.new }
@@ -95,6 +105,20 @@ impl Disk for RunDisk {
             return Err(self.fault());
         }
         let written = write_over(&mut self.bytes, place as usize, bytes);
+        self.settle(written)
+    }
+
+    fn write_parts(
+        &mut self,
+        place: u64,
+        head: &[u8],
+        body: &[u8],
+        tail: &[u8],
+    ) -> Result<(), Failed> {
+        if place.saturating_add(parts_len(head, body, tail)) > MAX_LENGTH {
+            return Err(self.fault());
+        }
+        let written = write_all_over(&mut self.bytes, place as usize, [head, body, tail]);
         self.settle(written)
     }
 

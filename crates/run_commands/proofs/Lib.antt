@@ -1,3 +1,4 @@
+mod Giving
 mod Handing
 mod Making
 mod Serving

@@ -1,13 +1,13 @@
 -- The command `audit`.
 use Rattle.std.specs.Prelude.{◌≡◌, ◌⊎◌, ℕ, List, ◌++◌, Option, None, Some, Result, Ok, Err, codes, decimal}
-use Rattle.audit.specs.Verdicts.{Audits}
+use Rattle.audit.specs.Verdicts.{Audits, IsOfJournal}
 use Rattle.audit.specs.declared.verdict.AuditFault.{AuditFault}
 use Rattle.audit.specs.declared.verdict.AuditFault.TheVariants as fault
 use Rattle.audit.specs.declared.verdict.Verdict.{Verdict}
 use Rattle.audit.specs.declared.verdict.Verdict.TheVariants as verdict
 use Rattle.link_door.specs.declared.world.World.{Ghosts as WorldGhosts}
 use Rattle.recovery.specs.Openings.{IsUnwritten}
-use Rattle.rtb_base.specs.Faults.{RisesOnlyWhere, RisesWhere}
+use Rattle.rtb_base.specs.Faults.{RisesOnlyWhere}
 use Rattle.rtb_disk.specs.declared.disk.Disk.{Ghosts as DiskGhosts}
 use Rattle.rtb_io.specs.declared.status.Status.{Status}
 use Rattle.rtb_io.specs.declared.status.Status.TheVariants as status
@@ -41,14 +41,16 @@ EndsAudited (Err (fault.Torn at)) written written' code = EndsNumbered status.Tr
 EndsAudited (Err fault.TooLong) written written' code = EndsBy status.TraceTooLong written written' code
 EndsAudited (Err fault.Memory) written written' code = EndsBy status.Memory written written' code
 
--- What was said of the trace that came from the source, over the journal on the disk, and how the run ends behind it. No
--- byte was written to the disk. `left` is what the source has, and `faults` its count of faults.
+-- What was said of the trace that came from the source, over the journal on the disk, and how the run ends behind it. The
+-- journal was read first: where it gives no state nothing was read of the source. No byte was written to the disk. `left`
+-- is what the source has, and `faults` its count of faults.
 pub record IsAudited {Disk : Type 0} (G : DiskGhosts Disk) (disk disk' : Disk) (left left' : Option (List ℕ)) (faults faults' : ℕ) (written written' : Option (List ℕ)) (code : ℕ) : Type 0 where
   pub said : Result Verdict AuditFault
   pub audits : Audits (G.store disk) left left' said
+  pub first : IsOfJournal said → (left' ≡ left) × (faults' ≡ faults)
   pub unwritten : IsUnwritten (G.store disk) (G.store disk')
   pub disk_cause : RisesOnlyWhere (said ≡ Err fault.DiskFailed) (G.faults disk) (G.faults disk')
-  pub source_cause : RisesWhere (said ≡ Err fault.SourceFailed) faults faults'
+  pub source_cause : RisesOnlyWhere (said ≡ Err fault.SourceFailed) faults faults'
   pub ends : EndsAudited said written written' code
 
 -- What the command comes to, from the world w to the world w': memory was short for the words, and nothing was asked for;

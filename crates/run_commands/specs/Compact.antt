@@ -13,6 +13,7 @@ use Rattle.rtb_disk.specs.Stores.{Store}
 use Rattle.rtb_disk.specs.declared.disk.Disk.{Ghosts}
 use Rattle.rtb_io.specs.declared.status.Status.TheVariants as status
 use Rattle.run_commands.specs.Endings.{Ends, EndsBy}
+use Rattle.run_commands.specs.Given.{IsThere}
 use Rattle.run_commands.specs.Journals.{EndsAt}
 use Rattle.run_words.specs.declared.compact.CompactOptions.{CompactOptions}
 
@@ -35,13 +36,13 @@ pub record CompactsInto {Disk : Type 0} (G : Ghosts Disk) (keep : ℕ) (from fro
   pub write_cause : RisesOnlyWhere (done ≡ Err WriteFailed) (G.faults into) (G.faults into')
   pub ends : EndsCompacted done line written written' code
 
--- What the command comes to: the world gave no disk for the journal, or none for the file, or both. They are asked for
--- by their paths, the journal first. `left` are the disks that the world has, `count` is its count of faults, and `back`
+-- What the command comes to: the world gave no disk for the journal, which has to be there with something in it, or none
+-- for the file, or both. They are asked for by their paths, the journal first. `left` are the disks that the world has, `count` is its count of faults, and `back`
 -- and `other` are the disks of the file and of the journal that are given back.
 pub data RunsCompact {Disk : Type 0} (G : Ghosts Disk) (options : CompactOptions) (asked asked' : List Asked) (left left' : Option (List Disk)) (count count' : ℕ) (written written' : Option (List ℕ)) (code : ℕ) (back other : Option Disk) : Type 0 where
-  no_journal : AsksAtMost asked asked' (asked_for.Disk options.journal) → left' ≡ left → Rose count count' → back ≡ None → other ≡ None → EndsBy status.NoDisk written written' code
+  no_journal : AsksAtMost asked asked' (asked_for.DiskThere options.journal) → left' ≡ left → Rose count count' → back ≡ None → other ≡ None → EndsBy status.NoDisk written written' code
       → RunsCompact G options asked asked' left left' count count' written written' code back other
-  no_file : (from : Disk) → AsksAtMost (asked ++ asked_for.Disk options.journal ∷ []) asked' (asked_for.Disk options.into) → HandsOut left left' (from ∷ []) → Rose count count' → back ≡ None → other ≡ Some from → EndsBy status.NoDisk written written' code
+  no_file : (from : Disk) → AsksAtMost (asked ++ asked_for.DiskThere options.journal ∷ []) asked' (asked_for.Disk options.into) → HandsOut left left' (from ∷ []) → Rose count count' → back ≡ None → other ≡ Some from → EndsBy status.NoDisk written written' code
       → RunsCompact G options asked asked' left left' count count' written written' code back other
-  compacted : (from from' into into' : Disk) → asked' ≡ asked ++ asked_for.Disk options.journal ∷ asked_for.Disk options.into ∷ [] → HandsOut left left' (from ∷ into ∷ []) → count' ≡ count → back ≡ Some into' → other ≡ Some from'
+  compacted : (from from' into into' : Disk) → asked' ≡ asked ++ asked_for.DiskThere options.journal ∷ asked_for.Disk options.into ∷ [] → HandsOut left left' (from ∷ into ∷ []) → count' ≡ count → back ≡ Some into' → other ≡ Some from' → IsThere (G.store from)
       → CompactsInto G options.keep from from' into into' written written' code → RunsCompact G options asked asked' left left' count count' written written' code back other

@@ -1,5 +1,5 @@
 -- What a world gave, from the world before to the one after.
-use Rattle.std.specs.Prelude.{◌≡◌, ℕ, List, [], ◌∷◌, ◌++◌, length}
+use Rattle.std.specs.Prelude.{◌≡◌, ◌<◌, ℕ, Bool, true, if◌then◌else◌, List, [], ◌∷◌, ◌++◌, length}
 use Rattle.link_door.specs.Worlds.{AsksAtMost, HandsOut}
 use Rattle.link_door.specs.declared.asked.Asked.{Asked}
 use Rattle.link_door.specs.declared.asked.Asked.TheVariants as asked_for
@@ -7,11 +7,22 @@ use Rattle.link_door.specs.declared.world.World.{Ghosts}
 use Rattle.link_door.specs.declared.world.WorldFault.{WorldFault}
 use Rattle.link_door.specs.declared.world.WorldFault.TheVariants as fault
 use Rattle.rtb_base.specs.Faults.{Rose}
+use Rattle.rtb_disk.specs.Stores.{Store}
+use Rattle.rtb_disk.specs.declared.disk.Disk.{Ghosts as DiskGhosts}
 
 -- the world failed, and its count rose, or memory was refused
 abbrev pub HasFailed : WorldFault → ℕ → ℕ → Type 0
 HasFailed fault.Failed count count' = Rose count count'
 HasFailed fault.Memory count count' = count' ≡ count
+
+-- where the disk is told, it has something in it
+abbrev pub IsThere : Store → Type 0
+IsThere store = store.told ≡ true → 0 < length store.reads
+
+-- What a world is asked for where the journal with this name is to be served: one that is there, where it has to be, and
+-- else one that is made where it is missing.
+abbrev pub journal_asked : Bool → List ℕ → Asked
+journal_asked existing path = if existing then asked_for.DiskThere path else asked_for.Disk path
 
 module _ {World Door Disk Link : Type 0} (W : Ghosts World Door Disk Link) where
   -- it was asked for that, and gave this disk
@@ -28,14 +39,15 @@ module _ {World Door Disk Link : Type 0} (W : Ghosts World Door Disk Link) where
     pub doors : W.doors_left w' ≡ W.doors_left w
     pub faults : Rose (W.faults w) (W.faults w')
 
-  -- the disk with this name
-  abbrev pub GivesDisk : List ℕ → World → World → Disk → Type 0
-  GivesDisk path = Gives (asked_for.Disk path)
+  -- this disk for the journal that is served; where it has to be there, it has something in it
+  pub record GivesJournal (G : DiskGhosts Disk) (existing : Bool) (path : List ℕ) (w w' : World) (disk : Disk) : Type 0 where
+    pub gives : Gives (journal_asked existing path) w w' disk
+    pub there : existing ≡ true → IsThere (G.store disk)
 
-  abbrev pub GivesNoDisk : List ℕ → World → World → Type 0
-  GivesNoDisk path = GivesNone (asked_for.Disk path)
+  abbrev pub GivesNoJournal : Bool → List ℕ → World → World → Type 0
+  GivesNoJournal existing path = GivesNone (journal_asked existing path)
 
-  -- the same, where there is one, to be read alone
+  -- the disk with this name, where there is one, to be read alone
   abbrev pub GivesDiskToRead : List ℕ → World → World → Disk → Type 0
   GivesDiskToRead path = Gives (asked_for.DiskToRead path)
 

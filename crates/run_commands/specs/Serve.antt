@@ -18,7 +18,7 @@ use Rattle.rtb_io.specs.Fronts.{AppendsFront}
 use Rattle.rtb_io.specs.Statuses.{code_of}
 use Rattle.rtb_io.specs.declared.status.Status.TheVariants as status
 use Rattle.run_commands.specs.Endings.{EndsBy}
-use Rattle.run_commands.specs.Given.{GivesDisk, GivesDoors, GivesNoDisk, GivesNoDoors}
+use Rattle.run_commands.specs.Given.{GivesDoors, GivesJournal, GivesNoDoors, GivesNoJournal}
 use Rattle.run_commands.specs.Journals.{EndsAt, HasCause}
 use Rattle.run_commands.specs.Served.{IsServed, IsWritten}
 use Rattle.run_words.specs.declared.serve.ServeOptions.{ServeOptions}
@@ -87,21 +87,21 @@ pub data Announces {Disk Door Link : Type 0} (G : DiskGhosts Disk) (H : DoorGhos
   served : IsRun G H K options disk disk' doors doors' past written written' code → Announces G H K options disk disk' doors doors' past written written' code
 
 -- What the command comes to, from the world w to the world w'. Memory was short for the first line, and nothing was asked
--- for; or the world gave no disk for the path of the journal; or the journal on it was not opened; or the world gave no
+-- for; or the world gave no disk for the path of the journal, which where it has to be there has something in it; or the journal on it was not opened; or the world gave no
 -- doors at the address, one for each worker, with the patience of the options; or it did. `doors'` and `back` are the doors and the disk that come back,
 -- and `past` is the history of the exchange, where it was opened.
 pub data Serves {World Disk Door Link : Type 0} (W : WorldGhosts World Door Disk Link) (G : DiskGhosts Disk) (H : DoorGhosts Door Link) (K : LinkGhosts Link) (options : ServeOptions)
     (w w' : World) (written written' : Option (List ℕ)) (code : ℕ) (doors' : List Door) (back : Option Disk) (past : Option History) : Type 0 where
   starved : w' ≡ w → doors' ≡ [] → back ≡ None → past ≡ None → EndsBy status.Memory written written' code
       → Serves W G H K options w w' written written' code doors' back past
-  no_disk : GivesNoDisk W options.journal w w' → doors' ≡ [] → back ≡ None → past ≡ None → EndsBy status.NoDisk written written' code
+  no_disk : GivesNoJournal W options.existing options.journal w w' → doors' ≡ [] → back ≡ None → past ≡ None → EndsBy status.NoDisk written written' code
       → Serves W G H K options w w' written written' code doors' back past
-  not_opened : (disk disk' : Disk) → GivesDisk W options.journal w w' disk → (fault : JournalFault) → IsRefused G disk disk' fault
+  not_opened : (disk disk' : Disk) → GivesJournal W G options.existing options.journal w w' disk → (fault : JournalFault) → IsRefused G disk disk' fault
       → doors' ≡ [] → back ≡ Some disk' → past ≡ None → EndsAt fault written written' code
       → Serves W G H K options w w' written written' code doors' back past
-  no_doors : (disk disk' : Disk) (history : History) (between : World) → GivesDisk W options.journal w between disk → (fault : WorldFault) → GivesNoDoors W options.listen (workers_of options) options.patience between w' fault
+  no_doors : (disk disk' : Disk) (history : History) (between : World) → GivesJournal W G options.existing options.journal w between disk → (fault : WorldFault) → GivesNoDoors W options.listen (workers_of options) options.patience between w' fault
       → IsIdle G H K options disk disk' history → doors' ≡ [] → back ≡ Some disk' → past ≡ Some history → EndsWithoutDoors fault written written' code
       → Serves W G H K options w w' written written' code doors' back past
-  opened : (disk disk' : Disk) (history : History) (between : World) (doors : List Door) → GivesDisk W options.journal w between disk → GivesDoors W options.listen (workers_of options) options.patience between w' doors
+  opened : (disk disk' : Disk) (history : History) (between : World) (doors : List Door) → GivesJournal W G options.existing options.journal w between disk → GivesDoors W options.listen (workers_of options) options.patience between w' doors
       → Announces G H K options disk disk' doors doors' history written written' code → back ≡ Some disk' → past ≡ Some history
       → Serves W G H K options w w' written written' code doors' back past

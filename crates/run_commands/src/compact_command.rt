@@ -6,6 +6,7 @@ ghost use Rattle.link_door.specs.declared.asked.Asked.TheVariants as asked_for;
 ghost use Rattle.rtb_base.specs.Faults.{RisesOnlyWhere};
 ghost use Rattle.rtb_io.specs.Statuses.{code_of};
 ghost use Rattle.rtb_io.specs.declared.status.Status.TheVariants.{NotWritten};
+ghost use Rattle.run_commands.specs.Given.{IsThere};
 ghost use Rattle.run_commands.specs.Compact.{CompactsInto, EndsCompacted, RunsCompact};
 
 use crate::journals::end_at;
@@ -22,7 +23,7 @@ use std::alloc::Global;
 /// Runs the command `compact`: reads the journal, forgets its oldest sales but for so many, writes the exchange that is
 /// left to another file as a journal, and prints how many sales are in its list and how many are forgotten.
 ///
-/// It ends with status 0, or 4 where the world gave no disk for one of them, 5 where the journal's disk failed, 6 where
+/// It ends with status 0, or 4 where the world gave no disk for one of them, as where the journal is not there, 5 where the journal's disk failed, 6 where
 /// the journal is damaged, 12 where the other file has something in it, 13 where its disk failed, or 9 for want of
 /// memory, each with a line of its own; and in place of each of them 7, where the sink failed.
 pub fn compact<W: World, K: Sink>(
@@ -37,7 +38,7 @@ pub fn compact<W: World, K: Sink>(
     ensures others { W.doors_left world.new ≡ W.doors_left world.old }
     ensures cause { RisesOnlyWhere (result.status ≡ code_of NotWritten) (K.faults sink.old) (K.faults sink.new) }
 {
-    match world.disk(&options.journal) {
+    match world.disk_there(&options.journal) {
         Ok(from) => compact_from(alloc, options, world, sink, from),
         Err(Failed) => Outcome::without_world(alloc, end_with(Status::NoDisk, sink).code()),
     }
@@ -51,7 +52,7 @@ fn compact_from<W: World, K: Sink>(
     sink: &mut K,
     from: W::Disk,
 ) -> Outcome<W>
-    ensures compacts { (disks : Option (List W.Disk)) (asked : List Asked) → HandsOut disks (W.disks_left world.old) (from ∷ []) → W.asked world.old ≡ asked ++ asked_for.Disk options.now.journal ∷ [] → RunsCompact ⟦<W::Disk as Disk>⟧ options.now asked (W.asked world.new) disks (W.disks_left world.new) (W.faults world.old) (W.faults world.new) (K.written sink.old) (K.written sink.new) result.status result.disk result.other }
+    ensures compacts { (disks : Option (List W.Disk)) (asked : List Asked) → HandsOut disks (W.disks_left world.old) (from ∷ []) → W.asked world.old ≡ asked ++ asked_for.DiskThere options.now.journal ∷ [] → IsThere (W.Disk.store from) → RunsCompact ⟦<W::Disk as Disk>⟧ options.now asked (W.asked world.new) disks (W.disks_left world.new) (W.faults world.old) (W.faults world.new) (K.written sink.old) (K.written sink.new) result.status result.disk result.other }
     ensures doors { result.doors ≡ [] }
     ensures past { result.past ≡ None }
     ensures others { W.doors_left world.new ≡ W.doors_left world.old }

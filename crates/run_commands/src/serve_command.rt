@@ -1,5 +1,5 @@
 //! The command `serve`: the journal opened, a door for each worker, and the links of all doors served.
-ghost use Rattle.std.specs.Prelude.{◌≡◌, ◌<◌, ◌^◌, ℕ, [], List, Option, None, IfErr, IfOk, length, true};
+ghost use Rattle.std.specs.Prelude.{◌≡◌, ◌<◌, ◌^◌, ℕ, [], List, Option, None, IfErr, IfOk, MatchResult, length, true};
 ghost use Rattle.std.specs.Io.KnownBytes.{Appends};
 ghost use Rattle.exchange_shared.specs.Opening.{IsOriginOver};
 ghost use Rattle.exchange_shared.specs.Seats.{IsOrdered, MayCall, lock_of};
@@ -11,7 +11,7 @@ ghost use Rattle.rtb_base.specs.Faults.{RisesOnlyWhere, RoseBy};
 ghost use Rattle.rtb_disk.specs.Stores.{EachImage};
 ghost use Rattle.rtb_io.specs.Statuses.{code_of};
 ghost use Rattle.rtb_io.specs.declared.status.Status.TheVariants.{NotWritten};
-ghost use Rattle.run_commands.specs.Given.{GivesDisk};
+ghost use Rattle.run_commands.specs.Given.{GivesJournal, GivesNoJournal};
 ghost use Rattle.worker_pool.specs.Pools.{KeepsBudgets};
 ghost use Rattle.run_commands.specs.Serve.{Announces, EndsBehind, EndsWithoutDoors, IsRefused, IsRun, Serves, first_line, workers_of};
 
@@ -39,7 +39,8 @@ use worker_pool::{Pool, PoolEnd, budgets_hold_at_each_place, serve_doors};
 /// that come through the doors, each worker one link after the other, until no more will come. Then it writes once more
 /// what is not durable.
 ///
-/// It ends with status 0, or 3 where the world gave no doors, 4 where it gave no disk, 5 where the disk failed while the
+/// It ends with status 0, or 3 where the world gave no doors, 4 where it gave no disk, as where the journal has to be there
+/// and is not, or has nothing in it, 5 where the disk failed while the
 /// journal was opened, 6 where the journal is damaged, 8 where a door failed, 9 for want of memory, or 11 where the last
 /// write failed, each with a line of its own; and in place of each of them 7, where the sink failed. Where the sink fails
 /// at the first line, nothing is served.
@@ -114,13 +115,23 @@ fn serve_journal<'a, W: World, P: Pause + Sync, K: Sink, R: Threads + Wait + Syn
     ensures other { result.other ≡ None }
     ensures cause { RisesOnlyWhere (result.status ≡ code_of NotWritten) (K.faults sink.old) (K.faults sink.new) }
 {
-    match world.disk(&tools.options.journal) {
+    match journal_disk(tools.options, world) {
         Ok(disk) => serve_disk(tools, world, sink, disk),
         Err(Failed) => {
             let status = end_with(Status::NoDisk, sink);
             Outcome::without_world(tools.alloc, status.code())
         }
     }
+}
+
+// The disk of the journal: one that is there, where it has to be.
+fn journal_disk<W: World>(options: &ServeOptions, world: &mut W) -> Result<W::Disk, Failed>
+    ensures { MatchResult result (GivesJournal ⟦<W as World>⟧ ⟦<W::Disk as Disk>⟧ options.now.existing options.now.journal world.old world.new) (λ _. GivesNoJournal ⟦<W as World>⟧ options.now.existing options.now.journal world.old world.new) }
+{
+    if options.existing {
+        return world.disk_there(&options.journal);
+    }
+    world.disk(&options.journal)
 }
 
 // The same, with the disk that the world gave.
@@ -131,7 +142,7 @@ fn serve_disk<'a, W: World, P: Pause + Sync, K: Sink, R: Threads + Wait + Sync>(
     disk: W::Disk,
 ) -> Outcome<W>
     requires line { tools.now.line.now ≡ first_line tools.now.options.now }
-    ensures serves { (before : W) → GivesDisk ⟦<W as World>⟧ tools.now.options.now.journal before world.old disk
+    ensures serves { (before : W) → GivesJournal ⟦<W as World>⟧ ⟦<W::Disk as Disk>⟧ tools.now.options.now.existing tools.now.options.now.journal before world.old disk
         → Serves ⟦<W as World>⟧ ⟦<W::Disk as Disk>⟧ ⟦<W::Door as Door>⟧ ⟦<<W::Door as Door>::Link as Link>⟧ tools.now.options.now before world.new (K.written sink.old) (K.written sink.new) result.status result.doors result.disk result.past }
     ensures other { result.other ≡ None }
     ensures cause { RisesOnlyWhere (result.status ≡ code_of NotWritten) (K.faults sink.old) (K.faults sink.new) }
@@ -175,7 +186,7 @@ fn serve_exchange<'a, W: World, P: Pause + Sync, K: Sink, R: Threads + Wait + Sy
     requires line { tools.now.line.now ≡ first_line tools.now.options.now }
     requires seat { MayCall (lock_of exchange) seat }
     requires first { seat ≡ first_seat (lock_of exchange) seat.origin }
-    ensures serves { (before : W) (disk : W.Disk) → GivesDisk ⟦<W as World>⟧ tools.now.options.now.journal before world.old disk
+    ensures serves { (before : W) (disk : W.Disk) → GivesJournal ⟦<W as World>⟧ ⟦<W::Disk as Disk>⟧ tools.now.options.now.existing tools.now.options.now.journal before world.old disk
         → IsOriginOver (W.Disk.store disk) (W.Disk.faults disk) tools.now.options.now.ttl seat.origin
         → Serves ⟦<W as World>⟧ ⟦<W::Disk as Disk>⟧ ⟦<W::Door as Door>⟧ ⟦<<W::Door as Door>::Link as Link>⟧ tools.now.options.now before world.new (K.written sink.old) (K.written sink.new) result.status result.doors result.disk result.past }
     ensures other { result.other ≡ None }

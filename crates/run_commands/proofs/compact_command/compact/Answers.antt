@@ -11,10 +11,10 @@ returns-in-Ok-clause-compacts g c =
     let kept = g.K.Sink.written in
     subst (λ count. RunsCompact g.W.Disk.Disk c.args.options.now (w.asked c.args.world.now) (w.asked end.world) (w.disks_left c.args.world.now) (w.disks_left end.world) count (w.faults end.world) (kept c.args.sink.now) (kept end.sink) out.status out.disk out.other)
     c.in-Ok.ensures.cause
-    (c.compact_from.ensures.compacts (w.disks_left c.args.world.now) (w.asked c.args.world.now) c.in-Ok.ensures.disks c.in-Ok.ensures.asks)
+    (c.compact_from.ensures.compacts (w.disks_left c.args.world.now) (w.asked c.args.world.now) c.in-Ok.ensures.disks c.in-Ok.ensures.asks c.in-Ok.ensures.long)
 
 pub returns-in-Ok-clause-others : goal.returns-in-Ok-clause-others
-returns-in-Ok-clause-others g c = c.compact_from.ensures.others ∙ c.disk.ensures.doors
+returns-in-Ok-clause-others g c = c.compact_from.ensures.others ∙ c.disk_there.ensures.doors
 
 pub returns-in-Err-clause-cause : goal.returns-in-Err-clause-cause
 returns-in-Err-clause-cause g c = rises_by_code c.end_with.result _ _ _ (c.without_world.ensures.status ∙ c.code.ensures) c.end_with.ensures.cause

@@ -7,14 +7,12 @@ use Rattle.run_commands.proofs.serve_command.serve_journal.Goals as goal
 
 pub returns-in-Ok-clause-serves : goal.returns-in-Ok-clause-serves
 returns-in-Ok-clause-serves g c =
-    let h = c.in-Ok.ensures in
-    c.serve_disk.ensures.serves c.args.world.now (record { asked = h.asks; disks = h.disks; doors = c.disk.ensures.doors; faults = h.cause })
+    c.serve_disk.ensures.serves c.args.world.now c.in-Ok.ensures
 
 pub returns-in-Err-clause-serves : goal.returns-in-Err-clause-serves
 returns-in-Err-clause-serves g c =
-    let h = c.in-Err.ensures in
     let out = c.without_world.ensures in
-    no_disk (record { asked = h.asks; disks = h.disks; doors = c.disk.ensures.doors; faults = h.cause.1 }) out.doors out.disk out.past
+    no_disk c.in-Err.ensures out.doors out.disk out.past
     (subst (λ (code : ℕ). EndsBy status.NoDisk (g.K.Sink.written c.args.sink.now) (g.K.Sink.written c.end_with-status.new.sink) code) (sym (out.status ∙ c.code.ensures)) c.end_with-status.ensures.ends)
 
 pub returns-in-Err-clause-cause : goal.returns-in-Err-clause-cause
