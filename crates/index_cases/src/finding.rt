@@ -1,13 +1,13 @@
 //! Calls that count their steps: of `conj_index`, an index of campaigns and what is found in it, and those
-//! of `correcting` and `matching`.
+//! of `conjunctive`, `correcting` and `matching`.
 //!
 //! A campaign is written as its expression, as `case_exprs` says, and `5000*` before it stands for so many
 //! campaigns with that expression. The campaigns are numbered from 1.
 ghost use Rattle.std.specs.Prelude.{◌≡◌, ◌≤◌, ◌<◌, ◌+◌, All, IfOk};
 ghost use Rattle.conj_index.specs.Campaigns.{conjunctions_in};
 
-use crate::correcting;
 use crate::matching::{answer_with, put_numbers};
+use crate::{conjunctive, correcting};
 use case_exprs::{assignment_in, make_expr};
 use case_lines::{done, kept_if};
 use conj_index::{Builder, Index, IndexFault, Part, Scratch, scan};
@@ -18,7 +18,7 @@ use std::marker::Brand;
 use std::sync::ledger::{Blank, Ledger};
 use target_expr::{Assignment, Expr, ExprFault};
 
-/// Answers a call of this area, of `correcting` or of `matching`, or tells that it is none.
+/// Answers a call of this area, of `conjunctive`, `correcting` or `matching`, or tells that it is none.
 ///
 /// - `find | ASSIGNMENT | CAMPAIGN | .. | CAMPAIGN`: the numbers of the campaigns that the index of these
 ///   finds, or `none`; `, but ` and what asking each gives where that is something else; and `, then ` and
@@ -42,6 +42,9 @@ fn answer_by<L: Ledger>(
     requires some { 0 < blank.parts }
 {
     let mut steps = Steps::<L>::new(blank);
+    if conjunctive::answer_with(alloc, call, args, &mut steps, out)? {
+        return Ok(true);
+    }
     match args {
         [assigned, campaigns @ ..] if call == b"find".as_slice() => {
             done(find(alloc, assigned.as_bytes(), campaigns, &mut steps, out))

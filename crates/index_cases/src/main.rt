@@ -4,6 +4,7 @@
 //! `case_lines` says what a case is; each area has a module with its calls.
 #![tactic(auto)]
 
+mod conjunctive;
 mod correcting;
 mod finding;
 mod matching;

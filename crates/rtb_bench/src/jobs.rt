@@ -173,13 +173,13 @@ fn append<C: Clock>(
 
 // A disk in the file, where each sync takes so many microseconds longer.
 fn slow_disk<'a, C: Clock>(
-    rt: &HostRuntime,
+    rt: &'a HostRuntime,
     clock: &'a C,
     path: &Txt,
     micros: u32,
 ) -> Option<SlowDisk<'a, C>> {
     let path = str::from_utf8(path.as_bytes()).ok()?;
-    let disk = FileDisk::open(rt, path).ok()?;
+    let disk = FileDisk::open_alone(rt, path).ok()?;
     let micros = u64::from(micros);
     Some(SlowDisk {
         disk,

@@ -136,6 +136,17 @@ impl<'a, D: Disk> Disk for HeldDisk<'a, D> {
         self.settle(answer)
     }
 
+    fn write_parts(
+        &mut self,
+        place: u64,
+        head: &[u8],
+        body: &[u8],
+        tail: &[u8],
+    ) -> Result<(), Failed> {
+        let answer = self.disk.write_parts(place, head, body, tail);
+        self.settle(answer)
+    }
+
     fn cut(&mut self, count: u64) -> Result<(), Failed> {
         let answer = self.disk.cut(count);
         self.settle(answer)

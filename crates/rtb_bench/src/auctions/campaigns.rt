@@ -15,8 +15,12 @@ pub const TTL: u64 = 1_000;
 // So many edits no bench comes to.
 const MOST_EDITS: u64 = 9_223_372_036_854_775_808;
 
-// How many sites there are.
+// How many sites there are, how many places on a page, and how many deals.
 const SITES: u32 = 100;
+
+const PLACES: u32 = 5;
+
+const DEALS: u32 = 50;
 
 /// Campaigns, one after the other.
 pub trait Campaigns {
@@ -24,7 +28,8 @@ pub trait Campaigns {
     fn next_body(&mut self, alloc: Global) -> Result<Txt, AllocError>;
 }
 
-/// Campaigns of which every hundredth wants the same site.
+/// Campaigns of which every hundredth wants the same site, every fifth the same place on a page, and every fiftieth
+/// lists the same deal.
 #[derive(Drop)]
 pub struct SiteCampaigns {
     next: u32,
@@ -89,7 +94,7 @@ pub fn next_command<C: Campaigns>(alloc: Global, from: &mut C) -> Result<Command
     command_of(alloc, body)
 }
 
-/// The command that adds campaign i of those that want a site.
+/// The command that adds campaign i of those that want a site or a place.
 pub fn campaign_command(alloc: Global, i: u32) -> Result<Command, AllocError> {
     let body = site_body(alloc, i)?;
     command_of(alloc, body)
@@ -116,10 +121,10 @@ pub fn message_of(alloc: Global, target: &[u8], body: Txt) -> Result<Message, Al
 }
 
 fn site_body(alloc: Global, i: u32) -> Result<Txt, AllocError> {
-    let site = i % SITES;
+    let (site, place, deal) = (i % SITES, i % PLACES, i % DEALS);
     let cents = i % 90 + 10;
     let body = format!(in alloc;
-        "{{\"seat\":\"s{i}\",\"adomain\":\"ad{i}.example\",\"secure\":1,\"bid\":0.{cents},\"budget\":1000000,\"adm\":\"ad {i}\",\"crid\":\"cr{i}\",\"target\":[[{{\"attr\":\"domain\",\"in\":[\"site{site}.example\"]}}]]}}"
+        "{{\"seat\":\"s{i}\",\"adomain\":\"ad{i}.example\",\"secure\":1,\"bid\":0.{cents},\"budget\":1000000,\"adm\":\"ad {i}\",\"crid\":\"cr{i}\",\"cat\":[\"IAB1\",\"IAB1-2\",\"IAB22-3\"],\"deals\":[\"deal{deal}\"],\"target\":[[{{\"attr\":\"domain\",\"in\":[\"site{site}.example\"]}}],[{{\"attr\":\"tagid\",\"in\":[\"place{place}\"]}}]]}}"
     )?;
     Ok(Txt::from_vec(body.into_bytes()))
 }

@@ -11,7 +11,7 @@ use std::time::{Clock, Duration};
 /// A disk in a file, of which each sync first sleeps so many microseconds.
 #[derive(Drop)]
 pub struct SlowDisk<'a, C: Clock> {
-    pub disk: FileDisk,
+    pub disk: FileDisk<'a>,
     pub clock: &'a C,
     pub micros: u64,
 }
@@ -19,7 +19,7 @@ pub struct SlowDisk<'a, C: Clock> {
 impl<'a, C: Clock> Disk for SlowDisk<'a, C> {
     ghost store = { λ d. untold };
 
-    ghost faults = { λ d. ⟦<FileDisk as Disk>⟧.faults d.disk };
+    ghost faults = { λ d. ⟦<FileDisk<'a> as Disk>⟧.faults d.disk };
 
     fn length(&mut self) -> Result<u64, Failed> {
         self.disk.length()
@@ -31,6 +31,16 @@ impl<'a, C: Clock> Disk for SlowDisk<'a, C> {
 
     fn write_at(&mut self, place: u64, bytes: &[u8]) -> Result<(), Failed> {
         self.disk.write_at(place, bytes)
+    }
+
+    fn write_parts(
+        &mut self,
+        place: u64,
+        head: &[u8],
+        body: &[u8],
+        tail: &[u8],
+    ) -> Result<(), Failed> {
+        self.disk.write_parts(place, head, body, tail)
     }
 
     fn cut(&mut self, count: u64) -> Result<(), Failed> {
