@@ -1,0 +1,170 @@
+"""The package on a machine: installed, started over journals that are there and that are not, ended, and removed."""
+
+import re
+import time
+
+from debian.swaps import HOME, JOURNAL, Script, comes_to, made_journals, damaged, prepare, run_script
+from serving.checks import CHECKS
+
+ASK = "curl -s -o /dev/null -w '%{http_code}' --retry 20 --retry-delay 0 --retry-connrefused http://127.0.0.1:8080/campaign/1"
+UNITS = ["rtbx.service", "rtbx-standby.service", "rtbx-follow.service", "rtbx-compact.timer", "rtbx-metrics.timer"]
+
+
+def install(machine, package):
+    machine.path("/srv/rtbx.deb").write_bytes(package.read_bytes())
+    code, said = machine.run("dpkg -i /srv/rtbx.deb")
+    CHECKS.same(f"the package installs: {said}", code, 0)
+    for unit in UNITS:
+        CHECKS.same(f"{unit} is off at first", machine.run(f"systemctl is-enabled {unit}")[1].strip(), "disabled")
+    CHECKS.same("the units are as systemd wants them", machine.run("systemd-analyze verify --man=no " + " ".join(UNITS)), (0, ""))
+
+
+def status(machine):
+    """The status with which the server last ended."""
+    return machine.run("systemctl show -p ExecMainStatus --value rtbx")[1].strip()
+
+
+def try_first_start(machine):
+    CHECKS.same("a start without a journal", machine.run("systemctl start rtbx")[0], 0)
+    CHECKS.same("it answers", machine.run(ASK)[1], "404")
+    CHECKS.same("the journal is the service's own", machine.run(f"stat -c '%U %G %a' {JOURNAL}")[1], "rtbx rtbx 600\n")
+    CHECKS.holds("it is noted", machine.path("/var/lib/rtbx-start/journal-was-there").exists())
+
+
+def try_no_journal(machine):
+    """No empty exchange begins where a journal was, and the service goes on by itself once it is there again."""
+    for name, away in {"taken away": f"mv {JOURNAL} {HOME}/away", "of no length": f"mv {JOURNAL} {HOME}/away; : > {JOURNAL}"}.items():
+        machine.run(f"systemctl stop rtbx; {away}; systemctl start rtbx")
+        time.sleep(3)
+        CHECKS.same(f"a journal {name}: the service waits", machine.run("systemctl is-active rtbx")[1], "activating\n")
+        CHECKS.same(f"a journal {name}: its status", status(machine), "4")
+        there = machine.path(JOURNAL)
+        CHECKS.holds(f"a journal {name}: none is made", not there.exists() or there.stat().st_size == 0)
+        machine.run(f"mv {HOME}/away {JOURNAL}")
+        CHECKS.same(f"a journal {name}: back again", (comes_to(machine, "active"), machine.run(ASK)[1]), ("active", "404"))
+
+
+def try_no_mount(machine):
+    """A disk that is not mounted: the service does not start, and makes nothing in the empty folder."""
+    mount = machine.path("/etc/systemd/system/var-lib-rtbx.mount")
+    mount.write_text(f"[Mount]\nWhat=tmpfs\nType=tmpfs\nOptions=size=none\nWhere={HOME}\n")
+    machine.run(f"systemctl stop rtbx; mv {JOURNAL} /srv/journal; systemctl daemon-reload")
+    CHECKS.holds("a disk that is not there: the start fails", machine.run("systemctl start rtbx")[0] != 0)
+    CHECKS.same("a disk that is not there: nothing is made", list(machine.path(HOME).iterdir()), [])
+    mount.unlink()
+    machine.run(f"systemctl daemon-reload; mv /srv/journal {JOURNAL}; systemctl start rtbx")
+    CHECKS.same("without that disk", machine.run(ASK)[1], "404")
+
+
+def try_ends(machine):
+    """Ends that follow fast on one another, and one that no start mends."""
+    for _ in range(8):
+        machine.run("systemctl kill -s KILL --kill-whom=main rtbx")
+        time.sleep(1.2)
+    CHECKS.same("eight kills in ten seconds", (comes_to(machine, "active"), machine.run(ASK)[1]), ("active", "404"))
+    machine.run(f"systemctl stop rtbx; cp {JOURNAL} /srv/journal; echo this is no journal > {JOURNAL}; systemctl start rtbx")
+    CHECKS.same("damage", (comes_to(machine, "failed"), status(machine)), ("failed", "6"))
+    machine.run(f"cp /srv/journal {JOURNAL}; echo RTBX_WORKERS=none > /etc/default/rtbx.d; cp /etc/default/rtbx /srv/default")
+    machine.run("cp /etc/default/rtbx.d /etc/default/rtbx; rm /etc/default/rtbx.d; systemctl start rtbx")
+    CHECKS.same("wrong words", (comes_to(machine, "failed"), status(machine)), ("failed", "2"))
+    machine.run("cp /srv/default /etc/default/rtbx; systemctl start rtbx")
+    CHECKS.same("right words", machine.run(ASK)[1], "404")
+
+
+def effects(machine):
+    return machine.run("curl -s --retry 20 --retry-delay 0 --retry-connrefused http://127.0.0.1:8081/campaign/1 | sed 's/.*\"effects\"://; s/[^0-9].*//'")[1].strip()
+
+
+def try_follower(machine, program, temporary):
+    """The follower begins anew over the journal that stands there behind a compaction."""
+    late = made_journals(program, temporary)[1]
+    prepare(machine, Script("", "", late, late))
+    machine.run("systemctl enable --now rtbx-follow")
+    before = effects(machine)
+    code, said = machine.run("rtbx-compact --keep 1")
+    CHECKS.same(f"a compaction beside a follower: {said}", code, 0)
+    CHECKS.same("both have the same counts", *(machine.run(f"runuser -u rtbx rtbx recover -- --journal {it}")[1] for it in [JOURNAL, f"{JOURNAL}.old"]))
+    after = effects(machine)
+    CHECKS.holds(f"{before} effects, and then {after}", before.isdigit() and after.isdigit() and int(after) < int(before))
+    machine.run("systemctl disable --now rtbx-follow")
+
+
+def try_figures(machine, program, temporary):
+    """The timer's service writes what a node exporter reads, also where the server is stopped, and the journal gone."""
+    file = "/var/lib/prometheus/node-exporter/rtbx.prom"
+    late = made_journals(program, temporary)[1]
+    prepare(machine, Script("", "", late, late))
+    machine.run("mkdir -p /var/lib/prometheus/node-exporter; systemctl start rtbx-follow")
+    effects(machine)
+    for line, wanted in [
+        ("true", ["rtbx_up 1", "rtbx_follower_up 1", f"rtbx_journal_bytes {len(late)}", "rtbx_journal_sales 40", 'rtbx_campaign_live{campaign="3"} 1']),
+        (f"rtbx-compact --keep 10; rm {file}; {ASK}; systemctl restart rtbx-follow", ["rtbx_up 1", "rtbx_journal_whole 1", "rtbx_journal_sales 10"]),
+        ("systemctl stop rtbx", ["rtbx_up 0", "rtbx_follower_up 0", "rtbx_journal_sales 10"]),
+        (f"rm {file} {JOURNAL}", ["rtbx_up 0", "rtbx_journal_bytes 0", "rtbx_journal_whole 0"]),
+    ]:
+        machine.run(line)
+        effects(machine) if "restart" in line else None
+        code, said = machine.run("systemctl start rtbx-metrics")
+        CHECKS.same(f"figures after {line}: {said}", code, 0)
+        found = machine.path(file).read_text().splitlines()
+        CHECKS.same(f"figures after {line}: missing", [it for it in wanted if it not in found], [])
+
+
+def try_refusals(machine, program, temporary):
+    """What the scripts refuse, and a service that was stopped stays so."""
+    early, late = made_journals(program, temporary)
+    broken, at = damaged(late)
+    for words, before, wanted in [
+        ("rtbx-compact --keep none", late, 2), ("rtbx-compact --kept 1", late, 2), ("rtbx-compact --keep", late, 2),
+        ("rtbx-cut", late, 2), ("rtbx-cut 0", late, 2), ("rtbx-cut x", late, 2), (f"rtbx-cut {at}", late, 1), (f"rtbx-cut {at + 1}", broken, 1),
+        ("rtbx-restore", late, 2), (f"rtbx-restore {HOME}/nothing", late, 4), (f"rtbx-restore {JOURNAL}", late, 4),
+        ("rtbx-restore /etc/passwd", late, 6), ("rtbx-compact --journal /nothing/journal", late, 4), ("rtbx-compact", broken, 6),
+    ]:
+        prepare(machine, Script(words, "", before, before))
+        code, said = run_script(machine, Script(words, "", before, before), "none")
+        CHECKS.same(f"{words}: {said}", code, wanted)
+        CHECKS.same(f"{words}: the journal", {it.name: it.read_bytes() for it in machine.path(HOME).iterdir()}, {"journal": before})
+    prepare(machine, Script("", "", late, late))
+    machine.run("systemctl stop rtbx")
+    CHECKS.same("a stopped service", (machine.run("rtbx-compact")[0], machine.run("systemctl is-active rtbx")[1]), (0, "inactive\n"))
+
+
+def try_written_meanwhile(machine, program, temporary):
+    """Somebody who starts the server by hand between the compaction and the change of names loses no sale."""
+    late = made_journals(program, temporary)[1]
+    prepare(machine, Script("", "", late, late))
+    machine.run("mkdir -p /run/hands; printf '#!/bin/sh\\n/usr/bin/rtbx \"$@\" || exit\\n[ \"$1\" = compact ] && printf x >> /var/lib/rtbx/journal\\nexit 0\\n' > /run/hands/rtbx; chmod 755 /run/hands/rtbx")
+    code, said = machine.run("PATH=/run/hands:$PATH rtbx-compact")
+    CHECKS.same(f"a journal that was written meanwhile: {said}", code, 4)
+    CHECKS.same("a journal that was written meanwhile stays", machine.path(JOURNAL).read_bytes(), late + b"x")
+    prepare(machine, Script("", "", late, late))
+    machine.run(f"systemctl stop rtbx; setsid flock {JOURNAL} sleep 600 > /dev/null 2>&1 & sleep 0.5")
+    CHECKS.same("a journal that another process has open", machine.run("rtbx-compact")[0], 4)
+    CHECKS.same("nothing of it stays", sorted(it.name for it in machine.path(HOME).iterdir()), ["journal"])
+    machine.run("kill $(pidof sleep)")
+
+
+def try_by_hand(machine, program, temporary, document):
+    """The steps that the document tells for a journal without the service, as they stand and with each failing in turn."""
+    block = next(it for it in re.findall(r"```sh\n(.*?)```", document.read_text(), re.DOTALL) if it.startswith("rtbx compact --journal"))
+    late = made_journals(program, temporary)[1]
+    for n in range(6):
+        prepare(machine, Script("", "", late, late))
+        machine.run("systemctl stop rtbx")
+        machine.path("/srv/steps").write_text(block)
+        code, said = run_script(machine, Script("runuser -u rtbx -- /bin/sh /srv/steps", "", late, late), f"refuses {n}")
+        found = machine.path(JOURNAL).read_bytes()
+        CHECKS.same(f"by hand, step {n} fails: {said}", code, 77 if n else 0)
+        CHECKS.holds(f"by hand, step {n} fails: the journal is whole", found == late if 0 < n < 5 else found[1:8] == b"RTBXJ02")
+        CHECKS.holds(f"by hand, step {n} fails: the journal of before is there", late in [it.read_bytes() for it in machine.path(HOME).iterdir()])
+
+
+def try_removal(machine):
+    machine.run("systemctl start rtbx")
+    before = machine.path(JOURNAL).read_bytes()
+    for step, line in [("removed", "dpkg -r rtbx"), ("purged", "dpkg -P rtbx")]:
+        code, said = machine.run(line)
+        CHECKS.same(f"{step}: {said}", code, 0)
+        CHECKS.same(f"{step}: the journal stays", machine.path(JOURNAL).read_bytes(), before)
+        CHECKS.holds(f"{step}: the service has ended", machine.run("systemctl is-active rtbx")[1].strip() in ["inactive", "unknown", "failed"])
+    CHECKS.same("purged: nothing else stays", machine.run("ls -d /etc/default/rtbx /usr/lib/rtbx /var/lib/rtbx-start 2>/dev/null")[1], "")
