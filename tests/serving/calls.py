@@ -11,10 +11,19 @@ from serving.checks import CHECKS, LIMIT
 from serving.messages import A, SELL, get, new, post, report, settled, won_by_a
 from serving.program import running
 
-NAMES = {"recvfrom": "read", "sendto": "write", "read": "read", "write": "write", "pwrite64": "keep", "fdatasync": "sync"}
+NAMES = {
+    "recvfrom": "read",
+    "sendto": "write",
+    "read": "read",
+    "write": "write",
+    "statx": "look",
+    "writev": "keep",
+    "pwrite64": "keep",
+    "fdatasync": "sync",
+}
 ANSWERED = ["read", "write"]
-# The length, the payload and a closed gate; then the gate that opens them.
-KEPT = ["read", "keep", "keep", "keep", "sync", "keep", "sync", "write"]
+# A look at the file; the length, the payload and a closed gate in one; then the gate that opens them.
+KEPT = ["read", "look", "keep", "sync", "keep", "sync", "write"]
 
 
 def steps():

@@ -179,7 +179,8 @@ def try_full(program, folder, source, state):
         limited = lambda: resource.setrlimit(resource.RLIMIT_FSIZE, (size, resource.RLIM_INFINITY))
         # A file that may not grow is a failed write, and no signal.
         came = ended(compact_words(program, source, target), preexec_fn=limited, restore_signals=False)
-        CHECKS.same(f"room for {size} bytes", came, (13, b"rtbx: write failed\n", b""))
+        told_why = f"rtbx: {target}: File too large (os error 27)\n".encode()
+        CHECKS.same(f"room for {size} bytes", came, (13, b"rtbx: write failed\n", told_why))
         CHECKS.holds("the old journal", source.read_bytes() == before)
     CHECKS.same("with room", ended(compact_words(program, source, target)), told(state))
     look_at("with room", target.read_bytes(), state)

@@ -18,9 +18,9 @@ def first_line(workers):
 class Running:
     """A server that runs, at an address of loopback."""
 
-    def __init__(self, program, journal, port=None, ttl=300000, workers=1, patience=60000, env=None):
+    def __init__(self, program, journal, port=None, ttl=300000, workers=1, patience=60000, env=None, public=PUBLIC, under=(), more=()):
         self.port = port or free_port()
-        self.command = serve_words(program, journal, self.port, ttl, workers, patience)
+        self.command = [*under, *serve_words(program, journal, self.port, ttl, workers, patience, public), *more]
         given = {"stdin": subprocess.DEVNULL, "stdout": subprocess.PIPE, "stderr": subprocess.PIPE}
         self.process = subprocess.Popen(self.command, restore_signals=False, env=env and {**os.environ, **env}, **given)
         line = read_line(self.process.stdout)
@@ -50,8 +50,8 @@ def running(*args, **more):
         server.kill()
 
 
-def serve_words(program, journal, port, ttl=300000, workers=1, patience=60000):
-    words = [program, "serve", "--listen", f"127.0.0.1:{port}", "--journal", journal, "--public", PUBLIC]
+def serve_words(program, journal, port, ttl=300000, workers=1, patience=60000, public=PUBLIC):
+    words = [program, "serve", "--listen", f"127.0.0.1:{port}", "--journal", journal, "--public", public]
     return [*words, "--workers", str(workers), "--ttl", str(ttl), "--patience", str(patience)]
 
 

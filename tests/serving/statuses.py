@@ -14,13 +14,18 @@ from serving.journals import HEAD
 
 def try_usage(program, folder):
     """Words of no command, and those that ask for help."""
-    full = ["--listen", "127.0.0.1:1", "--journal", folder / "j", "--public", "u"]
+    full = ["--listen", "127.0.0.1:1", "--journal", folder / "j", "--public", "http://x.example"]
     wrong = [
         [],
         ["x"],
         ["serve"],
         ["serve", *full[:-2]],
         ["serve", *full, "more"],
+        ["serve", *full, "--existing", "--existing"],
+        ["serve", *full, "--existing=1"],
+        ["serve", *full[:-1], "x.example"],
+        ["serve", *full[:-1], "http:///rtb"],
+        ["serve", *full[:-1], "ftp://x.example"],
         ["serve", *full, "--ttl", "x"],
         ["serve", *full, "--ttl", "-1"],
         ["serve", *full, "--ttl", "0"],
@@ -56,7 +61,7 @@ def try_usage(program, folder):
     for words in [["--help"], ["--version"], ["serve", "--help"], ["recover", "--help"], ["try", "--help"], ["serve", "--version"]]:
         status, out, errors = ended([program, *words])
         CHECKS.same(f"rtbx {' '.join(words)}", (status, out.startswith(b"rtbx") or b"Usage" in out, errors), (0, True, b""))
-    named = {"serve": [b"--listen", b"--journal", b"--public", b"--workers", b"--ttl", b"--patience"], "recover": [b"--journal"], "try": [b"BID@DOMAIN"]}
+    named = {"serve": [b"--listen", b"--journal", b"--existing", b"--public", b"--workers", b"--ttl", b"--patience"], "recover": [b"--journal"], "try": [b"BID@DOMAIN"]}
     for command, options in named.items():
         out = ended([program, command, "--help"])[1]
         CHECKS.same(f"rtbx {command} --help names its options", [it for it in options if it not in out], [])
@@ -70,7 +75,7 @@ def try_statuses(program, folder):
         taken.listen()
         came = ended(serve_words(program, journal, taken.getsockname()[1]))
     CHECKS.same("an address that is taken", came[:2], (3, b"rtbx: cannot listen\n"))
-    came = ended([program, "serve", "--listen", "nowhere", "--journal", journal, "--public", "u"])
+    came = ended([program, "serve", "--listen", "nowhere", "--journal", journal, "--public", "http://x.example"])
     CHECKS.same("no address", came[:2], (3, b"rtbx: cannot listen\n"))
     CHECKS.same("the journal was made before", journal.read_bytes(), HEAD + b"\x00")
     for place in [folder, folder / "none" / "journal"]:
