@@ -9,7 +9,7 @@ use Rattle.std.proofs.lemmas.Slice.Eq.{bytes_eq-Decides}
 use Rattle.std.proofs.lemmas.List.{take_more}
 use Rattle.std.proofs.lemmas.List.Concat.{flat_map-append}
 use Rattle.std.proofs.lemmas.List.Sums.{sum_by-append, sum_by-cons}
-use Rattle.std.proofs.lemmas.Option.{get_or_from_slice_get, slice_get-map, slice_get_within}
+use Rattle.std.proofs.lemmas.Option.{slice_get-map}
 use Rattle.auction_core.specs.Auctions.{beside, awards_cost, offering, reached, times}
 use Rattle.auction_core.specs.Draft.{found_for, is_reached}
 use Rattle.budget_book.specs.declared.sales.Gone.{Gone}
@@ -122,14 +122,14 @@ kept_each : {A : Type 0} (P : A → Type 0) (b : Bool) (x : A) (xs : List A) →
 kept_each P true x xs p h = (p, h)
 kept_each P false x xs p h = h
 
-each_filter : {A : Type 0} (P : A → Type 0) (test : A → Bool) (xs : List A) → Each P xs → Each P (filter test xs)
+pub each_filter : {A : Type 0} (P : A → Type 0) (test : A → Bool) (xs : List A) → Each P xs → Each P (filter test xs)
 each_filter P test [] h = tt
 each_filter P test (x ∷ xs) h = kept_each P (test x) x (filter test xs) h.0 (each_filter P test xs h.1)
 
-abbrev IsThere : State → ℕ × Campaign → Type 0
+abbrev pub IsThere : State → ℕ × Campaign → Type 0
 IsThere s p = campaign_at s p.0 ≡ Some p.1
 
-all_there : (s : State) (r : BidRequest) (imp : Imp) → Each (IsThere s) (reached s r imp)
+pub all_there : (s : State) (r : BidRequest) (imp : Imp) → Each (IsThere s) (reached s r imp)
 all_there s r imp = each_filter (IsThere s) (is_reached r imp) (enumerate_from 1 s.campaigns) (each_numbered (IsThere s) 1 s.campaigns (λ i c e. found_at s i c e))
 
 number_of : (o : Option (ℕ × Campaign)) (n : ℕ) → option_map (λ (p : ℕ × Campaign). p.0) o ≡ Some n → (c : Campaign) × (o ≡ Some (n, c))
@@ -141,12 +141,11 @@ found_there s r imp i n e =
     let (c, at) = number_of (slice_get (reached s r imp) i) n (sym (slice_get-map (λ (p : ℕ × Campaign). p.0) (reached s r imp) i) ∙ e) in
     (c, at, each_at (IsThere s) (reached s r imp) i (n, c) (all_there s r imp) at)
 
-pub offers_further : (t : State) (r : BidRequest) (imp : Imp) (m : ℕ) (found : List (ℕ × Campaign)) (i : ℕ) (p : ℕ × Campaign) → slice_get found i ≡ Some p
-    → flat_map (offering t r imp m) (take (i + 1) found) ≡ flat_map (offering t r imp m) (take i found) ++ offering t r imp m p
-offers_further t r imp m found i p at =
-    ap (flat_map (offering t r imp m)) (take_more found i p (slice_get_within found i p at))
-    ∙ flat_map-append (offering t r imp m) (take i found) (get_or found i p ∷ [])
-    ∙ ap (λ l. flat_map (offering t r imp m) (take i found) ++ l) (append-nil (offering t r imp m (get_or found i p)) ∙ ap (offering t r imp m) (get_or_from_slice_get found i p p at))
+pub flat_further : {A B : Type 0} (f : A → List B) (xs : List A) (k : ℕ) (d : A) → k < length xs → flat_map f (take (k + 1) xs) ≡ flat_map f (take k xs) ++ f (get_or xs k d)
+flat_further f xs k d inside =
+    ap (flat_map f) (take_more xs k d inside)
+    ∙ flat_map-append f (take k xs) (get_or xs k d ∷ [])
+    ∙ ap (λ l. flat_map f (take k xs) ++ l) (append-nil (f (get_or xs k d)))
 
 -- ---- places
 

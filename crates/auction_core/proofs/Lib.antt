@@ -2,13 +2,16 @@ pub mod Affording
 pub mod Auctioning
 pub mod Below
 pub mod Editing
+pub mod Falling
 pub mod Fitting
 pub mod Keeping
 pub mod Leading
-pub mod Ordering
+pub mod Passing
 pub mod Payable
 pub mod Planning
 pub mod Preparing
 pub mod Scanning
 pub mod Selling
+pub mod Sharing
 pub mod Stating
+pub mod Touching

@@ -1,6 +1,7 @@
--- Only private clauses cite this file. What is free beside awards of the same request, and what is offered.
-use Rattle.std.specs.Prelude.{ℕ, ◌+◌, ◌==◌, nat_lt, if◌then◌else◌, List, filter, length, map, sum_by, count_by}
+-- What is free beside awards of the same request, and what is offered.
+use Rattle.std.specs.Prelude.{ℕ, ◌+◌, ◌==◌, ◌&&◌, nat_le, nat_lt, if◌then◌else◌, Bool, List, [], filter, length, map, sum_by, count_by}
 use Rattle.std.specs.List.{enumerate_from}
+use Rattle.std.specs.Option.{option_map_or}
 use Rattle.auction_core.specs.Draft.{is_reached}
 use Rattle.auction_core.specs.Outcomes.{does, told_alone}
 use Rattle.auction_core.specs.declared.outcome.Outcome.{Outcome}
@@ -11,7 +12,7 @@ use Rattle.plain_exchange.specs.declared.changes.SoldItem.{SoldItem}
 use Rattle.deal_rules.specs.Terms.{user_of}
 use Rattle.plain_exchange.specs.declared.commands.Reply.TheVariants as reply
 use Rattle.plain_exchange.specs.Auction.{Award, opportunity, sales_of}
-use Rattle.plain_exchange.specs.State.{Campaign, State, most_sales, swept, with_sales}
+use Rattle.plain_exchange.specs.State.{Campaign, State, campaign_at, most_sales, swept, with_sales}
 use Rattle.plain_exchange.specs.Step.{all_sold_as, item_of, sold_change}
 use Rattle.rtb_types.specs.declared.request.BidRequest.{BidRequest}
 use Rattle.rtb_types.specs.declared.request.Imp.{Imp}
@@ -35,6 +36,14 @@ reached s r imp = filter (is_reached r imp) (enumerate_from 1 s.campaigns)
 -- the offers of one of them
 abbrev pub offering : State → BidRequest → Imp → ℕ → ℕ × Campaign → List Offer
 offering s r imp moment p = offers_of p.0 (opportunity s r imp moment p.0 p.1)
+
+-- its offers by its number
+abbrev pub offers_at : State → BidRequest → Imp → ℕ → ℕ → List Offer
+offers_at s r imp moment n = option_map_or (λ (c : Campaign). offering s r imp moment (n, c)) (campaign_at s n) []
+
+-- it is the number of a campaign
+abbrev pub is_number_in : State → ℕ → Bool
+is_number_in s n = nat_le 1 n && nat_le n (length s.campaigns)
 
 -- an award as an item of an effect
 abbrev pub item_due : ℕ → Award → SoldItem

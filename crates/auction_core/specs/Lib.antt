@@ -2,8 +2,10 @@ pub mod Applying
 pub mod Auctions
 pub mod Core
 pub mod Draft
+pub mod Found
 pub mod Frames
 pub mod Outcomes
+pub mod Placed
 pub mod Putting
 pub mod Payers
 pub mod Scan

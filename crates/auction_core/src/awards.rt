@@ -2,14 +2,12 @@
 ghost use Rattle.std.specs.Prelude.{◌≡◌, ◌≤◌, ◌<◌, ◌-◌, ◌+◌, ◌^◌, ◌==◌, ◌++◌, ◌&&◌, if◌then◌else◌, IfOk, IfSome, IsTrue, OnOk, Option, Some, fold, length, map, nat_lt, option_map, slice_get, take};
 ghost use Rattle.std.specs.List.{flat_map, list_all};
 ghost use Rattle.std.specs.Option.{option_map_or, option_to_list};
-ghost use Rattle.auction_core.specs.Auctions.{beside, awards_cost, offering, reached, times};
+ghost use Rattle.auction_core.specs.Auctions.{beside, awards_cost, is_number_in, offers_at, times};
 ghost use Rattle.auction_core.specs.Draft.{found_for};
 ghost use Rattle.budget_book.specs.Sales.{shown_of};
 ghost use Rattle.campaign.specs.Caps.{CapTerms};
-ghost use Rattle.clearing.specs.Clearing.{is_fit};
-ghost use Rattle.deal_rules.specs.Offers.{offers_of};
-ghost use Rattle.deal_rules.specs.Terms.{terms_of, user_of};
-ghost use Rattle.plain_exchange.specs.Auction.{awards_of, opportunity, shown_to, win};
+ghost use Rattle.deal_rules.specs.Terms.{user_of};
+ghost use Rattle.plain_exchange.specs.Auction.{awards_of, shown_to, win};
 ghost use Rattle.plain_exchange.specs.State.{Campaign, campaign_at, free, swept};
 ghost use Rattle.rtb_types.specs.declared.request.Imp.{Imp as Impression};
 
@@ -17,13 +15,13 @@ use crate::exchange::Core;
 use crate::prepare_records::nanos;
 use campaign::{Cap, Facts};
 use clearing::{Offer, Win, clear};
-use deal_rules::{offers, terms, user_of};
+use deal_rules::{Asked, push_candidates, user_of};
 use rtb_num::{List, Nanos};
 use rtb_types::{BidRequest, Imp};
 use std::alloc::{AllocError, Global};
 
 impl Core {
-    // Who wins each impression, where somebody does.
+    // Who wins each impression, where somebody does, of the campaigns of these numbers.
     pub(crate) fn awards(
         &self,
         alloc: Global,
@@ -36,9 +34,28 @@ impl Core {
         ensures value { IfOk result (λ awards. awards.items ≡ awards_of self.now.ttl moment request.now (swept moment self.now.state)) }
         ensures few { IfOk result (λ awards. length awards.items ≤ 64) }
     {
+        let asked = Asked::new(alloc, request)?;
+        let awards = self.awards_asked(alloc, &asked, moment, found);
+        drop(asked);
+        awards
+    }
+
+    // The same of a request whose lists are in order.
+    fn awards_asked(
+        &self,
+        alloc: Global,
+        asked: &Asked<'_>,
+        moment: u64,
+        found: &[List<u32>],
+    ) -> Result<Vec<(u32, Win)>, AllocError>
+        requires few { length asked.now.imps ≤ 64 }
+        requires found { found.now ≡ map (found_for self.now.state asked.now) asked.now.imps }
+        ensures value { IfOk result (λ awards. awards.items ≡ awards_of self.now.ttl moment asked.now (swept moment self.now.state)) }
+        ensures few { IfOk result (λ awards. length awards.items ≤ 64) }
+    {
         let mut awards = Vec::new(alloc);
-        for imp in 0..request.imps.len() {
-            let win = self.win(alloc, request, imp, moment, &found[imp], awards.as_slice())?;
+        for imp in 0..asked.imps().len() {
+            let win = self.win(alloc, asked, imp, moment, &found[imp], awards.as_slice())?;
             push_award(&mut awards, imp as u32, win)?;
         }
         Ok(awards)
@@ -48,69 +65,66 @@ impl Core {
     fn win(
         &self,
         alloc: Global,
-        request: &BidRequest,
+        asked: &Asked<'_>,
         imp: usize,
         moment: u64,
         found: &List<u32>,
         awards: &[(u32, Win)],
     ) -> Result<Option<Win>, AllocError>
-        requires imp { imp < length request.now.imps }
+        requires imp { imp < length asked.now.imps }
         requires few { length awards.now ≤ 64 }
-        requires found { (i : Impression) → slice_get request.now.imps imp ≡ Some i → found.now ≡ found_for self.now.state request.now i }
-        ensures { (i : Impression) → slice_get request.now.imps imp ≡ Some i → IfOk result (λ w. w ≡ win (beside self.now.ttl moment request.now self.now.state awards.now) request.now i moment) }
+        requires found { (i : Impression) → slice_get asked.now.imps imp ≡ Some i → found.now ≡ found_for self.now.state asked.now i }
+        ensures { (i : Impression) → slice_get asked.now.imps imp ≡ Some i → IfOk result (λ w. w ≡ win (beside self.now.ttl moment asked.now self.now.state awards.now) asked.now i moment) }
     {
-        let offers = self.offers(alloc, request, imp, moment, found.as_slice(), awards)?;
-        let terms = terms(alloc, request, imp)?;
-        Ok(clear(offers.as_slice(), terms.as_slice()))
+        let offers = self.offers(alloc, asked, imp, moment, found.as_slice(), awards)?;
+        Ok(clear(offers.as_slice(), asked.terms_at(imp)))
     }
 
-    // The offers of the campaigns that were found, in their order.
-    fn offers(
+    // The offers of the campaigns of these numbers beside the awards, in their order.
+    pub(crate) fn offers(
         &self,
         alloc: Global,
-        request: &BidRequest,
+        asked: &Asked<'_>,
         imp: usize,
         moment: u64,
-        found: &[u32],
+        numbers: &[u32],
         awards: &[(u32, Win)],
     ) -> Result<Vec<Offer>, AllocError>
-        requires imp { imp < length request.now.imps }
+        requires imp { imp < length asked.now.imps }
         requires few { length awards.now ≤ 64 }
-        requires found { (i : Impression) → slice_get request.now.imps imp ≡ Some i → found.now ≡ found_for self.now.state request.now i }
-        ensures value { (i : Impression) → slice_get request.now.imps imp ≡ Some i → IfOk result (λ os. os.items ≡ flat_map (offering (beside self.now.ttl moment request.now self.now.state awards.now) request.now i moment) (reached self.now.state request.now i)) }
-        ensures fit { (i : Impression) → slice_get request.now.imps imp ≡ Some i → IfOk result (λ os. IsTrue (list_all (is_fit (terms_of request.now i)) os.items)) }
+        requires there { IsTrue (list_all (is_number_in self.now.state) numbers.now) }
+        ensures { (i : Impression) → slice_get asked.now.imps imp ≡ Some i → IfOk result (λ os. os.items ≡ flat_map (offers_at (beside self.now.ttl moment asked.now self.now.state awards.now) asked.now i moment) numbers.now) }
     {
         let mut all = Vec::new(alloc);
-        for number in found {
-            let more = self.offers_by(alloc, request, imp, moment, *number, awards)?;
-            push_offers(&mut all, more.as_slice())?;
+        for number in numbers {
+            self.push_offers(&mut all, asked, imp, moment, *number, awards)?;
         }
         Ok(all)
     }
 
-    // The offers of campaign `n`, which is live and whose expression is true.
-    fn offers_by(
+    // Appends the offers of campaign `n`.
+    fn push_offers(
         &self,
-        alloc: Global,
-        request: &BidRequest,
+        all: &mut Vec<Offer>,
+        asked: &Asked<'_>,
         imp: usize,
         moment: u64,
         n: u32,
         awards: &[(u32, Win)],
-    ) -> Result<List<Offer>, AllocError>
-        requires imp { imp < length request.now.imps }
+    ) -> Result<(), AllocError>
+        requires imp { imp < length asked.now.imps }
         requires few { length awards.now ≤ 64 }
         requires there { (1 ≤ n) × (n ≤ length self.now.state.campaigns) }
-        ensures value { (i : Impression) (c : Campaign) → slice_get request.now.imps imp ≡ Some i → campaign_at self.now.state n ≡ Some c → IfOk result (λ os. os ≡ offers_of n (opportunity (beside self.now.ttl moment request.now self.now.state awards.now) request.now i moment n c)) }
-        ensures fit { (i : Impression) → slice_get request.now.imps imp ≡ Some i → IfOk result (λ os. IsTrue (list_all (is_fit (terms_of request.now i)) os)) }
+        ensures { (i : Impression) → slice_get asked.now.imps imp ≡ Some i → OnOk result (all.new.items ≡ all.old.items ++ offers_at (beside self.now.ttl moment asked.now self.now.state awards.now) asked.now i moment n) }
     {
         let facts = &self.entry(n).record().facts;
-        if bids_below(&request.imps.as_slice()[imp], facts) {
-            return Ok(List::new(alloc));
+        if bids_below(&asked.imps()[imp], facts) {
+            return Ok(());
         }
-        let free = self.free_beside(n, moment, awards);
-        let shown = self.count_shown_beside(n, facts.cap(), request, moment, awards);
-        offers(alloc, request, imp, n, facts, free, shown)
+        if !self.may_pay_bid(asked.request(), moment, n, facts.bid(), awards) {
+            return Ok(());
+        }
+        push_candidates(all, asked, imp, n, facts)
     }
 
     // What is left of the budget of campaign `n` beside the awards.
@@ -207,21 +221,15 @@ fn times(n: u32, awards: &[(u32, Win)]) -> u64
 }
 
 // Appends the award of the impression, where there is one.
-fn push_award(awards: &mut Vec<(u32, Win)>, imp: u32, win: Option<Win>) -> Result<(), AllocError>
+pub(crate) fn push_award(
+    awards: &mut Vec<(u32, Win)>,
+    imp: u32,
+    win: Option<Win>,
+) -> Result<(), AllocError>
     ensures { OnOk result (awards.new.items ≡ awards.old.items ++ option_to_list (option_map (λ w. (imp, w)) win)) }
 {
     if let Some(win) = win {
         awards.push((imp, win))?;
-    }
-    Ok(())
-}
-
-// Appends the offers.
-fn push_offers(all: &mut Vec<Offer>, more: &[Offer]) -> Result<(), AllocError>
-    ensures { OnOk result (all.new.items ≡ all.old.items ++ more.now) }
-{
-    for offer in more {
-        all.push(*offer)?;
     }
     Ok(())
 }

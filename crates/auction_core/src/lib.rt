@@ -8,6 +8,7 @@
 mod apply;
 mod apply_kept;
 mod awards;
+mod candidates;
 mod commit;
 mod draft;
 mod edits;
@@ -21,6 +22,7 @@ mod payers;
 mod prepare;
 mod prepare_auctions;
 mod prepare_campaigns;
+mod prepare_found;
 mod prepare_records;
 mod prepare_sales;
 mod put;
@@ -28,6 +30,7 @@ mod ready;
 mod scan;
 mod sell;
 
+pub use candidates::Candidates;
 pub use draft::Draft;
 pub use exchange::Core;
 pub use fault::ApplyFault;

@@ -57,7 +57,7 @@ impl Core {
     }
 
     // What comes of the awards.
-    fn award_outcome(
+    pub(crate) fn award_outcome(
         &self,
         alloc: Global,
         request: &BidRequest,

@@ -3,4 +3,5 @@ pub mod Encoding
 pub mod Faults
 pub mod Groups
 pub mod Kept
+pub mod Marks
 pub mod Paths

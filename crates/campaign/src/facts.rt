@@ -3,9 +3,11 @@ ghost use Rattle.std.specs.Prelude.{◌≡◌, ◌%◌, ◌<◌, ◌≤◌};
 ghost use Rattle.std.specs.Option.{option_copied};
 ghost use Rattle.campaign.specs.Faults.{ok_unless, fact_faults};
 ghost use Rattle.campaign.specs.Kept.{IsKept, size_of, with_cap};
+ghost use Rattle.campaign.specs.Marks.{marks_of};
 
 use crate::cap::Cap;
 use crate::check::first_fault;
+use crate::marks::{Marks, marks_of};
 use crate::parts::{FactFault, FactParts, size_of};
 use rtb_num::{List, Micros, Nanos, Txt};
 use std::marker::Model;
@@ -16,17 +18,19 @@ use std::marker::Model;
 #[derive(Drop)]
 pub struct Facts {
     parts: FactParts,
+    // By these most lists of a request are known not to have its texts.
+    marks: Marks,
 }
 
 impl Model for Facts {
     ghost use Rattle.campaign.specs.declared.parts.FactParts.{FactParts};
-    ghost use Rattle.campaign.specs.Kept.{IsKept};
+    ghost use Rattle.campaign.specs.Marks.{AreMarked};
 
     ghost Value = { FactParts };
 
     ghost view = { λ f. f.parts };
 
-    ghost invariant = { λ f. IsKept f.parts };
+    ghost invariant = { λ f. AreMarked f.parts f.marks };
 }
 
 impl Facts {
@@ -42,7 +46,10 @@ impl Facts {
                 drop(parts);
                 Err(fault)
             }
-            None => Ok(Facts { parts }),
+            None => Ok(Facts {
+                marks: marks_of(&parts),
+                parts,
+            }),
         }
     }
 
@@ -51,7 +58,10 @@ impl Facts {
         requires { IsKept parts }
         ensures { result ≡ parts }
     {
-        Facts { parts }
+        Facts {
+            marks: marks_of(&parts),
+            parts,
+        }
     }
 
     // The parts.
@@ -60,6 +70,14 @@ impl Facts {
         ensures kept { IsKept result.now }
     {
         &self.parts
+    }
+
+    /// The marks of its advertiser, of its first three categories and of its first deal.
+    #[inline(always)]
+    pub fn marks(&self) -> Marks
+        ensures { result ≡ marks_of self.now }
+    {
+        self.marks
     }
 
     /// Who pays: 1 to 255 bytes.
@@ -159,8 +177,9 @@ impl Facts {
     pub fn with_cap(self, cap: Option<Cap>) -> Facts
         ensures { result ≡ with_cap cap self }
     {
+        let marks = self.marks;
         let mut parts = self.parts;
         parts.cap = cap;
-        Facts { parts }
+        Facts { parts, marks }
     }
 }

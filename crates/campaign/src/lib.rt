@@ -2,7 +2,8 @@
 //!
 //! `specs/Faults.antt` has the faults in the order of the fields, `specs/Kept.antt` what is known of all
 //! facts, `specs/Caps.antt` how often one user is shown a campaign, `specs/Encoding.antt` the bytes of
-//! facts, and `specs/Paths.antt` how the path of a field is written.
+//! facts, `specs/Marks.antt` the marks by which most texts are told apart, and `specs/Paths.antt` how the
+//! path of a field is written.
 #![tactic(auto)]
 
 mod cap;
@@ -14,6 +15,7 @@ mod facts;
 mod field;
 mod ints;
 mod laws;
+mod marks;
 mod parts;
 mod path;
 
@@ -22,6 +24,7 @@ pub use decode::FactBytes;
 pub use facts::Facts;
 pub use field::CampField;
 pub use laws::{encoded_facts_are_read_again, facts_tell_their_ends};
+pub use marks::{MARKS, Marks, mark_of};
 pub use parts::{FactFault, FactParts};
 
 /// The most entries of `cat`, `attr` and `deals`.

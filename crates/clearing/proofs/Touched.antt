@@ -12,20 +12,20 @@ use Rattle.clearing.proofs.Members.{outcome_same}
 
 -- ---- what is among a list
 
-among_next : {X : Type 0} (x y : X) (ys : List X) → Contains ys x → Contains (y ∷ ys) x
+pub among_next : {X : Type 0} (x y : X) (ys : List X) → Contains ys x → Contains (y ∷ ys) x
 among_next x y ys (k, within, is) = (suc k, omega (arith, within), is)
 
-among_first : {X : Type 0} (x y : X) (ys : List X) → y ≡ x → Contains (y ∷ ys) x
+pub among_first : {X : Type 0} (x y : X) (ys : List X) → y ≡ x → Contains (y ∷ ys) x
 among_first x y ys e = (0, omega arith, e)
 
-among_cases : {X : Type 0} (x y : X) (ys : List X) → Contains (y ∷ ys) x → (y ≡ x) ⊎ Contains ys x
+pub among_cases : {X : Type 0} (x y : X) (ys : List X) → Contains (y ∷ ys) x → (y ≡ x) ⊎ Contains ys x
 among_cases x y ys (zero, within, is) = inl is
 among_cases x y ys (suc k, within, is) = inr (k, omega (arith, within), is)
 
-among_none : {X : Type 0} (x : X) (P : Type 0) → Contains [] x → P
+pub among_none : {X : Type 0} (x : X) (P : Type 0) → Contains [] x → P
 among_none x P (k, within, is) = absurd (omega (arith, within))
 
-among_left : {X : Type 0} (x : X) (xs ys : List X) → Contains xs x → Contains (xs ++ ys) x
+pub among_left : {X : Type 0} (x : X) (xs ys : List X) → Contains xs x → Contains (xs ++ ys) x
 among_left x [] ys c = among_none x (Contains ys x) c
 among_left x (y ∷ xs) ys c =
     elim (among_cases x y xs c) [
@@ -33,11 +33,11 @@ among_left x (y ∷ xs) ys c =
       | inr r ↦ among_next x y (xs ++ ys) (among_left x xs ys r)
     ]
 
-among_right : {X : Type 0} (x : X) (xs ys : List X) → Contains ys x → Contains (xs ++ ys) x
+pub among_right : {X : Type 0} (x : X) (xs ys : List X) → Contains ys x → Contains (xs ++ ys) x
 among_right x [] ys c = c
 among_right x (y ∷ xs) ys c = among_next x y (xs ++ ys) (among_right x xs ys c)
 
-among_either : {X : Type 0} (x : X) (xs ys : List X) → Contains (xs ++ ys) x → Contains xs x ⊎ Contains ys x
+pub among_either : {X : Type 0} (x : X) (xs ys : List X) → Contains (xs ++ ys) x → Contains xs x ⊎ Contains ys x
 among_either x [] ys c = inr c
 among_either x (y ∷ xs) ys c =
     elim (among_cases x y (xs ++ ys) c) [
@@ -57,7 +57,7 @@ kept_next : {X : Type 0} (b : Bool) (x y : X) (ys : List X) → Contains ys x �
 kept_next true x y ys c = among_next x y ys c
 kept_next false x y ys c = c
 
-among_filter : {X : Type 0} (p : X → Bool) (x : X) (xs : List X) → p x ≡ true → Contains xs x → Contains (filter p xs) x
+pub among_filter : {X : Type 0} (p : X → Bool) (x : X) (xs : List X) → p x ≡ true → Contains xs x → Contains (filter p xs) x
 among_filter p x [] h c = among_none x (Contains [] x) c
 among_filter p x (y ∷ xs) h c =
     elim (among_cases x y xs c) [
@@ -65,11 +65,10 @@ among_filter p x (y ∷ xs) h c =
       | inr r ↦ kept_next (p y) x y (filter p xs) (among_filter p x xs h r)
     ]
 
-IsKept : {X : Type 0} → (X → Bool) → X → List X → Type 0
+abbrev pub IsKept : {X : Type 0} → (X → Bool) → X → List X → Type 0
 IsKept p x xs = (p x ≡ true) × Contains xs x
 
 from_kept : {X : Type 0} (p : X → Bool) (b : Bool) (x y : X) (xs ys : List X) → p y ≡ b → (Contains ys x → IsKept p x xs) → Contains (cond b (y ∷ ys) ys) x → IsKept p x (y ∷ xs)
-unfolding IsKept
 from_kept p true x y xs ys h rest c =
     elim (among_cases x y ys c) [
       | inl e ↦ (ap p (sym e) ∙ h, among_first x y xs e)
@@ -77,12 +76,12 @@ from_kept p true x y xs ys h rest c =
     ]
 from_kept p false x y xs ys h rest c = ((rest c).0, among_next x y xs (rest c).1)
 
-from_filter : {X : Type 0} (p : X → Bool) (x : X) (xs : List X) → Contains (filter p xs) x → IsKept p x xs
+pub from_filter : {X : Type 0} (p : X → Bool) (x : X) (xs : List X) → Contains (filter p xs) x → IsKept p x xs
 from_filter p x [] c = among_none x (IsKept p x []) c
 from_filter p x (y ∷ xs) c = from_kept p (p y) x y xs (filter p xs) refl (from_filter p x xs) c
 
 -- lists of each
-among_flat : {P X : Type 0} (f : P → List X) (p : P) (x : X) (ps : List P) → Contains ps p → Contains (f p) x → Contains (flat_map f ps) x
+pub among_flat : {P X : Type 0} (f : P → List X) (p : P) (x : X) (ps : List P) → Contains ps p → Contains (f p) x → Contains (flat_map f ps) x
 among_flat f p x [] c d = among_none p (Contains (flat_map f []) x) c
 among_flat f p x (q ∷ ps) c d =
     elim (among_cases p q ps c) [
@@ -90,7 +89,7 @@ among_flat f p x (q ∷ ps) c d =
       | inr r ↦ among_right x (f q) (flat_map f ps) (among_flat f p x ps r d)
     ]
 
-from_flat : {P X : Type 0} (f : P → List X) (x : X) (ps : List P) → Contains (flat_map f ps) x → (p : P) × Contains ps p × Contains (f p) x
+pub from_flat : {P X : Type 0} (f : P → List X) (x : X) (ps : List P) → Contains (flat_map f ps) x → (p : P) × Contains ps p × Contains (f p) x
 from_flat {P} f x [] c = among_none x ((p : P) × Contains [] p × Contains (f p) x) c
 from_flat f x (q ∷ ps) c =
     elim (among_either x (f q) (flat_map f ps) c) [
@@ -131,7 +130,6 @@ back_again : {P : Type 0} (touched pay : P → Bool) (cands : P → List Offer) 
     → ((o : Offer) → Contains cs o → Contains (flat_map cands before) o)
     → ((p : P) (o : Offer) → Contains before p → Contains (cands p) o → may o ≡ (not (touched p) && pay p))
     → (o : Offer) → Contains (filter may cs ++ flat_map (offers_where pay cands) (filter touched now)) o → Contains (flat_map (offers_where pay cands) now) o
-unfolding IsKept
 back_again touched pay cands may now before cs same listed asks o c =
     elim (among_either o (filter may cs) (flat_map (offers_where pay cands) (filter touched now)) c) [
       | inl l ↦

@@ -1,5 +1,5 @@
 -- Clearing of candidates that stand in order and of which some may pay, beside offers that all may.
-use Rattle.std.specs.Prelude.{ℕ, ◌+◌, ◌==◌, ◌&&◌, nat_le, not, min, max, List, [], ◌∷◌, Bool, true, false, Option, Some, suc, option_map, option_and_then, slice_get, if◌then◌else◌}
+use Rattle.std.specs.Prelude.{ℕ, ◌≤◌, IsTrue, length, take, ◌+◌, ◌==◌, ◌&&◌, nat_le, not, min, max, List, [], ◌∷◌, Bool, true, false, Option, Some, suc, option_map, option_and_then, slice_get, if◌then◌else◌}
 use Rattle.std.specs.List.{list_all}
 use Rattle.std.specs.Option.{option_map_or}
 use Rattle.clearing.specs.Clearing.{beats, greatest_bid, increment, rivals, winner}
@@ -31,6 +31,15 @@ is_beaten_by best o = option_map_or (λ b. beats b o) best false
 abbrev pub first_that_pays : (Offer → Bool) → Option Offer → List Offer → Option (Offer × List Offer)
 first_that_pays may best [] = option_map (λ b. (b, [])) best
 first_that_pays may best (o ∷ os) = if is_beaten_by best o then option_map (λ b. (b, o ∷ os)) best else (if may o then Some (o, os) else first_that_pays may best os)
+
+-- how many at the front are asked and may not pay
+abbrev pub refused_first : (Offer → Bool) → Option Offer → List Offer → ℕ
+refused_first may best [] = 0
+refused_first may best (o ∷ os) = if is_beaten_by best o then 0 else (if may o then 0 else suc (refused_first may best os))
+
+-- so many at the front may not pay
+abbrev pub IsRefused : (Offer → Bool) → List Offer → ℕ → Type 0
+IsRefused may os k = (k ≤ length os) × IsTrue (list_all (λ o. not (may o)) (take k os))
 
 -- its next bid, where one is known: that of the first of its rivals that may pay, where it is above
 abbrev pub next_that_pays : (Offer → Bool) → Offer → ℕ → List Offer → ℕ

@@ -4,15 +4,15 @@
 //! the terms of its pool.
 #![tactic(auto)]
 
-ghost use Rattle.std.specs.Prelude.{◌≡◌, ◌≤◌, ◌↔◌, ◌^◌, ◌+◌, ◌==◌, ◌&&◌, [], max, min, not, List, Some, IsNone, IsTrue, ◌++◌, filter, true, false, Bool, ℕ, Contains, slice_get};
+ghost use Rattle.std.specs.Prelude.{◌≡◌, ◌≤◌, ◌↔◌, ◌^◌, ◌+◌, ◌==◌, ◌&&◌, [], max, min, not, List, Some, IsNone, IsTrue, ◌++◌, filter, true, false, Bool, ℕ, Contains, drop, slice_get};
 ghost use Rattle.std.specs.List.{flat_map, list_all};
-ghost use Rattle.clearing.specs.Candidates.{is_in_order, offers_where, walked};
+ghost use Rattle.clearing.specs.Candidates.{IsRefused, asked, is_in_order, offers_where, walked};
 ghost use Rattle.clearing.specs.Clearing.{IsUnbeaten, beats, greatest_bid, increment, is_deal, is_fit, outcome, price_of, rivals, win_by, winner};
 
 mod walk;
 
 use rtb_num::Micros;
-pub use walk::{Payers, clear_in_order};
+pub use walk::{Cleared, Payers, clear_in_order, put_in_order};
 
 // How far the second price is above the next bid, in micro-dollars per thousand impressions.
 const INCREMENT: u64 = 10_000;
@@ -186,6 +186,11 @@ pub fn price_is_fair()
 /// wins, where none of the others beats it, and pays above the first of its rivals behind it that may pay.
 pub fn walk_clears()
     ensures { (may : Offer → Bool) (others : List Offer) (terms : List Terms) (os : List Offer) → is_in_order os ≡ true → outcome (filter may os ++ others) terms ≡ walked may others os terms }
+{}
+
+/// Candidates at the front that may not pay play no part in a sale without others, and need not be asked.
+pub fn fronts_are_passed()
+    ensures { (may : Offer → Bool) (os : List Offer) (k : ℕ) → IsRefused may os k → (filter may os ≡ filter may (drop k os)) × (asked may [] (drop k os) ≤ asked may [] os) }
 {}
 
 /// What clearing gives depends on which offers there are, and not on their order.

@@ -3,8 +3,8 @@ ghost use Rattle.std.specs.Prelude.{◌≡◌, ◌≤◌, ◌+◌, ◌++◌, ◌
 ghost use Rattle.std.specs.List.{list_all};
 ghost use Rattle.std.specs.List.Sorted.{IsPermutation};
 ghost use Rattle.std.specs.Ordering.{is_lt};
-ghost use Rattle.clearing.specs.Candidates.{asked, asked_for_first, asked_for_next, first_that_pays, is_beaten_by, is_in_order, next_that_pays, price_above, win_above};
-ghost use Rattle.clearing.specs.Clearing.{beats, greatest_bid, is_fit, outcome, rivals};
+ghost use Rattle.clearing.specs.Candidates.{asked, asked_for_first, asked_for_next, first_that_pays, is_beaten_by, is_in_order, next_that_pays, price_above, refused_first, win_above};
+ghost use Rattle.clearing.specs.Clearing.{beats, greatest_bid, is_fit, outcome, rivals, winner};
 ghost use Rattle.clearing.specs.declared.Terms.{Terms as ItsTerms};
 
 use crate::{Offer, PriceKind, Terms, Win, best, greatest_rival_bid, second_price};
@@ -29,6 +29,14 @@ pub trait Payers {
         ensures { result ≡ pays self.now candidate.now };
 }
 
+/// What clearing candidates in order gives.
+#[derive(Clone, Copy)]
+pub struct Cleared {
+    pub win: Option<Win>,
+    /// How many candidates, from the first on, were asked and may not pay.
+    pub refused: usize,
+}
+
 /// Sells one impression: as `clear`, of the candidates that may pay and of the others, which all may.
 ///
 /// The candidates stand in the order in which one beats the other. One step is one of them that is asked; none is asked
@@ -39,32 +47,39 @@ pub fn clear_in_order<P: Payers, L: Ledger>(
     terms: &[Terms],
     payers: &P,
     steps: &mut Steps<L>,
-) -> Option<Win>
+) -> Cleared
     requires order { IsTrue (is_in_order candidates.now) }
     requires known { IsTrue (list_all (P.knows payers.now) candidates.now) }
     requires fit { IsTrue (list_all (is_fit terms.now) candidates.now) }
     requires others { IsTrue (list_all (is_fit terms.now) others.now) }
-    ensures sale { result ≡ outcome (filter (P.pays payers.now) candidates.now ++ others.now) terms.now }
+    ensures sale { result.win ≡ outcome (filter (P.pays payers.now) candidates.now ++ others.now) terms.now }
+    ensures refused { result.refused ≡ refused_first (P.pays payers.now) (winner others.now) candidates.now }
     ensures cost { steps.new ≤ steps.old + asked (P.pays payers.now) others.now candidates.now }
 {
     let best = best(others);
-    match first_that_pays(candidates, best, payers, steps) {
-        Some((winner, behind)) => {
-            Some(sale_above(&winner, behind, others, terms, payers, steps))
-        }
-        None => None,
+    let mut refused = 0;
+    match first_that_pays(candidates, best, payers, &mut refused, steps) {
+        Some((winner, behind)) => Cleared {
+            win: Some(sale_above(&winner, behind, others, terms, payers, steps)),
+            refused,
+        },
+        None => Cleared { win: None, refused },
     }
 }
 
-// The first candidate that may pay, or the best of the others where it comes before, and the candidates behind.
+// The first candidate that may pay, or the best of the others where it comes before, and the candidates behind; and how
+// many may not.
 fn first_that_pays<'a, P: Payers, L: Ledger>(
     candidates: &'a [Offer],
     best: Option<Offer>,
     payers: &P,
+    refused: &mut usize,
     steps: &mut Steps<L>,
 ) -> Option<(Offer, &'a [Offer])>
     requires known { IsTrue (list_all (P.knows payers.now) candidates.now) }
+    requires none { refused.old ≡ 0 }
     ensures value { option_map (λ p. (p.0, p.1.now)) result ≡ first_that_pays (P.pays payers.now) best candidates.now }
+    ensures refused { refused.new ≡ refused_first (P.pays payers.now) best candidates.now }
     ensures cost { steps.new ≡ steps.old + asked_for_first (P.pays payers.now) best candidates.now }
 {
     let mut rest = candidates;
@@ -76,6 +91,7 @@ fn first_that_pays<'a, P: Payers, L: Ledger>(
         if payers.may_pay(candidate) {
             return Some((*candidate, more));
         }
+        *refused += 1;
         rest = more;
     }
     match best {
@@ -180,11 +196,14 @@ pub fn put_in_order(candidates: &mut [Offer])
 fn order_of(a: &Offer, b: &Offer) -> Ordering
     ensures { is_lt result ≡ beats a.now b.now }
 {
-    if a.beats(b) {
-        return Ordering::Less;
+    if a.is_deal() != b.is_deal() {
+        return b.is_deal().cmp(&a.is_deal());
     }
-    if b.beats(a) {
-        return Ordering::Greater;
+    if a.bid != b.bid {
+        return b.bid.cmp(&a.bid);
     }
-    Ordering::Equal
+    if a.campaign != b.campaign {
+        return a.campaign.cmp(&b.campaign);
+    }
+    a.pool.cmp(&b.pool)
 }

@@ -1,7 +1,9 @@
 pub mod Dealt
 pub mod Fitting
+pub mod Marking
 pub mod Naming
 pub mod Ordered
 pub mod Places
 pub mod Reasons
+pub mod Same
 pub mod Standing

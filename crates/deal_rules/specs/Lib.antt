@@ -1,3 +1,5 @@
+pub mod Alike
+pub mod Marks
 pub mod Named
 pub mod Offers
 pub mod Rules

@@ -1,5 +1,5 @@
 -- The offers of one campaign for an impression, and why there is none.
-use Rattle.std.specs.Prelude.{ℕ, ◌&&◌, nat_le, not, List, [], ◌∷◌, ◌++◌, Bool, false, Option, Some, None, find, option_map, if◌then◌else◌}
+use Rattle.std.specs.Prelude.{ℕ, ◌&&◌, nat_le, not, List, [], ◌∷◌, ◌++◌, Bool, false, Option, Some, None, find, option_map, if◌then◌else◌, map}
 use Rattle.std.specs.List.{list_any, filter_map, enumerate_from}
 use Rattle.std.specs.Option.{option_map_or}
 use Rattle.campaign.specs.declared.parts.FactParts.{FactParts}
@@ -37,6 +37,14 @@ deal_offer number f p = if is_open_to f p.1 then Some (offer_in number f p.0) el
 
 abbrev pub deal_offers : ℕ → FactParts → List Deal → List Offer
 deal_offers number f deals = filter_map (deal_offer number f) (enumerate_from 1 deals)
+
+-- the offer in the public pool, where there is one
+abbrev pub in_public : ℕ → FactParts → Bool → List Offer
+in_public number f public = if public then offer_in number f 0 ∷ [] else []
+
+-- the campaign has the id of one; else there is no offer for one
+abbrev pub has_deals : FactParts → Imp → Bool
+has_deals f imp = list_any (has_text (map (λ (d : Deal). d.id) imp.pmp.deals)) f.deals
 
 unfoldable pub offers_of : ℕ → Opportunity → List Offer
 offers_of number o = if is_excluded common_rules o then [] else public_offers number o ++ deal_offers number o.facts o.imp.pmp.deals

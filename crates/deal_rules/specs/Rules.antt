@@ -62,11 +62,29 @@ abbrev pub is_over : Option ℕ → CapTerms → Bool
 is_over None cap = true
 is_over (Some shown) cap = nat_le cap.count shown
 
+-- ---- the request
+
+-- it sells nothing, or not for US dollars
+abbrev pub is_closed : BidRequest → Bool
+is_closed r = r.test || not (allows r.cur (codes "USD"))
+
+-- it has no deal, and nobody may buy in its public pool
+abbrev pub is_without_pool : Imp → Bool
+is_without_pool imp = (length imp.pmp.deals == 0) && (imp.pmp.private_auction || not (is_usd imp.currency))
+
+-- or asks for no banner, or has no pool in which somebody may buy
+abbrev pub is_closed_for : BidRequest → Imp → Bool
+is_closed_for r imp = is_closed r || (is_none imp.banner || is_without_pool imp)
+
+-- no list of it is against the campaign
+abbrev pub takes : BidRequest → FactParts → Bool
+takes r f = allows r.wseat f.seat && (not (has_text r.bseat f.seat) && (not (list_any (has_text r.bcat) f.cat) && not (has_text r.badv f.adomain)))
+
 -- ---- the rules
 
 -- whether the rule excludes
 abbrev pub test_of : Rule → Opportunity → Bool
-test_of Request o = o.request.test || not (allows o.request.cur (codes "USD"))
+test_of Request o = is_closed o.request
 test_of NoBanner o = is_none o.imp.banner
 test_of Size o = option_map_or (λ p. not (takes_size (sizes_of o.imp) p)) (size_of o.facts) false
 test_of Attribute o = list_any (λ a. list_any (λ b. int_eq b a) (blocked_attributes_of o.imp)) o.facts.attr

@@ -3,4 +3,4 @@ use Rattle.deal_rules.specs.declared.opportunity.Opportunity.{Opportunity as Hel
 use Rattle.deal_rules.specs.Rules.{Opportunity, opportunity_of}
 
 abbrev pub opportunity_seen : Held → Opportunity
-opportunity_seen h = opportunity_of h.request.now h.imp.now h.facts.now h.free h.shown
+opportunity_seen h = opportunity_of h.asked.now h.imp.now h.facts.now h.free h.shown

@@ -5,15 +5,18 @@
 //! that excludes, and `specs/Terms.antt` the terms of the pools and the user of a request.
 #![tactic(auto)]
 
+mod alike;
 mod asked;
 mod lists;
 mod names;
+mod numbers;
 mod offering;
 mod opportunity;
 mod pools;
 mod rule;
+mod texts;
 
 pub use asked::Asked;
-pub use offering::{candidates, may_pay, offers, offers_stand, why_not};
-pub use pools::{terms, user_of};
+pub use offering::{may_pay, offers, offers_stand, push_candidates, why_not};
+pub use pools::user_of;
 pub use rule::Rule;

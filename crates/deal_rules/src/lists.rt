@@ -1,42 +1,20 @@
 //! What lists name and allow.
-ghost use Rattle.std.specs.Prelude.{◌≡◌, codes};
+ghost use Rattle.std.specs.Prelude.{◌≡◌, ◌||◌, codes, is_none};
 ghost use Rattle.std.specs.List.{list_any};
-ghost use Rattle.std.specs.Ordering.{int_eq};
-ghost use Rattle.deal_rules.specs.Rules.{allows, has_text, is_size, is_usd, takes_size};
+ghost use Rattle.deal_rules.specs.Rules.{allows, has_text, is_closed, is_size, is_usd, is_without_pool, takes_size};
 
 use rtb_num::Txt;
-use rtb_types::Size;
+use rtb_types::{BidRequest, Imp, Size};
 
-/// Whether the text is one of those, byte for byte.
-pub(crate) fn has_text(texts: &[Txt], text: &Txt) -> bool
-    ensures { result ≡ has_text texts.now text.now }
+/// Whether nothing is sold, or not for US dollars.
+pub(crate) fn is_closed(request: &BidRequest) -> bool
+    ensures { result ≡ is_closed request.now }
 {
-    texts.iter().any(|t| t == text)
+    request.test || !allows_usd(request.cur.as_slice())
 }
 
-/// Whether the text is one of those that are allowed; all are where the list is empty.
-pub(crate) fn allows(allowed: &[Txt], text: &Txt) -> bool
-    ensures { result ≡ allows allowed.now text.now }
-{
-    allowed.is_empty() || has_text(allowed, text)
-}
-
-/// Whether one of these texts is one of those.
-pub(crate) fn has_one_of(texts: &[Txt], some: &[Txt]) -> bool
-    ensures { result ≡ list_any (has_text texts.now) some.now }
-{
-    some.iter().any(|text| has_text(texts, text))
-}
-
-/// Whether it is the code of the US dollar (ISO 4217).
-pub(crate) fn is_usd(currency: &Txt) -> bool
-    ensures { result ≡ is_usd currency.now }
-{
-    currency.as_bytes() == b"USD".as_slice()
-}
-
-/// Whether bids may be in US dollars where these currencies are allowed.
-pub(crate) fn allows_usd(currencies: &[Txt]) -> bool
+// Whether bids may be in US dollars where these currencies are allowed.
+fn allows_usd(currencies: &[Txt]) -> bool
     ensures { result ≡ allows currencies.now (codes "USD") }
 {
     currencies.is_empty() || has_usd(currencies)
@@ -48,17 +26,32 @@ fn has_usd(currencies: &[Txt]) -> bool
     currencies.iter().any(|currency| is_usd(currency))
 }
 
-/// Whether one of these numbers is one of those.
-pub(crate) fn has_number_of(numbers: &[i32], some: &[i32]) -> bool
-    ensures { result ≡ list_any (λ a. list_any (λ b. int_eq b a) numbers.now) some.now }
+/// Whether the impression asks for no banner, or has no pool in which somebody may buy.
+pub(crate) fn sells_nothing(imp: &Imp) -> bool
+    ensures { result ≡ (is_none imp.now.banner || is_without_pool imp.now) }
 {
-    some.iter().any(|n| has_number(numbers, *n))
+    imp.banner.is_none() || is_without_pool(imp)
 }
 
-fn has_number(numbers: &[i32], n: i32) -> bool
-    ensures { result ≡ list_any (λ b. int_eq b n) numbers.now }
+// Whether the impression has no deal, and nobody may buy in its public pool.
+fn is_without_pool(imp: &Imp) -> bool
+    ensures { result ≡ is_without_pool imp.now }
 {
-    numbers.iter().any(|number| *number == n)
+    imp.pmp.deals.is_empty() && (imp.pmp.private_auction || !is_usd(&imp.currency))
+}
+
+/// Whether it is the code of the US dollar (ISO 4217).
+pub(crate) fn is_usd(currency: &Txt) -> bool
+    ensures { result ≡ is_usd currency.now }
+{
+    currency.as_bytes() == b"USD".as_slice()
+}
+
+/// Whether the text is one of those, byte for byte.
+pub(crate) fn has_text(texts: &[Txt], text: &Txt) -> bool
+    ensures { result ≡ has_text texts.now text.now }
+{
+    texts.iter().any(|t| t == text)
 }
 
 /// Whether a banner of these sizes takes a creative of this one.

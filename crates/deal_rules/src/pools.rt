@@ -1,8 +1,7 @@
 //! The terms by which the pools of an impression sell.
-ghost use Rattle.std.specs.Prelude.{◌≡◌, ◌<◌, ◌++◌, length, map, option_and_then, slice_get, IfOk, OnOk, Some};
+ghost use Rattle.std.specs.Prelude.{◌≡◌, ◌++◌, map, option_and_then, IfOk, OnOk};
 ghost use Rattle.std.specs.Option.{option_copied};
 ghost use Rattle.deal_rules.specs.Terms.{deal_terms, kind_of, known_id, terms_at, terms_of, user_of};
-ghost use Rattle.rtb_types.specs.declared.request.Imp.{Imp as Impression};
 
 use clearing::{PriceKind, Terms};
 use rtb_num::{List, Micros, Txt};
@@ -12,13 +11,15 @@ use std::alloc::{AllocError, Global};
 // The most bytes of a user's id.
 const LONGEST_ID: usize = 255;
 
-/// The terms by which the pools of the impression at the place, counted from 0, sell: those of the public pool,
-/// and then of each deal, as `clearing::clear` takes them.
-pub fn terms(alloc: Global, request: &BidRequest, imp: usize) -> Result<List<Terms>, AllocError>
-    requires { imp < length request.now.imps }
-    ensures { (i : Impression) → slice_get request.now.imps imp ≡ Some i → IfOk result (λ ts. ts ≡ terms_of request.now i) }
+/// The terms by which the pools of each impression sell.
+pub(crate) fn all_terms(alloc: Global, request: &BidRequest) -> Result<Vec<List<Terms>>, AllocError>
+    ensures { IfOk result (λ all. all.items ≡ map (terms_of request.now) request.now.imps) }
 {
-    terms_for(alloc, request, &request.imps.as_slice()[imp])
+    let mut all = Vec::with_capacity(alloc, request.imps.len())?;
+    for imp in request.imps.as_slice() {
+        all.push(terms_for(alloc, request, imp)?)?;
+    }
+    Ok(all)
 }
 
 /// The user whom the impressions are shown to: `user.id` (OpenRTB 2.5, section 3.2.20), where it has 1 to 255

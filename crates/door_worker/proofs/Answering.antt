@@ -6,19 +6,15 @@ use Rattle.auction_core.specs.Draft.{is_valid_command}
 use Rattle.command_read.specs.Memory.{UnlessMemory}
 use Rattle.command_read.specs.declared.fault.CommandFault.{CommandFault}
 use Rattle.command_read.specs.declared.fault.CommandFault.TheVariants as unread
-use Rattle.conj_index.specs.Campaigns.{Campaigns}
-use Rattle.conj_index.specs.Content.{IsIndexOf}
 use Rattle.door_worker.specs.Answers.{Answered, Answers, AreDurable, ArePublished, Goes, IsDurable, IsPublished, IsRight, LeadsTo, calls_of, is_answer, is_edit, is_store_failed, request_of, store_failed}
 use Rattle.door_worker.specs.Languages.{Language}
 use Rattle.door_worker.specs.Working.{AnswersOne, Concludes, Entered, IsGivenFor, IsGivenUnread, IsKnown, IsTold, Tells, call_at}
 use Rattle.door_worker.proofs.Going.{durable_now, durable_on, goes_called, goes_fails, goes_none, goes_on, goes_waits, published_on, worker_is}
-use Rattle.exchange_shared.specs.Seats.{Calls, Fails, MayBeSettled, Seat, Waits, effects_in}
+use Rattle.exchange_shared.specs.Seats.{Calls, Fails, Seat, Waits, effects_in}
 use Rattle.exchange_state.proofs.Owning.{count_append}
 use Rattle.exchange_state.specs.declared.state.Settled.{Settled}
-use Rattle.exchange_state.specs.Tickets.{IsVersionOf, matches}
-use Rattle.exchange_state.specs.Views.{calls, stable}
+use Rattle.exchange_state.specs.Views.{stable}
 use Rattle.http_wire.specs.declared.message.Message.{Message}
-use Rattle.index_versions.specs.declared.version.Version.{Version}
 use Rattle.plain_exchange.specs.declared.commands.Command.{Command}
 use Rattle.plain_exchange.specs.declared.commands.Command.TheVariants as command
 use Rattle.plain_exchange.specs.declared.commands.Reply.{Reply}
@@ -41,15 +37,10 @@ valid_as_read (command.Report n) h = refl
 valid_as_read (command.Bill n) h = refl
 valid_as_read (command.Lose n) h = refl
 
--- what was found in a version that the seat has seen may be settled
-pub may_settle : (s : Seat) (v : Version) (r : BidRequest) (c : Command) (found : List (List ℕ)) → IsVersionOf s.origin (calls s.seen) v → c ≡ command.Auction r
-    → ((added : Campaigns) → IsIndexOf added v.index → found ≡ matches added r) → MayBeSettled s v found c
-may_settle s v r c found version auction found_are = record { version = version; request = r; auction = auction; found_are = found_are _ version.content }
-
 -- ---- a command
 
 pub entered : {E : Type 0} (c : Command) (moment : ℕ) (s t : Seat) (r : Result Settled E) → IfOk r (Calls c moment s t) → IfOk r (Entered c moment s t)
-entered c moment s t (Ok x) k = record { goes = goes_called s t c moment x.reply k.gains; upto = k.upto }
+entered c moment s t (Ok x) k = record { goes = goes_called s t c moment x.reply k.gains; upto = k.upto; durable = k.durable }
 entered c moment s t (Err e) k = tt
 
 pub not_entered : {T E : Type 0} (s t : Seat) (r : Result T E) → OnErr r (Waits s t) → OnErr r (Goes [] 0 s t)
@@ -61,6 +52,7 @@ pub entered_at : (c : Command) (moment : ℕ) (s m t : Seat) (x : Settled) → G
 entered_at c moment s m t x g e = record {
   goes = goes_on [] (call_at s.worker c moment x.reply ∷ []) 0 0 s m t g (subst (λ (w : ℕ). Goes (call_at w c moment x.reply ∷ []) 0 m t) (worker_is [] 0 s m g) e.goes);
   upto = e.upto;
+  durable = e.durable;
 }
 
 pub entered_behind : {E : Type 0} (c : Command) (moment : ℕ) (s m t : Seat) (r : Result Settled E) → Goes [] 0 s m → IfOk r (Entered c moment m t) → IfOk r (Entered c moment s t)
@@ -112,13 +104,13 @@ store_failed_told language command reply s t f = record {
 }
 
 -- a command that has its call, and what is given for it
-pub answered : (language : Language) (moment : ℕ) (command : Command) (message : Message) (settled : Settled) (s m t : Seat) (gave : Given) → language.Asks message (Ok command) → Entered command moment s m settled
+pub answered : (language : Language) (moment : ℕ) (command : Command) (message : Message) (settled : Settled) (s m t : Seat) (gave : Given) → language.Asks message (Ok command) → Goes (call_at s.worker command moment settled.reply ∷ []) 0 s m
     → Concludes language command settled.reply m gave t → IsKnown s t → AnswersOne language moment s message gave t
 answered language moment command message settled s m t gave read e c known = record {
   call = Some (call_at s.worker command moment settled.reply);
   right = by_given gave c.given_is;
   goes = subst (λ (n : ℕ). Goes (call_at s.worker command moment settled.reply ∷ []) n s t) (none_failed (cond (is_store_failed gave) 1 0))
-      (goes_on (call_at s.worker command moment settled.reply ∷ []) [] 0 (cond (is_store_failed gave) 1 0) s m t e.goes c.goes);
+      (goes_on (call_at s.worker command moment settled.reply ∷ []) [] 0 (cond (is_store_failed gave) 1 0) s m t e c.goes);
   durable = c.durable;
   published = edited (is_answer gave) (is_edit command) c.published;
   known = known;

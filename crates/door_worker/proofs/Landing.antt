@@ -5,7 +5,7 @@ use Rattle.std.proofs.lemmas.List.Sums.{fold-append}
 use Rattle.auction_core.specs.Draft.{is_simple, is_valid_command}
 use Rattle.door_worker.specs.Answers.{Goes, LeadsTo, is_edit, is_store_failed}
 use Rattle.door_worker.specs.Languages.{Language}
-use Rattle.door_worker.specs.Working.{AnswersOne, Entered, Tells, call_at}
+use Rattle.door_worker.specs.Working.{AnswersOne, Tells, call_at}
 use Rattle.door_worker.proofs.Answering.{answered, none_failed, told}
 use Rattle.door_worker.proofs.Going.{goes_called_by, goes_on, goes_put, goes_taken, goes_waits, known_then, worker_is}
 use Rattle.exchange_shared.specs.Seats.{Lands, Seat, Waits, effects_in}
@@ -44,20 +44,17 @@ edit_valid (command.Lose n) is = refl
 -- ---- one that was carried out
 
 -- the journal was taken, and the edit has its call
-lands_entered : (c : Command) (moment : ℕ) (s t : Seat) (x : Settled) (written : Bool) → (l : Lands c moment s t x written) → Entered c moment s l.calling x
+lands_entered : (c : Command) (moment : ℕ) (s t : Seat) (x : Settled) (written : Bool) → (l : Lands c moment s t x written) → Goes (call_at s.worker c moment x.reply ∷ []) 0 s l.calling
 lands_entered c moment s t x written l =
     let took : Goes [] 0 s l.taking = goes_taken l.end l.faults s l.taking l.taken_is in
     let by : s.worker ≡ l.taking.worker = sym (worker_is [] 0 s l.taking took) in
-    record {
-      goes = goes_on [] (call_at s.worker c moment x.reply ∷ []) 0 0 s l.taking l.calling took (goes_called_by s.worker l.taking l.calling c moment x.reply by l.called_is);
-      upto = l.upto;
-    }
+    goes_on [] (call_at s.worker c moment x.reply ∷ []) 0 0 s l.taking l.calling took (goes_called_by s.worker l.taking l.calling c moment x.reply by l.called_is)
 
 -- and then the journal was put back
 lands_put : (c : Command) (moment : ℕ) (s t : Seat) (x : Settled) (written : Bool) → (l : Lands c moment s t x written) → Goes [] (cond written 0 1) l.calling t
 lands_put c moment s t x written l =
     let e = lands_entered c moment s t x written l in
-    goes_put s.worker written l.durable l.count l.calling t (sym (worker_is (call_at s.worker c moment x.reply ∷ []) 0 s l.calling e.goes)) l.put_is
+    goes_put s.worker written l.durable l.count l.calling t (sym (worker_is (call_at s.worker c moment x.reply ∷ []) 0 s l.calling e)) l.put_is
 
 stable_put : (l : List Entry) (w : ℕ) (written : Bool) (durable faults : ℕ) → stable (l ++ put w written durable faults ∷ []) ≡ durable
 stable_put l w written durable faults = fold-append (told_or durable_of) 0 l (put w written durable faults ∷ [])

@@ -8,7 +8,7 @@ use Rattle.door_worker.specs.Doors.{HasTalk, IsNow, ServesDoor, TakesMoments}
 use Rattle.door_worker.specs.Languages.{Language}
 use Rattle.exchange_shared.specs.Seats.{Seat, effects_in}
 use Rattle.exchange_state.specs.declared.state.Settled.{Settled}
-use Rattle.exchange_state.specs.Views.{IsRising}
+use Rattle.exchange_state.specs.Views.{IsRising, stable}
 use Rattle.http_wire.specs.declared.message.Message.{Message}
 use Rattle.link_door.specs.Doors.{Held, with_later}
 use Rattle.link_door.specs.declared.link.Link.{Ghosts}
@@ -29,10 +29,11 @@ call_at worker command moment reply = record { worker = worker; command = comman
 abbrev pub IsKnown : Seat → Seat → Type 0
 IsKnown s t = (t ≡ s) ⊎ IsRising t.origin t.seen
 
--- the command has its call, and so many effects stand with it
+-- the command has its call, so many effects stand with it, and so many were durable then
 pub record Entered (command : Command) (moment : ℕ) (s t : Seat) (settled : Settled) : Type 0 where
   pub goes : Goes (call_at s.worker command moment settled.reply ∷ []) 0 s t
   pub upto : settled.upto ≡ effects_in t.origin t.seen
+  pub durable : settled.durable ≡ stable t.seen
 
 -- what is given for the reply to a command whose effects are durable
 abbrev pub IsTold : Option BidRequest → Language → Reply → Given → Type 0

@@ -10,8 +10,9 @@ ghost use Rattle.session.specs.Talk.{IsGivable};
 
 use auction_core::{Command, Reply};
 use command_read::CommandFault;
+use link_door::Pause;
 use rtb_num::Txt;
-use rtb_response::write_reply;
+use rtb_response::{limit_word, write_reply};
 use rtb_types::BidRequest;
 use session::Given;
 use std::alloc::{AllocError, Global};
@@ -67,5 +68,13 @@ pub(crate) fn is_edit(command: &Command) -> bool
     match command {
         Command::Add(..) | Command::Change(..) | Command::Pause(_) | Command::Resume(_) => true,
         _ => false,
+    }
+}
+
+/// Tells which limit the reply says was met, where it says one.
+pub(crate) fn note_limit<P: Pause>(pause: &P, reply: &Reply) {
+    match reply {
+        Reply::Full { limit } => pause.met(limit_word(*limit)),
+        _ => {}
     }
 }

@@ -9,7 +9,7 @@ use http_wire::Message;
 use link_door::{Door, Pause};
 use rtb_base::Steps;
 use rtb_disk::Disk;
-use session::{Given, Service, serve_link};
+use session::{Given, LinkRoom, Service, serve_link_in};
 use std::sync::Wait;
 use std::sync::ledger::Ledger;
 
@@ -34,6 +34,7 @@ impl<'a, 'e, D: Disk, R: Wait, G: Door, P: Pause> Service for Desk<'a, 'e, D, R,
 
 // Serves a link to its end.
 pub(crate) fn converse<'a, 'e, D: Disk, R: Wait, G: Door, P: Pause, L: Ledger>(
+    room: &mut LinkRoom,
     desk: &mut Desk<'a, 'e, D, R, G, P>,
     link: &mut G::Link,
     steps: &mut Steps<L>,
@@ -46,6 +47,6 @@ pub(crate) fn converse<'a, 'e, D: Disk, R: Wait, G: Door, P: Pause, L: Ledger>(
     ensures faults { G.faults desk.new.door.now ≡ G.faults desk.old.door.now }
 {
     let alloc = desk.tools.alloc;
-    let end = serve_link(alloc, desk, link, steps);
+    let end = serve_link_in(alloc, room, desk, link, steps);
     drop(end);
 }

@@ -15,6 +15,7 @@ use link_door::{Door, Pause};
 use rtb_base::Steps;
 use rtb_disk::Disk;
 use rtb_num::Txt;
+use session::LinkRoom;
 use std::alloc::Global;
 use std::marker::Brand;
 use std::sync::Wait;
@@ -64,7 +65,9 @@ pub fn serve_door<D: Disk, R: Wait, G: Door, P: Pause>(
         scratch: Scratch::new(alloc),
         rooms: Rooms::new(alloc),
     };
-    let end = serve_links(&tools, &mut worker, door);
+    let mut room = LinkRoom::new();
+    let end = serve_links(&tools, &mut room, &mut worker, door);
+    drop(room);
     let Worker {
         exchange: _,
         seat,
@@ -82,6 +85,7 @@ pub fn serve_door<D: Disk, R: Wait, G: Door, P: Pause>(
 // Serves the links that are left.
 fn serve_links<'e, D: Disk, R: Wait, G: Door, P: Pause>(
     tools: &Tools<'e, R, P>,
+    room: &mut LinkRoom,
     worker: &mut Worker<'e, D>,
     door: &mut G,
 ) -> DoorEnd
@@ -92,7 +96,7 @@ fn serve_links<'e, D: Disk, R: Wait, G: Door, P: Pause>(
     ensures cause { RisesOnlyWhere (result ≡ DoorEnd.Failed) (G.faults door.old) (G.faults door.new) }
 {
     for _ in tools.rt.forever() {
-        match serve_next(tools, worker, door) {
+        match serve_next(tools, room, worker, door) {
             Some(end) => return end,
             None => {}
         }
@@ -103,6 +107,7 @@ fn serve_links<'e, D: Disk, R: Wait, G: Door, P: Pause>(
 // Serves the next link; why there is none, where there is none.
 fn serve_next<'e, D: Disk, R: Wait, G: Door, P: Pause>(
     tools: &Tools<'e, R, P>,
+    room: &mut LinkRoom,
     worker: &mut Worker<'e, D>,
     door: &mut G,
 ) -> Option<DoorEnd>
@@ -114,7 +119,14 @@ fn serve_next<'e, D: Disk, R: Wait, G: Door, P: Pause>(
 {
     match door.next() {
         Ok(Some(link)) => {
-            let link = serve_one::<D, R, G, P, Brand>(tools, worker, door, link, Blank::new(1));
+            let link = serve_one::<D, R, G, P, Brand>(
+                tools,
+                room,
+                worker,
+                door,
+                link,
+                Blank::new(1),
+            );
             door.done(link);
             None
         }
@@ -126,6 +138,7 @@ fn serve_next<'e, D: Disk, R: Wait, G: Door, P: Pause>(
 // Serves a link that the door gave. The steps are not counted.
 fn serve_one<'e, D: Disk, R: Wait, G: Door, P: Pause, L: Ledger>(
     tools: &Tools<'e, R, P>,
+    room: &mut LinkRoom,
     worker: &mut Worker<'e, D>,
     door: &mut G,
     link: G::Link,
@@ -146,6 +159,6 @@ fn serve_one<'e, D: Disk, R: Wait, G: Door, P: Pause, L: Ledger>(
         worker,
         door,
     };
-    converse(&mut desk, &mut link, &mut steps);
+    converse(room, &mut desk, &mut link, &mut steps);
     link
 }

@@ -1,19 +1,22 @@
 //! One message answered.
-ghost use Rattle.std.specs.Prelude.{◌≡◌, ◌<◌, [], true, Ok, IfOk, IsTrue, OnErr, OnOk};
+ghost use Rattle.std.specs.Prelude.{◌≡◌, ◌<◌, ◌≤◌, [], true, Ok, IfOk, IsTrue, OnErr, OnOk};
 ghost use Rattle.auction_core.specs.Draft.{is_simple, is_valid_command};
 ghost use Rattle.command_read.specs.Commands.{IsCommandOf};
-ghost use Rattle.conj_index.specs.Campaigns.{Campaigns};
+ghost use Rattle.auction_core.specs.Found.{AreFound};
+ghost use Rattle.conj_index.specs.Campaigns.{DoRise};
 ghost use Rattle.conj_index.specs.Content.{IsIndexOf};
 ghost use Rattle.door_worker.specs.Answers.{Goes, IsPublished, is_edit};
 ghost use Rattle.door_worker.specs.Languages.{rtb};
 ghost use Rattle.door_worker.specs.Working.{AnswersOne, Concludes, Entered, Tells};
 ghost use Rattle.exchange_shared.specs.Seats.{IsOrdered, MayBeSettled, MayCall, effects_in, lock_of};
-ghost use Rattle.exchange_state.specs.Tickets.{matches, version_in};
+ghost use Rattle.exchange_state.specs.Tickets.{version_in};
+ghost use Rattle.exchange_state.specs.Views.{stable};
+ghost use Rattle.index_versions.specs.Versions.{campaigns_of};
 ghost use Rattle.http_wire.specs.declared.message.Message.{Message as AMessage};
 ghost use Rattle.plain_exchange.specs.declared.commands.Command.TheVariants.{Auction as AnAuction};
 ghost use Rattle.session.specs.Talk.{IsGivable};
 
-use crate::commands::{given_for, given_unread, is_edit, request_in};
+use crate::commands::{given_for, given_unread, is_edit, note_limit, request_in};
 use crate::worker::Tools;
 use auction_core::{Command, Reply};
 use command_read::{Rooms, read_command_in};
@@ -289,17 +292,18 @@ fn sell_found<'e, D: Disk, R: Wait, P: Pause>(
 }
 
 // What is found in the ticket's version. The steps are not counted.
-fn find<'e, R: Wait, P: Pause, L: Ledger>(
+fn find<'e, 'r, R: Wait, P: Pause, L: Ledger>(
     tools: &Tools<'e, R, P>,
     scratch: &mut Scratch,
     ticket: &Ticket,
-    request: &BidRequest,
+    request: &'r BidRequest,
     blank: Blank,
-) -> Result<Found, AllocError>
+) -> Result<Found<'r>, AllocError>
     requires name { blank.name ≡ L.name }
     requires parts { blank.parts ≡ L.parts }
     requires some { 0 < blank.parts }
-    ensures { IfOk result (λ f. (added : Campaigns) → IsIndexOf added (version_in ticket.now).index → f.lists ≡ matches added request.now) }
+    ensures asked { IfOk result (λ f. f.asked ≡ request.now) }
+    ensures found { IfOk result (λ f. DoRise (campaigns_of (version_in ticket.now).live) → IsIndexOf (campaigns_of (version_in ticket.now).live) (version_in ticket.now).index → AreFound (version_in ticket.now).live request.now f.candidates) }
 {
     let mut steps = Steps::<L>::new(blank);
     ticket.find_with(tools.alloc, scratch, request, &mut steps)
@@ -310,7 +314,7 @@ fn settle<'e, D: Disk, R: Wait, P: Pause, L: Ledger>(
     tools: &Tools<'e, R, P>,
     seat: Seat<D>,
     ticket: Ticket,
-    found: Found,
+    found: Found<'_>,
     command: &Command,
     moment: u64,
     blank: Blank,
@@ -320,7 +324,7 @@ fn settle<'e, D: Disk, R: Wait, P: Pause, L: Ledger>(
     requires some { 0 < blank.parts }
     requires seat { MayCall (lock_of exchange.now) seat }
     requires valid { IsTrue (is_valid_command command.now) }
-    requires found { MayBeSettled seat (version_in ticket) found.lists command.now }
+    requires found { MayBeSettled seat (version_in ticket) found.asked found.candidates command.now }
     ensures seat { MayCall (lock_of exchange.now) result.0 }
     ensures entered { IfOk result.1 (Entered command.now moment seat result.0) }
     ensures none { OnErr result.1 (Goes [] 0 seat result.0) }
@@ -357,18 +361,25 @@ fn conclude<'e, D: Disk, R: Wait, P: Pause>(
     settled: Settled,
 ) -> (Seat<D>, Given)
     requires seat { MayCall (lock_of exchange.now) seat }
+    requires order { IsOrdered seat.origin seat.seen }
     requires upto { settled.upto ≡ effects_in seat.origin seat.seen }
+    requires durable { settled.durable ≡ stable seat.seen }
     ensures seat { MayCall (lock_of exchange.now) result.0 }
     ensures concluded { Concludes (rtb tools.now.public.now) command.now settled.reply seat result.1 result.0 }
     ensures order { IsOrdered result.0.origin result.0.seen }
     ensures writable { IsGivable result.1 }
 {
-    let Settled { reply, upto } = settled;
-    let concluded = make_durable(exchange, tools, seat, command, &reply, upto);
+    let Settled {
+        reply,
+        upto,
+        durable,
+    } = settled;
+    let concluded = make_durable(exchange, tools, seat, command, &reply, upto, durable);
     drop(reply);
     concluded
 }
 
+// Where as many effects were durable when the command was carried out, nothing is waited for.
 fn make_durable<'e, D: Disk, R: Wait, P: Pause>(
     exchange: &Exchange<D>,
     tools: &Tools<'e, R, P>,
@@ -376,14 +387,20 @@ fn make_durable<'e, D: Disk, R: Wait, P: Pause>(
     command: &Command,
     reply: &Reply,
     upto: u64,
+    durable: u64,
 ) -> (Seat<D>, Given)
     requires seat { MayCall (lock_of exchange.now) seat }
+    requires order { IsOrdered seat.origin seat.seen }
     requires upto { upto ≡ effects_in seat.origin seat.seen }
+    requires durable { durable ≡ stable seat.seen }
     ensures seat { MayCall (lock_of exchange.now) result.0 }
     ensures concluded { Concludes (rtb tools.now.public.now) command.now reply.now seat result.1 result.0 }
     ensures order { IsOrdered result.0.origin result.0.seen }
     ensures writable { IsGivable result.1 }
 {
+    if upto <= durable {
+        return tell(exchange, tools, seat, command, reply);
+    }
     match exchange.make_durable(tools.rt, seat, upto) {
         Ok(seat) => tell(exchange, tools, seat, command, reply),
         Err(StoreFailed { seat }) => (seat, Given::StoreFailed),
@@ -405,6 +422,7 @@ fn tell<'e, D: Disk, R: Wait, P: Pause>(
     ensures order { IsOrdered result.0.origin result.0.seen }
     ensures writable { IsGivable result.1 }
 {
+    note_limit(tools.pause, reply);
     let (seat, published) = publish_edit::<D, R, P, Brand>(
         exchange,
         tools,

@@ -30,8 +30,21 @@ fn put_recovery(
     tell(alloc, disk, out)
 }
 
-/// Appends the line that is told of the journal on the disk, or why there is none.
-pub fn tell<D: Disk + Drop>(alloc: Global, disk: D, out: &mut Txt) -> Result<(), AllocError> {
+/// Appends what is told of the journal on what a crash leaves of the disk by the pick, or that there is no disk.
+pub fn tell_journal(
+    alloc: Global,
+    disk: &Option<MemDisk>,
+    pick: u64,
+    out: &mut Txt,
+) -> Result<(), AllocError> {
+    match disk {
+        Some(disk) => tell(alloc, disk.after_crash(pick)?, out),
+        None => out.extend(b"no disk"),
+    }
+}
+
+// Appends the line that is told of the journal on the disk, or why there is none.
+fn tell<D: Disk + Drop>(alloc: Global, disk: D, out: &mut Txt) -> Result<(), AllocError> {
     let (_disk, told) = recover(alloc, disk, out);
     match told {
         Ok(()) => Ok(()),

@@ -1,20 +1,29 @@
-//! Runs of all commands over a world in memory, which has one disk and four doors.
-use crate::outside::one_moment;
-use crate::try_runs::{tell, words_in};
-use case_lines::{done, numbers_in};
-use exchange_run::run;
-use link_door::{MemDoor, MemWorld, NoPause};
-use rtb_disk::MemDisk;
-use rtb_num::{List, MemSink, MemSource, Txt};
+//! Runs of the program's commands over a world in memory.
+use crate::again::put_again;
+use crate::fields::{field, numbers, words_in};
+use crate::pauses::Holding;
+use crate::told::tell_ended;
+use crate::worlds::world_of;
+use case_lines::done;
+use exchange_run::{Outcome, run};
+use link_door::MemWorld;
+use rtb_num::{MemSink, MemSource, Txt};
 use std::alloc::{AllocError, Global};
 use std::sync::Wait;
 use std::thread::Threads;
 
-/// Answers a call of this area, or tells that it is none.
+/// Answers a call of this area, or tells that it is none. The first field has the words of the command; the others are,
+/// in any order and as far as there are any:
 ///
-/// - `run | WORDS | JOURNAL | WORLD | DISK | DOOR | WRITES`: the status, and what is written, where the disk has
-///   the bytes JOURNAL, no link comes through the doors, and the source has no byte. Behind that are the numbers of
-///   the calls of the world, the disk and the first door and of the writes that fail, from 1 on.
+/// - `journal BYTES` and `file BYTES`: what the world's first disk has, and its second; `source BYTES`: what is read.
+/// - `links LINK // ..`: a door with these links, as `links.rt` says; such a field for each door, also without a link.
+/// - `moments N ..`: those of each door, of which the last repeats; without it 1000.
+/// - `world N ..`, `disk N ..`, `disk2 N ..`, `door N ..`, `link N ..`, `reads N ..`, `writes N ..`: the numbers, from 1
+///   on, of the calls that fail, of the world, the disks, the first door, each link, the source and the sink.
+/// - `stop N`, `stop2 N`: each call of that disk fails from this number on.
+/// - `held yes`: workers are held, as `pauses.rt` says.
+///
+/// The call says what is told of it: `again` is that of `again.rt`, and the others are those of `told.rt`.
 pub fn answer<R: Threads + Wait + Sync>(
     rt: &R,
     alloc: Global,
@@ -22,84 +31,85 @@ pub fn answer<R: Threads + Wait + Sync>(
     args: &[Txt],
     out: &mut Txt,
 ) -> Result<bool, AllocError> {
-    match args {
-        [line, journal, world, disk, door, writes] if call == b"run".as_slice() => {
-            let disks = disks_of(alloc, journal, disk.as_bytes());
-            let doors = doors_of(alloc, door.as_bytes());
-            let world = world_of(alloc, disks, doors, world.as_bytes());
-            done(put_run(rt, alloc, line.as_bytes(), world, writes.as_bytes(), out))
-        }
-        _ => Ok(false),
+    if call == b"again".as_slice() {
+        return done(put_again(rt, alloc, args, out));
     }
-}
-
-fn disks_of(alloc: Global, journal: &Txt, fails: &[u8]) -> Result<List<MemDisk>, AllocError> {
-    let fails = numbers_in(alloc, fails)?;
-    let disk = MemDisk::new(alloc, journal.copy()?, fails);
-    let mut disks = List::new(alloc);
-    disks.push(disk)?;
-    Ok(disks)
-}
-
-// Four doors, of which the calls of the first fail.
-fn doors_of(alloc: Global, fails: &[u8]) -> Result<List<MemDoor>, AllocError> {
-    let mut doors = List::new(alloc);
-    let first = numbers_in(alloc, fails)?;
-    doors.push(door_of(alloc, first)?)?;
-    for _ in 0..3u32 {
-        doors.push(door_of(alloc, List::new(alloc))?)?;
+    if is_told(call) {
+        return done(put_run(rt, alloc, call, args, out));
     }
-    Ok(doors)
+    Ok(false)
 }
 
-fn door_of(alloc: Global, fails: List<u64>) -> Result<MemDoor, AllocError> {
-    let moments = one_moment(alloc)?;
-    MemDoor::new(alloc, List::new(alloc), moments, fails)
-}
-
-fn world_of(
-    alloc: Global,
-    disks: Result<List<MemDisk>, AllocError>,
-    doors: Result<List<MemDoor>, AllocError>,
-    fails: &[u8],
-) -> Result<MemWorld, AllocError> {
-    match (disks, doors, numbers_in(alloc, fails)) {
-        (Ok(disks), Ok(doors), Ok(fails)) => Ok(MemWorld::new(alloc, doors, disks, fails)),
-        _ => Err(AllocError),
-    }
+// Whether `told.rt` has this call.
+fn is_told(call: &[u8]) -> bool {
+    let calls = [
+        b"run".as_slice(),
+        b"files",
+        b"sent",
+        b"answers",
+        b"last",
+        b"crash",
+    ];
+    calls.contains(&call)
 }
 
 fn put_run<R: Threads + Wait + Sync>(
     rt: &R,
     alloc: Global,
-    line: &[u8],
-    world: Result<MemWorld, AllocError>,
-    writes: &[u8],
+    call: &[u8],
+    args: &[Txt],
     out: &mut Txt,
 ) -> Result<(), AllocError> {
-    let mut sink = MemSink::new(alloc, numbers_in(alloc, writes)?);
-    let words = words_in(alloc, line)?;
-    match world {
-        Ok(world) => {
-            let status = status_of(rt, alloc, words.as_slice(), world, &mut sink);
-            tell(status, sink.written(), out)
+    let mut sink = MemSink::new(alloc, numbers(alloc, args, b"writes ")?);
+    let ended = run_over(rt, alloc, args, world_of(alloc, args), &mut sink);
+    let told = tell_ended(alloc, call, args, &ended, sink.written(), out);
+    drop(ended);
+    told
+}
+
+/// How the command of these fields ends over this world.
+pub fn run_over<R: Threads + Wait + Sync>(
+    rt: &R,
+    alloc: Global,
+    args: &[Txt],
+    world: Result<MemWorld, AllocError>,
+    sink: &mut MemSink,
+) -> Result<Outcome<MemWorld>, AllocError> {
+    match (words_of(alloc, args), source_of(alloc, args), world) {
+        (Ok(words), Ok(source), Ok(world)) => {
+            let pause = Holding::new(!field(args, b"held ").is_empty());
+            Ok(run_words(rt, alloc, words.as_slice(), world, &pause, source, sink))
         }
-        Err(error) => Err(error),
+        _ => Err(AllocError),
     }
 }
 
-fn status_of<R: Threads + Wait + Sync>(
+fn words_of(alloc: Global, args: &[Txt]) -> Result<Vec<Txt>, AllocError> {
+    match args.first() {
+        Some(line) => words_in(alloc, line.as_bytes()),
+        None => Ok(Vec::new(alloc)),
+    }
+}
+
+fn source_of(alloc: Global, args: &[Txt]) -> Result<MemSource, AllocError> {
+    let fails = numbers(alloc, args, b"reads ")?;
+    let input = Txt::from_slice(alloc, field(args, b"source "))?;
+    Ok(MemSource::new(input, fails))
+}
+
+fn run_words<R: Threads + Wait + Sync>(
     rt: &R,
     alloc: Global,
     words: &[Txt],
     world: MemWorld,
+    pause: &Holding,
+    source: MemSource,
     sink: &mut MemSink,
-) -> u8 {
+) -> Outcome<MemWorld> {
     let mut world = world;
-    let mut source = MemSource::new(Txt::new(alloc), List::new(alloc));
-    let outcome = run(alloc, words, &mut world, &NoPause, &mut source, sink, rt);
-    let status = outcome.status;
-    drop(outcome);
+    let mut source = source;
+    let outcome = run(alloc, words, &mut world, pause, &mut source, sink, rt);
     drop(world);
-    status
+    drop(source);
+    outcome
 }

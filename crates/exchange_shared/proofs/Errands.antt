@@ -21,10 +21,11 @@ use Rattle.exchange_state.specs.Views.{AreInTurn, IsRising, Taking, faults_of as
 use Rattle.exchange_state.proofs.Later.{done}
 use Rattle.exchange_state.proofs.Owning.{quiet}
 use Rattle.exchange_state.proofs.Rising.{faults_later, rising_front}
-use Rattle.journal_file.specs.Standing.{Broken, Keeps, faults_of, is_broken}
+use Rattle.journal_file.specs.Standing.{Broken, IsBeforeOrAfter, Keeps, faults_of, is_broken, store_of}
 use Rattle.journal_file.specs.Blocks.{journal_names}
 use Rattle.journal_file.specs.declared.journal.Journal.{Journal}
 use Rattle.rtb_base.specs.Faults.{CountsErrors, Rose}
+use Rattle.rtb_disk.specs.Stores.{Always}
 use Rattle.rtb_disk.specs.declared.disk.Disk.{Ghosts}
 
 turn_behind : (has : Option Taking) (l : List Entry) (e : Entry) (more : List Entry) → AreInTurn has (l ++ e ∷ more) → AreInTurn (told_or out_of (fold (told_or out_of) has l) e) more
@@ -52,7 +53,7 @@ module _ {D : Type 0} {G : Ghosts D} where
   pub may_put : (here : TableId) (s t : Seat) (e new : Errand D G) (written : Bool) (x : ExchangeState D G) → HasErrand here s e → Enters worker_of s t → StandsFor t.origin x t.seen → IsTried e new written → MayPutBy t new written
   may_put here s t e new written x h en stands tried =
       let turn : AreInTurn None (h.before ++ taken_by s e ∷ en.0) = subst (AreInTurn None) (seen_since here s t e h en) stands.in_turn in
-      let d = done s.origin h.before en.0 s.worker e new.journal written h.errand turn en.2 h.encodable tried.broken tried.no_less tried.rose tried.kept tried.stopped in
+      let d = done s.origin h.before en.0 s.worker e new.journal written h.errand turn en.2 h.encodable tried.broken tried.no_less tried.rose tried.kept tried.stopped tried.always in
       record {
         taking = taking_of s e;
         by = sym (worker_stays s t en);
@@ -76,22 +77,25 @@ module _ {D : Type 0} {G : Ghosts D} where
       → MatchResult r (λ _. is_broken j ≡ false) (λ _. is_broken j ≡ true) → CountsErrors (faults_of old.journal) (faults_of j) r
       → ((payloads : List (List ℕ)) → Starts old payloads → OnOk r (Keeps journal_names j (payloads ++ old.block ∷ [])))
       → ((payloads : List (List ℕ)) → Starts old payloads → OnErr r (Broken journal_names j payloads old.block))
+      → ((payloads : List (List ℕ)) → Starts old payloads → Always (IsBeforeOrAfter journal_names payloads old.block) (store_of old.journal) (store_of j))
       → IsTried old (record { journal = j; block = old.block; upto = old.upto; again = old.again }) w
-  tried old j (Ok x) w is b c k s = record {
+  tried old j (Ok x) w is b c k s a = record {
     same = refl;
     broken = b ∙ sym (ap not is);
     no_less = omega (arith, c);
     rose = λ h. absurd (cc (is, h));
     kept = λ h. k;
     stopped = λ h. absurd (cc (is, h));
+    always = a;
   }
-  tried old j (Err x) w is b c k s = record {
+  tried old j (Err x) w is b c k s a = record {
     same = refl;
     broken = b ∙ sym (ap not is);
     no_less = c.0;
     rose = λ h. c.1;
     kept = λ h. absurd (cc (is, h));
     stopped = λ h. s;
+    always = a;
   }
 
   -- ---- the turn of a taking

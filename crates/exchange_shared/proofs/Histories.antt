@@ -1,5 +1,9 @@
 -- What a seat knew of its history stays when the list goes on.
 use Rattle.std.proofs.Common.{◌≡◌, ℕ, false, ◌≤◌, ◌<◌, ◌^◌, List, [], ◌∷◌, ◌++◌, length, refl, sym, ◌∙◌, ap, subst}
+use Rattle.auction_core.specs.Found.{AreFound}
+use Rattle.clearing.specs.declared.Offer.{Offer}
+use Rattle.conj_index.specs.Campaigns.{DoRise}
+use Rattle.conj_index.specs.Content.{IsIndexOf}
 use Rattle.hist_lock.specs.Views.{Enters, seat_with}
 use Rattle.exchange_shared.specs.Seats.{MayBeSettled, Seat, Waits, effects_in, worker_of}
 use Rattle.exchange_state.specs.declared.entries.Entry.{Entry}
@@ -7,32 +11,46 @@ use Rattle.exchange_state.specs.declared.entries.Origin.{Origin}
 use Rattle.exchange_state.specs.declared.state.ExchangeState.{ExchangeState}
 use Rattle.exchange_state.specs.Settling.{MaySettle, MayPublish}
 use Rattle.exchange_state.specs.Standing.{StandsFor}
-use Rattle.exchange_state.specs.Tickets.{IsVersionOf, edits_after, effects_after, matches_of}
+use Rattle.exchange_state.specs.Tickets.{IsVersionOf, edits_after, effects_after, table_at}
 use Rattle.exchange_state.specs.Views.{calls, stable}
-use Rattle.exchange_state.proofs.Later.{calls_on, edits_later, front_later, matches_later, version_later}
+use Rattle.exchange_state.proofs.Later.{calls_on, edits_later, front_later, version_later}
+use Rattle.index_versions.proofs.Live.{live_rise}
+use Rattle.index_versions.specs.Versions.{campaigns_of}
 use Rattle.index_versions.specs.declared.version.Version.{Version}
 use Rattle.plain_exchange.specs.declared.commands.Command.{Command}
+use Rattle.plain_exchange.specs.declared.commands.Command.TheVariants.{Auction}
 use Rattle.rtb_disk.specs.declared.disk.Disk.{Ghosts}
+use Rattle.rtb_types.specs.declared.request.BidRequest.{BidRequest}
 
 pub version_stays : (s t : Seat) (v : Version) → Enters worker_of s t → IsVersionOf s.origin (calls s.seen) v → IsVersionOf t.origin (calls t.seen) v
 version_stays s t v (rest, is, none) i =
     subst (λ (u : Seat). IsVersionOf u.origin (calls u.seen) v) (sym is)
     (subst (λ h. IsVersionOf s.origin h v) (sym (calls_on s.seen rest)) (version_later s.origin (calls rest) (calls s.seen) v i))
 
+-- what was found in a version that the seat has seen may be settled
+pub may_be_settled : (s : Seat) (v : Version) (r : BidRequest) (c : Command) (asked : BidRequest) (found : List (List Offer)) → IsVersionOf s.origin (calls s.seen) v → c ≡ Auction r → asked ≡ r
+    → (DoRise (campaigns_of v.live) → IsIndexOf (campaigns_of v.live) v.index → AreFound v.live r found) → MayBeSettled s v asked found c
+may_be_settled s v r c asked found version auction same found_are =
+    let table = table_at s.origin (calls s.seen) v.edit in
+    let rise : DoRise (campaigns_of v.live) = subst (λ l. DoRise (campaigns_of l)) (sym version.live) (live_rise table) in
+    let content : IsIndexOf (campaigns_of v.live) v.index = subst (λ l. IsIndexOf (campaigns_of l) v.index) (sym version.live) version.content in
+    record {
+      version = version;
+      auction = auction ∙ ap Auction (sym same);
+      found_are = subst (λ q. AreFound v.live q found) (sym same) (found_are rise content);
+    }
+
 module _ {D : Type 0} {G : Ghosts D} where
-  pub may_settle : (s t : Seat) (x : ExchangeState D G) (v : Version) (found : List (List ℕ)) (command : Command) → MayBeSettled s v found command → Enters worker_of s t → StandsFor t.origin x t.seen → length t.seen < 2 ^ 62 → MaySettle x v found command
-  may_settle s t x v found command m e stands short = record {
+  pub may_settle : (s t : Seat) (x : ExchangeState D G) (v : Version) (asked : BidRequest) (found : List (List Offer)) (command : Command) → MayBeSettled s v asked found command → Enters worker_of s t → StandsFor t.origin x t.seen → length t.seen < 2 ^ 62
+      → MaySettle x v asked found command
+  may_settle s t x v asked found command m e stands short = record {
     origin = t.origin;
     list = t.seen;
     stands = stands;
     short = short;
     version = version_stays s t v e m.version;
-    request = m.request;
     auction = m.auction;
-    found_are = m.found_are ∙ sym (
-        ap (λ (u : Seat). matches_of u.origin (calls u.seen) v.edit m.request) e.1
-        ∙ ap (λ h. matches_of s.origin h v.edit m.request) (calls_on s.seen e.0)
-        ∙ matches_later s.origin (calls e.0) (calls s.seen) v.edit m.request m.version.past);
+    found_are = m.found_are;
   }
 
   pub may_publish : (s t : Seat) (x : ExchangeState D G) (v : Version) → Enters worker_of s t → StandsFor t.origin x t.seen → IsVersionOf s.origin (calls s.seen) v → MayPublish x v

@@ -1,5 +1,5 @@
 -- What an exchange is opened with.
-use Rattle.std.proofs.Common.{◌≡◌, ℕ, List, true, refl, sym, ◌∙◌, subst, Result, Ok, Err, IfErr}
+use Rattle.std.proofs.Common.{◌≡◌, ℕ, List, length, true, refl, sym, ◌∙◌, ap, subst, Result, Ok, Err, IfErr}
 use Rattle.exchange_shared.specs.Opening.{IsOriginOver}
 use Rattle.exchange_state.specs.declared.state.ExchangeState.{ExchangeState}
 use Rattle.exchange_state.specs.Settling.{IsOpened, opened_with}
@@ -25,6 +25,7 @@ module _ {D : Type 0} {G : Ghosts D} where
     told_is = told_is;
     ttl_is = refl;
     faults_are = same;
+    moments_are = λ told. ap (λ (s : Store). length s.past) (synced told);
   }
 
   -- a crash while it was opened leaves a file that says the same

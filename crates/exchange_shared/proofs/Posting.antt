@@ -17,6 +17,7 @@ use Rattle.exchange_state.specs.declared.state.Published.TheVariants as answer
 use Rattle.exchange_state.specs.Settling.{IsSnapshotOf, published_as, publishing_marks}
 use Rattle.exchange_state.proofs.Growing.{edits_are}
 use Rattle.campaign_store.specs.declared.listed.Snapshot.{Snapshot}
+use Rattle.campaign_store.specs.Table.{live_records}
 use Rattle.conj_index.specs.Content.{IsIndexOf}
 use Rattle.index_versions.specs.Versions.{campaigns_of, live_in}
 use Rattle.index_versions.specs.declared.version.Version.{Version}
@@ -121,11 +122,12 @@ republished after s t u edit (answer.Kept e) one a o is due (b, at, le) = (wait_
 
 -- ---- the version of a snapshot
 
-pub version_made : (o : Origin) (h : List Call) (s : Snapshot) (v : Version) → IsSnapshotOf o h s → v.edit ≡ s.edit → IsIndexOf (campaigns_of s.live) v.index → IsVersionOf o h v
-version_made o h s v i same ix = record {
+pub version_made : (o : Origin) (h : List Call) (s : Snapshot) (v : Version) → IsSnapshotOf o h s → v.edit ≡ s.edit → v.live ≡ s.live → IsIndexOf (campaigns_of s.live) v.index → IsVersionOf o h v
+version_made o h s v i same alive ix = record {
   opened = (let a = edits_are o h in let b = i.edit in omega (arith, a, b, same));
   past = (let b = i.edit in omega (arith, b, same));
   content = subst (λ e. IsIndexOf (live_in (table_at o h e)) v.index) (sym same) (subst (λ l. IsIndexOf (campaigns_of l) v.index) i.live ix);
+  live = alive ∙ i.live ∙ ap (λ e. live_records (table_at o h e)) (sym same);
 }
 
 -- one is due, where a snapshot was given

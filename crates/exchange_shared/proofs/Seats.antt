@@ -5,12 +5,17 @@ use Rattle.std.proofs.lemmas.List.Sums.{fold-append}
 use Rattle.atomic_table.specs.Seated.{TableId}
 use Rattle.hist_lock.proofs.Logs.{entries_of-append, entries_of-own}
 use Rattle.hist_lock.specs.Views.{Enters, SplitsOff, TakesIn, seat_with}
-use Rattle.exchange_shared.specs.Seats.{Gains, IsOrdered, MayCall, Seat, Waits, worker_of}
+use Rattle.exchange_shared.specs.Seats.{Calls, Gains, IsOrdered, MayCall, Seat, Waits, effects_in, worker_of}
 use Rattle.exchange_state.specs.declared.entries.Entry.{Entry}
 use Rattle.exchange_state.specs.declared.entries.Origin.{Origin}
 use Rattle.exchange_state.specs.declared.state.ExchangeState.{ExchangeState}
+use Rattle.exchange_state.specs.declared.state.Settled.{Settled}
+use Rattle.exchange_state.specs.Settling.{Enters as IsEntered}
 use Rattle.exchange_state.specs.Standing.{StandsFor}
-use Rattle.exchange_state.specs.Views.{out, out_of, own, told_or}
+use Rattle.exchange_state.specs.Tickets.{IsLegalFrom}
+use Rattle.exchange_state.specs.Views.{called, calls, durable_of, out, out_of, own, stable, told_or}
+use Rattle.plain_exchange.specs.declared.commands.Command.{Command}
+use Rattle.plain_exchange.specs.declared.commands.Reply.{Reply}
 use Rattle.rtb_disk.specs.declared.disk.Disk.{Ghosts}
 
 -- ---- entries of a worker
@@ -61,6 +66,23 @@ still here s t may w = may_call_as here s t (s.seen ++ w.more) may w.same (ap ou
 pub still_gains : (here : TableId) (e : Entry) (s t : Seat) → e.worker ≡ s.worker → told_or out_of None e ≡ None → MayCall here s → Gains e s t → MayCall here t
 still_gains here e s t is none may w = may_call_as here s t ((s.seen ++ w.more) ++ e ∷ []) may w.same
     (ap out (own_gains s.worker s.seen w.more e w.others is) ∙ out_then (own s.worker s.seen) e ∙ ap (λ o. told_or out_of o e) may.no_journal ∙ none)
+
+-- a call leaves the count of durable effects
+stable_called : (l : List Entry) (w : ℕ) (command : Command) (moment : ℕ) (reply : Reply) → stable (l ++ called w command moment reply ∷ []) ≡ stable l
+stable_called l w command moment reply = fold-append (told_or durable_of) 0 l (called w command moment reply ∷ [])
+
+module _ {D : Type 0} {G : Ghosts D} where
+  -- the command was entered on the list that the turn began with
+  pub calls_with : (x : ExchangeState D G) (command : Command) (moment : ℕ) (s t u : Seat) (settled : Settled) → Enters worker_of s t → IsEntered t.origin t.seen t.worker command moment x settled
+      → u ≡ seat_with t (t.seen ++ called t.worker command moment settled.reply ∷ []) false → Calls command moment s u settled
+  calls_with x command moment s t u settled en is left =
+      let by : t.worker ≡ s.worker = worker_stays s t en in
+      record {
+        gains = subst (λ w. Gains (called w command moment settled.reply) s u) by (gains (called t.worker command moment settled.reply) s t u en left);
+        legal = subst (λ (z : Seat). IsLegalFrom z.origin (calls z.seen)) (sym left) is.stands.legal;
+        upto = subst (λ (z : Seat). settled.upto ≡ effects_in z.origin z.seen) (sym left) is.upto;
+        durable = is.durable ∙ sym (stable_called t.seen t.worker command moment settled.reply) ∙ sym (ap (λ (z : Seat). stable z.seen) left);
+      }
 
 -- ---- the order of marks
 

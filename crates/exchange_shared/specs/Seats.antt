@@ -1,6 +1,8 @@
 -- What a seat of an exchange knows before and after a call.
 use Rattle.std.specs.Prelude.{◌≡◌, ℕ, ◌+◌, ◌<◌, ◌≤◌, List, [], ◌∷◌, ◌++◌, All, length, Bool, true, false, None, Some, Result, Ok, Err}
 use Rattle.atomic_table.specs.Seated.{TableId}
+use Rattle.auction_core.specs.Found.{AreFound}
+use Rattle.clearing.specs.declared.Offer.{Offer}
 use Rattle.exchange_shared.specs.declared.changing.Changed.{Changed}
 use Rattle.exchange_shared.specs.declared.changing.Changed.TheVariants as changed
 use Rattle.exchange_shared.specs.declared.exchange.Exchange.{Exchange}
@@ -12,7 +14,7 @@ use Rattle.exchange_state.specs.declared.state.Published.{Published}
 use Rattle.exchange_state.specs.declared.state.Published.TheVariants as answer
 use Rattle.exchange_state.specs.declared.state.Settled.{Settled}
 use Rattle.exchange_state.specs.declared.state.Unsettled.{Unsettled}
-use Rattle.exchange_state.specs.Tickets.{IsLegalFrom, IsVersionOf, edits_after, effects_after, matches_of, state_after}
+use Rattle.exchange_state.specs.Tickets.{IsLegalFrom, IsVersionOf, edits_after, effects_after, state_after}
 use Rattle.exchange_state.specs.Views.{AreInTurn, IsRising, Taking, called, calls, faults_told, is_behind, out, own, published, published_at, put, stable, taken}
 use Rattle.hist_lock.specs.Views.{SeatView, seat_with}
 use Rattle.index_versions.specs.declared.version.Version.{Version}
@@ -65,24 +67,24 @@ pub record IsOrdered (o : Origin) (l : List Entry) : Type 0 where
 
 -- ---- calls
 
--- The command has its entry, with the reply of the exchange of one thread at that place; and so many effects stand
--- with it.
+-- The command has its entry, with the reply of the exchange of one thread at that place; so many effects stand with it,
+-- and so many were durable then.
 pub record Calls (command : Command) (moment : ℕ) (s t : Seat) (settled : Settled) : Type 0 where
   pub gains : Gains (called s.worker command moment settled.reply) s t
   pub legal : IsLegalFrom t.origin (calls t.seen)
   pub upto : settled.upto ≡ effects_in t.origin t.seen
+  pub durable : settled.durable ≡ stable t.seen
 
 -- the list that the turn of a call began with
 abbrev pub Settles : Command → ℕ → Seat → Seat → List Entry → Result Settled Unsettled → Type 0
 Settles command moment s t l (Ok settled) = t.seen ≡ l ++ called s.worker command moment settled.reply ∷ []
 Settles command moment s t l (Err e) = t.seen ≡ l
 
--- the version is one of the history that the seat has seen, and this was found in it for the auction
-pub record MayBeSettled (s : Seat) (v : Version) (found : List (List ℕ)) (command : Command) : Type 0 where
+-- the version is one of the history that the seat has seen, and these candidates were found in it for the auction
+pub record MayBeSettled (s : Seat) (v : Version) (asked : BidRequest) (found : List (List Offer)) (command : Command) : Type 0 where
   pub version : IsVersionOf s.origin (calls s.seen) v
-  pub request : BidRequest
-  pub auction : command ≡ Auction request
-  pub found_are : found ≡ matches_of s.origin (calls s.seen) v.edit request
+  pub auction : command ≡ Auction asked
+  pub found_are : AreFound v.live asked found
 
 -- ---- changes that are written first
 

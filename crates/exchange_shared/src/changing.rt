@@ -110,8 +110,9 @@ impl<D: Disk> Exchange<D> {
         let mut errand = errand;
         let written = write(&mut errand);
         let (seat, settled) = self.enter_ahead(rt, seat, command, moment);
+        self.worn.note(command);
         let (seat, turn) = self.lock.enter(rt, seat);
-        let landed = self.landings.land();
+        let landed = self.landings.land_ahead();
         let seat = leave_put::<D, Brand>(&self.lock, seat, turn, errand, written);
         self.landings.wake(landed);
         if written {

@@ -51,9 +51,8 @@ impl<D: Disk> Exchange<D> {
             Err(AllocError) => (seat, Err(AllocError)),
             Ok(Due::Kept(edit)) => (seat, Ok(Published::Kept { edit })),
             Ok(Due::Version(snapshot)) => {
-                self.worn.renew(snapshot.live.len());
-                let version = build_next(alloc, &snapshot, steps);
-                drop(snapshot);
+                self.worn.renew(snapshot.live.as_slice());
+                let version = build_next(alloc, snapshot, steps);
                 match version {
                     Ok(version) => {
                         let (seat, published) = self.publish(rt, seat, version);

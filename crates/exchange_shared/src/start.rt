@@ -124,15 +124,31 @@ fn put_under_lock<D: Disk, N: Opens>(
     ensures quiet { IfErr result (λ e. (o : Origin) → StandsFor o state [] → D.faults e.0 ≡ o.faults) }
     ensures same { IfErr result (λ e. D.store e.0 ≡ store_in state) }
 {
+    let worn = worn_of(&state);
     match HistLock::make::<Opened<N>>(alloc, state) {
         Ok((lock, seat)) => {
             let exchange = Exchange {
                 lock,
                 landings: Landings::new(),
-                worn: Worn::new(),
+                worn,
             };
             Ok((exchange, seat))
         }
-        Err((state, AllocError)) => Err((state.into_disk(), JournalFault::Memory)),
+        Err((state, AllocError)) => {
+            drop(worn);
+            Err((state.into_disk(), JournalFault::Memory))
+        }
+    }
+}
+
+// How worn the version is that it opens with.
+fn worn_of<D: Disk>(state: &ExchangeState<D>) -> Worn {
+    match state.begin() {
+        Ok(ticket) => {
+            let worn = Worn::new(ticket.version.live.as_slice());
+            drop(ticket);
+            worn
+        }
+        Err(AllocError) => Worn::new(&[]),
     }
 }

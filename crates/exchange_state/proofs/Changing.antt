@@ -20,7 +20,7 @@ use Rattle.exchange_state.specs.Ahead.{CarriesAhead, block_with, is_idle}
 use Rattle.exchange_state.specs.Errands.{IsDone, IsStaged, IsTried, Starts, taking_mark, taking_of}
 use Rattle.exchange_state.specs.Placing.{IsCommitted, IsSame, noted, noted_in, placed_as, touched_with, count_in}
 use Rattle.exchange_state.specs.Settling.{Enters}
-use Rattle.exchange_state.specs.Standing.{IsPlaced, StandsFor, between, is_ahead, text_to, version_of}
+use Rattle.exchange_state.specs.Standing.{IsPlaced, SaidBehind, SaidFrom, StandsFor, between, is_ahead, text_to, version_of}
 use Rattle.exchange_state.specs.Tickets.{IsLegalFrom, IsVersionOf, edits_after, effects_after, opening, state_after, touched_since}
 use Rattle.exchange_state.specs.Views.{AreInTurn, Taking, Window, called, calls, durable_of, failures, faults_of, faults_told, kept, out, out_of, own, published, stable, taken, told_or, window_by}
 use Rattle.exchange_state.proofs.Committing.{noted_count, noted_oldest, noted_touched, same_drafts}
@@ -29,12 +29,13 @@ use Rattle.exchange_state.proofs.Growing.{edits_more, effect_then, effects_more,
 use Rattle.exchange_state.proofs.Journals.{count_then, home_out, marked, taken_then}
 use Rattle.exchange_state.proofs.Later.{calls_on, front_later}
 use Rattle.exchange_state.proofs.Marks.{told_then, turn_then}
+use Rattle.exchange_state.proofs.Moments.{least_text, said_more, tried_said}
 use Rattle.exchange_state.proofs.Owning.{left_alone}
 use Rattle.exchange_state.proofs.Rising.{called_rising, taken_rising}
 use Rattle.exchange_state.proofs.Texts.{block_more}
 use Rattle.index_versions.specs.Recent.{RecentEdits}
 use Rattle.index_versions.specs.declared.version.Version.{Version}
-use Rattle.journal_file.specs.Standing.{Keeps, is_broken}
+use Rattle.journal_file.specs.Standing.{Keeps, is_broken, store_of}
 use Rattle.journal_file.specs.Standing as journal
 use Rattle.journal_file.specs.declared.journal.Journal.{Journal}
 use Rattle.plain_exchange.proofs.Applying.{replayed}
@@ -159,9 +160,9 @@ module _ {D : Type 0} {G : Ghosts D} where
       → IsDraftOf old.core.ttl old.core.state command moment d → placed_as (length old.core.state.campaigns) d.effect p → All IsEncodable (option_to_list d.effect)
       → mid ≡ record old { pending = old.pending ++ effects_bytes (option_to_list d.effect) }
       → (IsDraftOf mid.core.ttl mid.core.state command moment d → IsCommitted command moment mid.core v.core s.reply)
-      → v ≡ record (noted p mid) { core = v.core } → s.upto ≡ v.placed → new ≡ record v { pending = []; upto = v.placed }
+      → v ≡ record (noted p mid) { core = v.core } → s.upto ≡ v.placed → s.durable ≡ v.durable → new ≡ record v { pending = []; upto = v.placed }
       → CarriesAhead command moment old new s
-  carried_ahead command moment d p old mid v new s some draft placing can before commits after upto last =
+  carried_ahead command moment d p old mid v new s some draft placing can before commits after upto durable last =
       let effect = d.effect in
       let is : effect ≡ effect_of old.core.ttl moment old.core.state command = draft.effect in
       let f = some_of effect some in
@@ -176,6 +177,7 @@ module _ {D : Type 0} {G : Ghosts D} where
         state = here.state;
         reply = here.reply_is;
         upto = upto;
+        durable = durable;
         places = record {
           edits_are = here.edits_are;
           ttl = here.ttl;
@@ -269,6 +271,7 @@ module _ {D : Type 0} {G : Ghosts D} where
           rising = called_rising o l w command m s.reply x.rising;
         };
         upto = k.upto ∙ placed_now;
+        durable = k.durable ∙ p.durable ∙ x.durable;
       }
     where
       none_ahead : (y : ExchangeState D G) → is_ahead y ≡ true → y.journal ≡ None
@@ -364,9 +367,18 @@ module _ {D : Type 0} {G : Ghosts D} where
               p.0 ++ old.block ∷ [],
               subst (IsTextOf (p.0 ++ old.block ∷ [])) next4 (block_more p.0 (text_to o (calls l) (stable l)) (effect ∷ []) old.block p.1 i.block i.encodable),
               tried.kept is p.0 s,
+              subst (λ text. SaidFrom o text (store_of new.journal)) next4
+                  (tried_said o p.0 (text_to o (calls l) (stable l)) (effect ∷ []) old.journal new.journal old.block (least_text o (calls l) (stable l)) p.1 i.block i.encodable
+                  (said_more o (text_to o (calls l) (stable l)) (effect ∷ []) (store_of old.journal) p.3) (tried.always p.0 s)),
             );
         behind = λ is told.
             let p = i.whole told in
-            let s : Starts old p.0 = ((λ no_more. p.2), (λ yes. absurd (cc (again, yes)))) in
-            (p.0, subst (IsTextOf p.0) (sym text4) p.1, tried.stopped is p.0 s);
+            let s : Starts old p.0 = ((λ no_more. p.2), (λ yes. absurd (cc (again, yes)))) in (
+              p.0,
+              subst (IsTextOf p.0) (sym text4) p.1,
+              tried.stopped is p.0 s,
+              subst (λ text. SaidBehind o text old.block (store_of new.journal)) (sym text4) (λ es can_be block.
+                  tried_said o p.0 (text_to o (calls l) (stable l)) es old.journal new.journal old.block (least_text o (calls l) (stable l)) p.1 block can_be
+                  (said_more o (text_to o (calls l) (stable l)) es (store_of old.journal) p.3) (tried.always p.0 s)),
+            );
       })

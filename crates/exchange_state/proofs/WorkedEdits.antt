@@ -29,7 +29,7 @@ abbrev two_added : List Effect
 two_added = (record { moment = 1000; change = change.Added shoes_facts (wants (codes "news.example")) }) ∷ (record { moment = 1000; change = change.Added cars_facts wants_all }) ∷ []
 
 abbrev opened_with : List Effect → Origin
-opened_with es = record { effects = es; ttl = 300000; faults = 0; told = true }
+opened_with es = record { effects = es; ttl = 300000; faults = 0; told = true; moments = 0 }
 
 abbrev with_two : Origin
 with_two = opened_with two_added

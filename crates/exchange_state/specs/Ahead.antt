@@ -28,6 +28,7 @@ module _ {D : Type 0} {G : Ghosts D} where
     pub state : new.core.state ≡ (step old.core.ttl moment old.core.state command).after
     pub reply : s.reply ≡ (step old.core.ttl moment old.core.state command).reply
     pub upto : s.upto ≡ new.placed
+    pub durable : s.durable ≡ new.durable
     -- but for what is pending, and where that begins, it is placed as any other
     pub places : Places (effect_of old.core.ttl moment old.core.state command) old
         (record new { pending = old.pending ++ effects_bytes (option_to_list (effect_of old.core.ttl moment old.core.state command)); upto = old.upto })

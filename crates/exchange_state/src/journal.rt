@@ -12,7 +12,7 @@ impl<D: Disk> ExchangeState<D> {
     ghost use Rattle.std.specs.Prelude.{◌≡◌, ◌++◌, ◌∷◌, [], ℕ, List as AList, None, Some, true};
     ghost use Rattle.exchange_state.specs.Errands.{IsDone, IsTaken, putting_mark, taking_marks};
     ghost use Rattle.exchange_state.specs.Settling.{IsHome, MayPut};
-    ghost use Rattle.exchange_state.specs.Standing.{SaysFront, StandsFor, store_in};
+    ghost use Rattle.exchange_state.specs.Standing.{SaysFront, SaysSomeSince, StandsFor, store_in};
     ghost use Rattle.exchange_state.specs.Views.{Taking, faults_told};
     ghost use Rattle.exchange_state.specs.declared.entries.Entry.{Entry as AnEntry};
     ghost use Rattle.exchange_state.specs.declared.entries.Origin.{Origin as AnOrigin};
@@ -101,6 +101,8 @@ impl<D: Disk> ExchangeState<D> {
     pub fn into_disk(self) -> D
         requires home { IsHome self }
         ensures images { (o : AnOrigin) (l : AList AnEntry) → StandsFor o self l → o.told ≡ true → EachImage (SaysFront o l) (D.store result).now }
+        // and at each moment since it was opened a front
+        ensures since { (o : AnOrigin) (l : AList AnEntry) → StandsFor o self l → o.told ≡ true → SaysSomeSince o l (D.store result) }
         ensures faults { (o : AnOrigin) (l : AList AnEntry) → StandsFor o self l → D.faults result ≡ faults_told o l }
         ensures same { D.store result ≡ store_in self }
     {

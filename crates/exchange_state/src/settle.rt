@@ -5,159 +5,229 @@ ghost use Rattle.effects.specs.Bytes.{is_kept};
 ghost use Rattle.exchange_state.specs.Placing.{IsCommitted, is_placing};
 ghost use Rattle.plain_exchange.specs.declared.commands.Command.{Command as ACommand};
 
-use crate::finding::{correct_all, find_all};
+use crate::finding::{find_all, true_all};
 use crate::state::{ExchangeState, Placing, Settled, Unsettled};
 use crate::ticket::{Found, Ticket};
-use crate::versions::{edit_of, index_of};
-use auction_core::{Command, Core, Draft, Reply};
+use crate::versions::{edit_of, version_of};
+use auction_core::{Candidates, Command, Core, Draft, Reply};
+use campaign_store::Table;
+use deal_rules::Asked;
 use effects::encode;
+use index_versions::touched_since;
 use plain_exchange::Change;
 use rtb_base::Steps;
 use rtb_disk::Disk;
 use rtb_num::List;
-use rtb_types::BidRequest;
 use std::alloc::AllocError;
 use std::sync::ledger::Ledger;
 
 impl<D: Disk> ExchangeState<D> {
-    ghost use Rattle.std.specs.Prelude.{◌≡◌, ◌==◌, ◌<◌, ◌≤◌, ◌+◌, ◌++◌, ◌^◌, ℕ, List as AList, All, length, option_to_list, IfErr, IfOk, OnErr, OnOk, IsTrue, is_some, ◌&&◌, true};
+    ghost use Rattle.std.specs.Prelude.{◌≡◌, ◌<◌, ◌≤◌, ◌+◌, ◌++◌, ◌^◌, ℕ, List as AList, All, length, option_to_list, IfErr, IfOk, OnErr, OnOk, IsTrue, is_some, ◌&&◌, true};
+    ghost use Rattle.std.specs.List.Sorted.{IsStrictlyIncreasing};
     ghost use Rattle.auction_core.specs.Core.{listed};
-    ghost use Rattle.auction_core.specs.Draft.{IsDraftOf, IsReady, found_of, is_simple, is_valid_command};
+    ghost use Rattle.auction_core.specs.Draft.{IsDraftOf, IsReady, is_simple, is_valid_command};
+    ghost use Rattle.auction_core.specs.Found.{AreTouched, MaySell, sold_cost};
     ghost use Rattle.effects.specs.Bytes.{IsEncodable, effects_bytes};
-    ghost use Rattle.exchange_state.specs.Costs.{settled_cost};
+    ghost use Rattle.exchange_state.specs.Costs.{anew_cost, settled_cost};
+    ghost use Rattle.exchange_state.specs.Finding.{looks, selling_cost};
     ghost use Rattle.exchange_state.specs.Placing.{CarriesOut, HasPlain, IsCommitted, IsHeldIn, IsSame, noted, placed_as};
     ghost use Rattle.exchange_state.specs.Settling.{Enters, IsHeld, IsStanding, MaySettle};
     ghost use Rattle.exchange_state.specs.Standing.{StandsFor, is_ahead};
-    ghost use Rattle.exchange_state.specs.Tickets.{matches, version_in};
+    ghost use Rattle.exchange_state.specs.Tickets.{version_in};
     ghost use Rattle.exchange_state.specs.declared.entries.Entry.{Entry as AnEntry};
     ghost use Rattle.exchange_state.specs.declared.entries.Origin.{Origin as AnOrigin};
-    ghost use Rattle.index_versions.specs.Versions.{live_in};
+    ghost use Rattle.index_versions.specs.Recent.{touched_after};
     ghost use Rattle.plain_exchange.specs.declared.commands.Command.{Command as ACommand};
     ghost use Rattle.plain_exchange.specs.declared.commands.Command.TheVariants.{Auction as AnAuction};
     ghost use Rattle.rtb_types.specs.declared.request.BidRequest.{BidRequest as ARequest};
+    ghost use Rattle.rtb_types.specs.Valid.{is_valid};
 
     /// Carries out an auction at the moment, in milliseconds, over what was found in the ticket's version for its request,
-    /// whatever was edited since. Where memory is short, nothing is carried out.
+    /// whatever was edited since. Where memory is short, nothing is carried out. `worn` grows by what the version costs
+    /// for want of a newer one: the conjunctions of the campaigns that were touched since, once for each impression.
     ///
-    /// One step is one conjunction that is looked at, of a campaign that was touched since; and one entry of the index
-    /// that is read, where the ticket is older than the edits that are remembered.
+    /// One step is one candidate that is asked whether it may pay, and one conjunction that is looked at, of a campaign
+    /// that was touched since; and, where the ticket is older than the edits that are remembered, one entry of the index
+    /// that is read.
     pub fn settle<L: Ledger>(
         &mut self,
         ticket: &Ticket,
-        found: &Found,
+        found: &Found<'_>,
         command: &Command,
         moment: u64,
+        worn: &mut u64,
         steps: &mut Steps<L>,
     ) -> Result<Settled, Unsettled>
         requires valid { IsTrue (is_valid_command command.now) }
-        requires ticket { MaySettle self.old (version_in ticket.now) found.now.lists command.now }
+        requires ticket { MaySettle self.old (version_in ticket.now) found.now.asked found.now.candidates command.now }
         ensures settled { (o : AnOrigin) (l : AList AnEntry) (w : ℕ) → StandsFor o self.old l → IfOk result (Enters o l w command.now moment self.new) }
         ensures unsettled { (o : AnOrigin) (l : AList AnEntry) → StandsFor o self.old l → OnErr result (StandsFor o self.new l) }
         ensures held { (o : AnOrigin) (l : AList AnEntry) → StandsFor o self.old l → IfErr result (λ e. e ≡ Unsettled.Held → IsHeld o l command.now moment) }
-        ensures cost { (o : AnOrigin) (l : AList AnEntry) (r : ARequest) → StandsFor o self.old l → command.now ≡ AnAuction r → steps.new ≤ steps.old + settled_cost o l (version_in ticket.now).edit r }
+        ensures worn { worn.old ≤ worn.new }
+        ensures cost { (o : AnOrigin) (l : AList AnEntry) (r : ARequest) → StandsFor o self.old l → command.now ≡ AnAuction r → steps.new ≤ steps.old + settled_cost o l (version_in ticket.now).edit moment r found.now.candidates }
     {
-        match command {
-            Command::Auction(request) => {
-                if self.is_last(ticket) {
-                    return self.enter(command, found.lists.as_slice(), moment);
-                }
-                match self.present(ticket, found, request, steps) {
-                    Ok(now) => {
-                        let settled = self.enter(command, now.as_slice(), moment);
-                        drop(now);
-                        settled
-                    }
-                    Err(AllocError) => Err(Unsettled::Memory),
-                }
-            }
-            _ => unreachable!(),
-        }
-    }
-
-    // Whether no edit came behind the ticket's: then what was found in it is what the request reaches now.
-    fn is_last(&self, ticket: &Ticket) -> bool
-        ensures { result ≡ (self.now.core.edits == (version_in ticket.now).edit) }
-    {
-        self.core.table().edits() == edit_of(&ticket.version)
-    }
-
-    // What the request reaches now.
-    fn present<L: Ledger>(
-        &self,
-        ticket: &Ticket,
-        found: &Found,
-        request: &BidRequest,
-        steps: &mut Steps<L>,
-    ) -> Result<Vec<List<u32>>, AllocError>
-        requires ticket { MaySettle self.now (version_in ticket.now) found.now.lists (AnAuction request.now) }
-        ensures now { IfOk result (λ f. f.items ≡ matches (live_in (listed self.now.core.state)) request.now) }
-        ensures cost { (o : AnOrigin) (l : AList AnEntry) → StandsFor o self.now l → steps.new ≤ steps.old + settled_cost o l (version_in ticket.now).edit request.now }
-    {
-        let table = self.core.table();
         let edit = edit_of(&ticket.version);
         if self.recent.oldest() <= edit {
-            let lists = found.lists.as_slice();
-            return correct_all(self.alloc, lists, edit, &self.recent, table, request, steps);
+            return self.sell(&found.asked, &found.candidates, edit, moment, worn, steps);
         }
-        let anew = find_all(self.alloc, index_of(&self.version), request, steps)?;
-        let present = edit_of(&self.version);
-        let lists = anew.as_slice();
-        let now = correct_all(
-            self.alloc,
-            lists,
-            present,
-            &self.recent,
-            table,
-            request,
-            steps,
-        );
-        drop(anew);
-        now
+        self.sell_anew(&found.asked, moment, worn, steps)
     }
 
-    // Carries out a command for which this is found.
+    // Sells over candidates of the present version: the edits since an older one are forgotten.
+    fn sell_anew<L: Ledger>(
+        &mut self,
+        asked: &Asked<'_>,
+        moment: u64,
+        worn: &mut u64,
+        steps: &mut Steps<L>,
+    ) -> Result<Settled, Unsettled>
+        requires valid { IsTrue (is_valid asked.now) }
+        requires stands { IsStanding self.old }
+        ensures done { IfOk result (CarriesOut (AnAuction asked.now) moment self.old self.new) }
+        ensures undone { OnErr result (IsSame self.old self.new) }
+        ensures held { IfErr result (λ e. e ≡ Unsettled.Held → IsHeldIn self.old (AnAuction asked.now) moment) }
+        ensures worn { worn.old ≤ worn.new }
+        ensures cost { (o : AnOrigin) (l : AList AnEntry) → StandsFor o self.old l → steps.new ≤ steps.old + anew_cost o l asked.now }
+    {
+        match find_all(self.alloc, version_of(&self.version), asked, steps) {
+            Ok(candidates) => {
+                let edit = edit_of(&self.version);
+                let settled = self.sell(asked, &candidates, edit, moment, worn, steps);
+                drop(candidates);
+                settled
+            }
+            Err(AllocError) => Err(Unsettled::Memory),
+        }
+    }
+
+    // Sells over what was found at an edit, of which the edits since are remembered.
     //
     // A draft has half a kilobyte. What hands it on is compiled into its caller, so that it is moved once, and not at
     // each call.
     #[inline(always)]
-    fn enter(
+    fn sell<L: Ledger>(
         &mut self,
-        command: &Command,
-        found: &[List<u32>],
+        asked: &Asked<'_>,
+        candidates: &Candidates,
+        edit: u64,
         moment: u64,
+        worn: &mut u64,
+        steps: &mut Steps<L>,
     ) -> Result<Settled, Unsettled>
-        requires valid { IsTrue (is_valid_command command.now) }
-        requires found { found.now ≡ found_of self.old.core.state command.now }
+        requires valid { IsTrue (is_valid asked.now) }
+        requires known { self.old.recent.oldest ≤ edit }
+        requires found { MaySell self.old.core.state (touched_after edit self.old.recent) asked.now candidates.now }
         requires few { self.old.core.edits < 2 ^ 63 }
         requires placed { self.old.placed < 2 ^ 63 }
-        ensures done { IfOk result (CarriesOut command.now moment self.old self.new) }
+        ensures done { IfOk result (CarriesOut (AnAuction asked.now) moment self.old self.new) }
         ensures undone { OnErr result (IsSame self.old self.new) }
-        ensures held { IfErr result (λ e. e ≡ Unsettled.Held → IsHeldIn self.old command.now moment) }
+        ensures held { IfErr result (λ e. e ≡ Unsettled.Held → IsHeldIn self.old (AnAuction asked.now) moment) }
+        ensures worn { worn.old ≤ worn.new }
+        ensures cost { steps.new ≤ steps.old + selling_cost self.old.core (touched_after edit self.old.recent) asked.now moment candidates.now }
     {
-        match self.draft(command, found, moment) {
+        match self.draft_over(asked, candidates, edit, moment, worn, steps) {
             Ok(draft) => self.place(draft),
             Err(AllocError) => Err(Unsettled::Memory),
         }
     }
 
-    // Prepares a command for which this is found. Only rooms change.
+    // Prepares that auction. Only rooms change.
     #[inline(always)]
-    fn draft(
+    fn draft_over<L: Ledger>(
         &mut self,
-        command: &Command,
-        found: &[List<u32>],
+        asked: &Asked<'_>,
+        candidates: &Candidates,
+        edit: u64,
         moment: u64,
+        worn: &mut u64,
+        steps: &mut Steps<L>,
     ) -> Result<Draft, AllocError>
-        requires valid { IsTrue (is_valid_command command.now) }
-        requires found { found.now ≡ found_of self.old.core.state command.now }
-        ensures draft { IfOk result (IsDraftOf self.old.core.ttl self.old.core.state command.now moment) }
+        requires valid { IsTrue (is_valid asked.now) }
+        requires known { self.old.recent.oldest ≤ edit }
+        requires found { MaySell self.old.core.state (touched_after edit self.old.recent) asked.now candidates.now }
+        ensures draft { IfOk result (IsDraftOf self.old.core.ttl self.old.core.state (AnAuction asked.now) moment) }
         ensures ready { IfOk result (λ d. IsReady d self.new.core) }
         ensures plain { IfOk result (λ d. HasPlain d.effect) }
         ensures room { OnOk result (1 ≤ self.new.recent.spare) }
         ensures same { IsSame self.old self.new }
+        ensures worn { worn.old ≤ worn.new }
+        ensures cost { steps.new ≤ steps.old + selling_cost self.old.core (touched_after edit self.old.recent) asked.now moment candidates.now }
+    {
+        match touched_since(self.alloc, &self.recent, edit) {
+            Ok(Some(touched)) => {
+                let numbers = touched.as_slice();
+                wear(worn, numbers, self.core.table(), asked.imps().len());
+                let draft = self.draft_beside(asked, candidates, numbers, moment, steps);
+                drop(touched);
+                draft
+            }
+            Ok(None) => unreachable!(),
+            Err(AllocError) => Err(AllocError),
+        }
+    }
+
+    // The same, where these campaigns were touched since.
+    #[inline(always)]
+    fn draft_beside<L: Ledger>(
+        &mut self,
+        asked: &Asked<'_>,
+        candidates: &Candidates,
+        touched: &[u32],
+        moment: u64,
+        steps: &mut Steps<L>,
+    ) -> Result<Draft, AllocError>
+        requires valid { IsTrue (is_valid asked.now) }
+        requires rising { IsStrictlyIncreasing touched.now }
+        requires found { MaySell self.old.core.state touched.now asked.now candidates.now }
+        ensures draft { IfOk result (IsDraftOf self.old.core.ttl self.old.core.state (AnAuction asked.now) moment) }
+        ensures ready { IfOk result (λ d. IsReady d self.new.core) }
+        ensures plain { IfOk result (λ d. HasPlain d.effect) }
+        ensures room { OnOk result (1 ≤ self.new.recent.spare) }
+        ensures same { IsSame self.old self.new }
+        ensures cost { steps.new ≤ steps.old + (looks touched.now (listed self.old.core.state) asked.now + sold_cost self.old.core touched.now asked.now moment candidates.now) }
+    {
+        match true_all(
+            self.alloc,
+            touched,
+            self.core.table(),
+            asked.request(),
+            steps,
+        ) {
+            Ok(now) => {
+                let lists = now.as_slice();
+                let draft = self.draft(asked, candidates, touched, lists, moment, steps);
+                drop(now);
+                draft
+            }
+            Err(AllocError) => Err(AllocError),
+        }
+    }
+
+    // The same, where those of them that are live and true now are found.
+    #[inline(always)]
+    fn draft<L: Ledger>(
+        &mut self,
+        asked: &Asked<'_>,
+        candidates: &Candidates,
+        touched: &[u32],
+        now: &[List<u32>],
+        moment: u64,
+        steps: &mut Steps<L>,
+    ) -> Result<Draft, AllocError>
+        requires valid { IsTrue (is_valid asked.now) }
+        requires rising { IsStrictlyIncreasing touched.now }
+        requires found { MaySell self.old.core.state touched.now asked.now candidates.now }
+        requires now { AreTouched self.old.core.state touched.now asked.now now.now }
+        ensures draft { IfOk result (IsDraftOf self.old.core.ttl self.old.core.state (AnAuction asked.now) moment) }
+        ensures ready { IfOk result (λ d. IsReady d self.new.core) }
+        ensures plain { IfOk result (λ d. HasPlain d.effect) }
+        ensures room { OnOk result (1 ≤ self.new.recent.spare) }
+        ensures same { IsSame self.old self.new }
+        ensures cost { steps.new ≤ steps.old + sold_cost self.old.core touched.now asked.now moment candidates.now }
     {
         self.recent.reserve()?;
-        self.core.prepare(self.alloc, command, found, moment)
+        self.core
+            .prepare_found(self.alloc, asked, candidates, touched, now, moment, steps)
     }
 
     /// Carries out a command other than an auction at the moment, in milliseconds. Where memory is short, nothing is
@@ -254,12 +324,14 @@ impl<D: Disk> ExchangeState<D> {
         ensures done { (command : ACommand) (moment : ℕ) → IsDraftOf self.old.core.ttl self.old.core.state command moment draft → IsCommitted command moment self.old.core self.new.core result.reply }
         ensures rest { self.new ≡ record (noted placing self.old) { core = self.new.core } }
         ensures upto { result.upto ≡ self.new.placed }
+        ensures durable { result.durable ≡ self.new.durable }
     {
         let reply = commit_exactly(&mut self.core, draft);
         self.note(placing);
         Settled {
             reply,
             upto: self.placed,
+            durable: self.durable,
         }
     }
 
@@ -302,4 +374,23 @@ fn placing_of(change: &Change, campaigns: u32) -> Placing
         Change::Changed(n, _, _) | Change::Paused(n) | Change::Resumed(n) => Placing::Edit(*n),
         _ => Placing::Effect,
     }
+}
+
+// Counts for the version what is asked of these campaigns, once for each impression.
+fn wear(worn: &mut u64, touched: &[u32], table: &Table, imps: usize)
+    ensures { worn.old ≤ worn.new }
+{
+    let asked = conjunctions_of(touched, table).saturating_mul(imps as u64);
+    *worn = worn.saturating_add(asked);
+}
+
+// How many conjunctions these campaigns have.
+fn conjunctions_of(touched: &[u32], table: &Table) -> u64 {
+    let mut count: u64 = 0;
+    for number in touched {
+        if let Some(entry) = table.get(*number) {
+            count = count.saturating_add(entry.record().expr.conjunctions() as u64);
+        }
+    }
+    count
 }

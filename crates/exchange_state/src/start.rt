@@ -114,11 +114,10 @@ fn first_version<L: Ledger>(
 ) -> Result<Arc<Version>, AllocError>
     ensures edit { IfOk result (λ v. (arc_value v).edit ≡ core.now.edits) }
     ensures content { IfOk result (λ v. IsIndexOf (live_in (listed core.now.state)) (arc_value v).index) }
+    ensures live { IfOk result (λ v. (arc_value v).live ≡ live_records (listed core.now.state)) }
     ensures cost { steps.new ≤ steps.old + version_cost (live_records (listed core.now.state)) }
     ensures most { steps.new ≤ steps.old + most_version_cost }
 {
     let snapshot = snapshot_of(core.table())?;
-    let version = build_next(alloc, &snapshot, steps);
-    drop(snapshot);
-    version
+    build_next(alloc, snapshot, steps)
 }

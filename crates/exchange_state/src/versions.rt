@@ -7,22 +7,20 @@ ghost use Rattle.exchange_state.specs.Costs.{most_version_cost};
 ghost use Rattle.index_versions.specs.Versions.{campaigns_of, version_cost};
 
 use crate::state::{ExchangeState, Published};
-use crate::ticket::Ticket;
 use campaign_store::{Snapshot, Table};
-use conj_index::Index;
 use index_versions::Version;
 use rtb_disk::Disk;
 use std::alloc::AllocError;
 use std::sync::Arc;
 
 impl<D: Disk> ExchangeState<D> {
-    ghost use Rattle.std.specs.Prelude.{◌≡◌, ◌<◌, ◌≤◌, ◌+◌, ◌-◌, ◌++◌, ◌↔◌, ℕ, List as AList, None, IfOk, IfSome};
+    ghost use Rattle.std.specs.Prelude.{◌≡◌, ◌<◌, ◌≤◌, ◌+◌, ◌++◌, ◌↔◌, ℕ, List as AList, None, IfOk, IfSome};
     ghost use Rattle.std.specs.Arc.{arc_value};
     ghost use Rattle.conj_index.specs.Campaigns.{DoRise, conjunctions_in};
     ghost use Rattle.exchange_state.specs.Costs.{most_version_cost};
     ghost use Rattle.exchange_state.specs.Settling.{IsSnapshotOf, MayPublish, published_as, publishing_marks};
     ghost use Rattle.exchange_state.specs.Standing.{StandsFor};
-    ghost use Rattle.exchange_state.specs.Tickets.{IsVersionOf, edits_after, version_in};
+    ghost use Rattle.exchange_state.specs.Tickets.{IsVersionOf, edits_after};
     ghost use Rattle.exchange_state.specs.Views.{calls, published};
     ghost use Rattle.exchange_state.specs.declared.entries.Entry.{Entry as AnEntry};
     ghost use Rattle.exchange_state.specs.declared.entries.Origin.{Origin as AnOrigin};
@@ -43,14 +41,6 @@ impl<D: Disk> ExchangeState<D> {
         }
         let snapshot = snapshot_of(table)?;
         Ok(Some(snapshot))
-    }
-
-    /// How many edits came behind the ticket's version.
-    pub fn behind(&self, ticket: &Ticket) -> u64
-        ensures { (o : AnOrigin) (l : AList AnEntry) → StandsFor o self.now l → result ≡ edits_after o (calls l) - (version_in ticket.now).edit }
-    {
-        let edits = self.core.table().edits();
-        edits.saturating_sub(edit_of(&ticket.version))
     }
 
     /// Makes the version the present one, where its edit number is above that of the present one. The edits since the
@@ -78,10 +68,10 @@ pub(crate) fn edit_of(version: &Arc<Version>) -> u64
     version.edit
 }
 
-pub(crate) fn index_of(version: &Arc<Version>) -> &Index
-    ensures { result.now ≡ (arc_value version.now).index }
+pub(crate) fn version_of(version: &Arc<Version>) -> &Version
+    ensures { result.now ≡ arc_value version.now }
 {
-    &version.index
+    version
 }
 
 // The live campaigns of a table, which can be indexed.

@@ -1,5 +1,5 @@
 -- What stays where whole blocks are appended.
-use Rattle.std.proofs.Common.{◌≡◌, ◌≢◌, inl, inr, ℕ, ◌+◌, ◌<◌, ◌^◌, List, [], ◌∷◌, ◌++◌, All, length, take, drop, get_or, refl, sym, ◌∙◌, ap, subst, arith, append_assoc, length-append, length-drop, map}
+use Rattle.std.proofs.Common.{◌≡◌, ◌≢◌, inl, inr, ℕ, ◌<◌, ◌^◌, List, [], ◌∷◌, ◌++◌, All, length, take, drop, get_or, refl, sym, ◌∙◌, ap, arith, append_assoc, length-append, length-drop, map}
 use Rattle.std.specs.List.{flat_map}
 use Rattle.std.proofs.lemmas.List.{take_at, drop_at}
 use Rattle.std.proofs.lemmas.List.Elements.{All-head, All-tail}
@@ -7,11 +7,11 @@ use Rattle.effects.specs.Bytes.{IsEncodable, effects_bytes}
 use Rattle.follower.specs.Following.{IsBehind, IsPart, IsUpTo, StandsIn}
 use Rattle.follower.specs.Growing.{Appends, Grows}
 use Rattle.follower.proofs.Standing.{same_block, same_effects}
-use Rattle.journal_file.specs.Blocks.{HasBlocks, IsTornCreation, StandsFor, block_bytes, front_of, journal_names, open_blocks}
+use Rattle.journal_file.specs.Blocks.{IsTornCreation, block_bytes, front_of, journal_names, open_blocks}
 use Rattle.journal_file.proofs.OneText.{one_text}
 use Rattle.plain_exchange.specs.declared.changes.Effect.{Effect}
 use Rattle.plain_exchange.specs.State.{State}
-use Rattle.recovery.specs.Texts.{HasText, IsTextOf}
+use Rattle.recovery.specs.Texts.{HasText}
 
 abbrev Block : Type 0
 Block = List ℕ

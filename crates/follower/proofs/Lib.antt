@@ -6,4 +6,5 @@ mod Growing
 mod Holding
 mod Pieces
 mod Reports
+mod Seen
 mod Standing

@@ -4,6 +4,8 @@ use Rattle.effects.specs.Bytes.{IsEncodable, effects_bytes}
 use Rattle.follower.specs.declared.follower.Follower.{Follower}
 use Rattle.follower.specs.declared.follower.FollowReport.{FollowReport}
 use Rattle.journal_file.specs.Blocks.{IsName, block_bytes, end_of, front_of, journal_names}
+use Rattle.follower.specs.Seen.{AreCarried, SeesWhy}
+use Rattle.journal_file.specs.Shows.{ShowsMore}
 use Rattle.journal_file.specs.declared.faults.JournalFault.{JournalFault}
 use Rattle.journal_file.specs.declared.faults.JournalFault.TheVariants as fault
 use Rattle.plain_exchange.specs.declared.changes.Effect.{Effect}
@@ -12,6 +14,7 @@ use Rattle.plain_exchange.specs.State.{Campaign, State, totals}
 use Rattle.recovery.specs.Damage.{IsDamagedAt}
 use Rattle.recovery.specs.Texts.{HasText, IsTextOf}
 use Rattle.rtb_base.specs.Faults.{RisesOnlyWhere}
+use Rattle.rtb_disk.specs.Showing.{Shown}
 use Rattle.rtb_disk.specs.declared.disk.Disk.{Ghosts}
 
 -- ---- a place in a file
@@ -90,6 +93,13 @@ module _ {D : Type 0} where
   abbrev pub IsCaughtUp : List ℕ → Follower D → Type 0
   IsCaughtUp image f = SaysAll image f.core.state f.count
 
+-- What was carried out between two states of a follower, by what the disk showed meanwhile, and why it ended there.
+pub record IsShownBy {D : Type 0} (shown : List Shown) (old new : Follower D) (caught : Result ℕ JournalFault) : Type 0 where
+  pub effects : List Effect
+  pub lead : Lead old.core.state new.core.state old.count new.count effects
+  pub are : AreCarried shown old.gate old.done effects new.gate new.done
+  pub why : SeesWhy shown new.gate new.done new.core.state caught
+
 -- What comes of a catching up.
 pub record CatchesUp {D : Type 0} (G : Ghosts D) (old new : Follower D) (caught : Result ℕ JournalFault) : Type 0 where
   -- whatever the disk shows: effects are carried out behind those of before, and counted
@@ -99,6 +109,8 @@ pub record CatchesUp {D : Type 0} (G : Ghosts D) (old new : Follower D) (caught 
   pub within : (G.store old.disk).told ≡ true → IsWithin (G.store old.disk).reads old → IsWithin (G.store old.disk).reads new
   pub all : (G.store old.disk).told ≡ true → IsWithin (G.store old.disk).reads old → OnOk caught (IsCaughtUp (G.store old.disk).reads new)
   pub damaged : (G.store old.disk).told ≡ true → IsWithin (G.store old.disk).reads old → (at : ℕ) → caught ≡ Err (fault.Damaged at) → IsDamagedAt (G.store old.disk).reads at
+  -- where it tells what it shows, also of a file that grows meanwhile: by what was shown in this call alone
+  pub shows : ShowsMore (G.shown old.disk) (G.shown new.disk) (λ shown. IsShownBy shown old new caught)
   -- nothing is written
   pub same : G.store new.disk ≡ G.store old.disk
   pub cause : RisesOnlyWhere (caught ≡ Err fault.DiskFailed) (G.faults old.disk) (G.faults new.disk)

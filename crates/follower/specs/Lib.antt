@@ -2,6 +2,8 @@ pub mod Doors
 pub mod Following
 pub mod Growing
 pub mod Headers
+pub mod Moving
 pub mod Passing
 pub mod Reading
 pub mod Reporting
+pub mod Seen

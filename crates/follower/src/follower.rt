@@ -40,14 +40,19 @@ pub struct Follower<D: Disk> {
 }
 
 impl<D: Disk> Follower<D> {
-    ghost use Rattle.std.specs.Prelude.{◌≡◌, ◌+◌, ◌<◌, ◌^◌, ℕ, List, drop, true, false, Ok, Err, IsTrue, MatchResult, OnOk, Result, Some, is_some, length, option_map};
+    ghost use Rattle.std.specs.Prelude.{◌≡◌, ◌⊎◌, ◌+◌, ◌<◌, ◌≤◌, ◌^◌, ℕ, List, [], ◌∷◌, drop, true, false, Ok, Err, IfOk, IsTrue, MatchResult, OnOk, Result, Some, is_some, length, option_map};
     ghost use Rattle.auction_core.specs.declared.fault.ApplyFault.{ApplyFault};
-    ghost use Rattle.follower.specs.Following.{CatchesUp, GoesOn, IsWithin, count_in, disk_in, report_of, state_in};
+    ghost use Rattle.follower.specs.Following.{CatchesUp, GoesOn, IsCaughtUp, IsShownBy, IsWithin, count_in, disk_in, report_of, state_in};
+    ghost use Rattle.follower.specs.Moving.{IsBegun, IsRefused, IsTurn, Passes, spot};
     ghost use Rattle.follower.specs.Passing.{IsCarried, Turns, at_gate};
+    ghost use Rattle.follower.specs.Seen.{Since};
     ghost use Rattle.journal_file.specs.Damage.{HasBlock};
     ghost use Rattle.journal_file.specs.Pieces.{BeginsFrom};
+    ghost use Rattle.journal_file.specs.Shows.{ShowsBlock, ShowsMore, ShowsShut};
     ghost use Rattle.plain_exchange.specs.State.{Campaign, campaign_at, empty};
+    ghost use Rattle.recovery.specs.Damage.{IsDamagedAt};
     ghost use Rattle.rtb_base.specs.Faults.{RisesOnlyWhere};
+    ghost use Rattle.rtb_disk.specs.Showing.{Shown, bytes_from};
 
     /// A follower that has read nothing of the journal on the disk.
     pub fn new(alloc: Global, disk: D) -> Follower<D>
@@ -79,6 +84,20 @@ impl<D: Disk> Follower<D> {
     pub fn catch_up(&mut self) -> Result<u64, JournalFault>
         ensures { CatchesUp D.Disk self.old self.new result }
     {
+        self.pass_all()
+    }
+
+    // The same, where each clause stands for itself.
+    fn pass_all(&mut self) -> Result<u64, JournalFault>
+        ensures goes { GoesOn self.old self.new }
+        ensures count { IfOk result (λ n. n ≡ count_in self.new) }
+        ensures within { (D.store self.old.disk).told ≡ true → IsWithin (D.store self.old.disk).reads self.old → IsWithin (D.store self.old.disk).reads self.new }
+        ensures all { (D.store self.old.disk).told ≡ true → IsWithin (D.store self.old.disk).reads self.old → OnOk result (IsCaughtUp (D.store self.old.disk).reads self.new) }
+        ensures damaged { (D.store self.old.disk).told ≡ true → IsWithin (D.store self.old.disk).reads self.old → (at : ℕ) → result ≡ Err (JournalFault.Damaged at) → IsDamagedAt (D.store self.old.disk).reads at }
+        ensures shows { ShowsMore (D.shown self.old.disk) (D.shown self.new.disk) (λ shown. IsShownBy shown self.old self.new result) }
+        ensures same { D.store self.new.disk ≡ D.store self.old.disk }
+        ensures cause { RisesOnlyWhere (result ≡ Err JournalFault.DiskFailed) (D.faults self.old.disk) (D.faults self.new.disk) }
+    {
         let size = self.disk.length()?;
         let begun = self.begin()?;
         if begun {
@@ -93,6 +112,8 @@ impl<D: Disk> Follower<D> {
         ensures same_state { state_in self.new ≡ state_in self.old }
         ensures same_count { count_in self.new ≡ count_in self.old }
         ensures turns { (D.store self.old.disk).told ≡ true → IsWithin (D.store self.old.disk).reads self.old → Turns (D.store self.old.disk).reads self.new result }
+        ensures done { self.new.done ≡ self.old.done }
+        ensures shows { ShowsMore (D.shown self.old.disk) (D.shown self.new.disk) (λ shown. IsBegun shown (spot self.old) (spot self.new) result) }
         ensures same { D.store self.new.disk ≡ D.store self.old.disk }
         ensures cause { RisesOnlyWhere (result ≡ Err JournalFault.DiskFailed) (D.faults self.old.disk) (D.faults self.new.disk) }
     {
@@ -115,6 +136,7 @@ impl<D: Disk> Follower<D> {
         requires small { size < 2 ^ 63 }
         ensures goes { GoesOn self.old self.new }
         ensures turns { (D.store self.old.disk).told ≡ true → size ≡ length (D.store self.old.disk).reads → IsWithin (D.store self.old.disk).reads self.old → MatchResult result (λ _. Turns (D.store self.old.disk).reads self.new (Ok false)) (λ e. Turns (D.store self.old.disk).reads self.new (Err e)) }
+        ensures shows { ShowsMore (D.shown self.old.disk) (D.shown self.new.disk) (λ shown. MatchResult result (λ _. Passes shown (spot self.old) (spot self.new) × (ShowsShut self.new.gate shown ⊎ (size ≤ self.new.gate))) (IsRefused shown (spot self.old) (spot self.new))) }
         ensures same { D.store self.new.disk ≡ D.store self.old.disk }
         ensures cause { RisesOnlyWhere (result ≡ Err JournalFault.DiskFailed) (D.faults self.old.disk) (D.faults self.new.disk) }
     {
@@ -143,6 +165,7 @@ impl<D: Disk> Follower<D> {
         ensures begun { 0 < self.new.gate }
         ensures goes { GoesOn self.old self.new }
         ensures turns { (D.store self.old.disk).told ≡ true → length (D.store self.old.disk).reads < 2 ^ 64 → IsWithin (D.store self.old.disk).reads self.old → Turns (D.store self.old.disk).reads self.new result }
+        ensures shows { ShowsMore (D.shown self.old.disk) (D.shown self.new.disk) (λ shown. IsTurn shown (spot self.old) (spot self.new) result) }
         ensures same { D.store self.new.disk ≡ D.store self.old.disk }
         ensures cause { RisesOnlyWhere (result ≡ Err JournalFault.DiskFailed) (D.faults self.old.disk) (D.faults self.new.disk) }
     {
@@ -164,6 +187,7 @@ impl<D: Disk> Follower<D> {
         ensures begun { 0 < self.new.gate }
         ensures goes { GoesOn self.old self.new }
         ensures turns { (D.store self.old.disk).told ≡ true → length (D.store self.old.disk).reads < 2 ^ 64 → IsWithin (D.store self.old.disk).reads self.old → Turns (D.store self.old.disk).reads self.new result }
+        ensures shows { ShowsMore (D.shown self.old.disk) (D.shown self.new.disk) (λ shown. IsTurn shown (spot self.old) (spot self.new) result) }
         ensures same { D.store self.new.disk ≡ D.store self.old.disk }
         ensures cause { RisesOnlyWhere (result ≡ Err JournalFault.DiskFailed) (D.faults self.old.disk) (D.faults self.new.disk) }
     {
@@ -179,6 +203,7 @@ impl<D: Disk> Follower<D> {
         ensures begun { 0 < self.new.gate }
         ensures goes { GoesOn self.old self.new }
         ensures turns { (reads : List ℕ) → length reads < 2 ^ 64 → BeginsFrom self.old.gate read.now reads → IsWithin reads self.old → Turns reads self.new result }
+        ensures shows { (asked : ℕ) → IsTurn (bytes_from self.old.gate asked read.now ∷ []) (spot self.old) (spot self.new) result }
         ensures disk { self.new.disk ≡ self.old.disk }
         ensures quiet { result ≡ Err JournalFault.DiskFailed → ⊥ }
     {
@@ -197,6 +222,7 @@ impl<D: Disk> Follower<D> {
         ensures begun { 0 < self.new.gate }
         ensures goes { GoesOn self.old self.new }
         ensures turns { (D.store self.old.disk).told ≡ true → length (D.store self.old.disk).reads < 2 ^ 64 → IsWithin (D.store self.old.disk).reads self.old → Turns (D.store self.old.disk).reads self.new result }
+        ensures shows { ShowsMore (D.shown self.old.disk) (D.shown self.new.disk) (λ shown. IsTurn shown (spot self.old) (spot self.new) result) }
         ensures same { D.store self.new.disk ≡ D.store self.old.disk }
         ensures cause { RisesOnlyWhere (result ≡ Err JournalFault.DiskFailed) (D.faults self.old.disk) (D.faults self.new.disk) }
     {
@@ -218,6 +244,7 @@ impl<D: Disk> Follower<D> {
         ensures begun { 0 < self.new.gate }
         ensures goes { GoesOn self.old self.new }
         ensures turns { (reads : List ℕ) → length reads < 2 ^ 64 → HasBlock payload.now (drop self.old.gate reads) → IsWithin reads self.old → MatchResult result (λ _. IsWithin reads self.new) (λ e. Turns reads self.new (Err e)) }
+        ensures shows { (shown : List Shown) → Since (ShowsBlock self.old.gate payload.now) shown → MatchResult result (λ _. Passes shown (spot self.old) (spot self.new)) (IsRefused shown (spot self.old) (spot self.new)) }
         ensures place { OnOk result (self.new.gate ≡ next) }
         ensures disk { self.new.disk ≡ self.old.disk }
         ensures quiet { result ≡ Err JournalFault.DiskFailed → ⊥ }

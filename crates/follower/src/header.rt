@@ -1,6 +1,8 @@
 //! The first bytes of a journal that another program writes.
 ghost use Rattle.std.specs.Prelude.{◌≡◌, List, ℕ, length, take, true, IfOk, OnErr};
 ghost use Rattle.follower.specs.Headers.{BeginsAs};
+ghost use Rattle.follower.specs.Seen.{SeesHead};
+ghost use Rattle.journal_file.specs.Shows.{ShowsMore};
 ghost use Rattle.rtb_base.specs.Faults.{CountsErrors};
 
 use rtb_disk::Disk;
@@ -21,6 +23,7 @@ pub(crate) enum Header {
 // told as neither.
 pub(crate) fn read_header<D: Disk>(disk: &mut D) -> Result<Header, Failed>
     ensures begins { (D.store disk.old).told ≡ true → IfOk result (BeginsAs (D.store disk.old).reads) }
+    ensures shows { ShowsMore (D.shown disk.old) (D.shown disk.new) (λ shown. IfOk result (λ header. SeesHead (λ head. BeginsAs head header) shown)) }
     ensures same { D.store disk.new ≡ D.store disk.old }
     ensures cause { CountsErrors (D.faults disk.old) (D.faults disk.new) result }
 {

@@ -1,12 +1,8 @@
--- What is always true of a table of campaigns, the edits that are remembered, and what was found last.
-use Rattle.std.specs.Prelude.{ℕ, ◌≡◌, ◌≤◌, List}
+-- What is always true of a table of campaigns and the edits that are remembered.
+use Rattle.std.specs.Prelude.{◌≡◌}
 use Rattle.campaign_store.specs.Table.{TableState}
-use Rattle.index_versions.specs.Fixed.{Pairs, WereFound}
-use Rattle.index_versions.specs.Recent.{RecentEdits, newest, touched_after}
+use Rattle.index_versions.specs.Recent.{RecentEdits, newest}
 
--- the last edit of the table is remembered, and what was found at edit number `edit` can be corrected, unless
--- edits since are forgotten
-pub record IsScene (a : Pairs) (found : List ℕ) (edit : ℕ) (recent : RecentEdits) (table : TableState) : Type 0 where
-  pub level : newest recent ≡ table.edits
-  pub past : edit ≤ newest recent
-  pub were : recent.oldest ≤ edit → WereFound a found (touched_after edit recent) table.campaigns
+-- the last edit of the table is remembered
+abbrev pub IsScene : RecentEdits → TableState → Type 0
+IsScene recent table = newest recent ≡ table.edits

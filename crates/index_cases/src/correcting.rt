@@ -1,23 +1,18 @@
 //! Calls of `index_versions`: what was found in a version of the index, corrected while campaigns are edited.
 //!
-//! A campaign is written as its expression, as `case_exprs` says. What keeps it true that what was found can
-//! be corrected are the laws of `index_versions`, which are called and run nothing.
+//! A campaign is written as its expression, as `case_exprs` says.
 ghost use Rattle.std.specs.Prelude.{◌≡◌, ◌≤◌, ◌<◌, ◌^◌, IfOk, None, Some, length};
 ghost use Rattle.campaign_store.specs.Limits.{passed_limit};
 ghost use Rattle.campaign_store.specs.Table.{entries_with};
 ghost use Rattle.conj_index.specs.Campaigns.{DoRise, conjunctions_in};
-ghost use Rattle.conj_index.specs.Find.{true_under};
-ghost use Rattle.index_versions.specs.Versions.{campaigns_of, live_in};
+ghost use Rattle.index_versions.specs.Versions.{campaigns_of};
 
 use crate::matching::put_numbers;
 use crate::records::record_of;
 use campaign_store::{Limit, SharedRecord, Snapshot, Table};
 use case_exprs::assignment_in;
 use case_lines::number_in;
-use index_versions::{
-    Recent, a_snapshot_can_be_built, build_next, corrected, edits_are_remembered,
-    what_was_found_can_be_corrected,
-};
+use index_versions::{Recent, a_snapshot_can_be_built, build_next, touched_since, true_among};
 use rtb_base::Steps;
 use rtb_num::{List, Txt, write_decimal};
 use std::alloc::{AllocError, Global};
@@ -53,7 +48,7 @@ impl Model for Scene {
 
     ghost view = { λ s. s.table };
 
-    ghost invariant = { λ s. IsScene s.assignment s.found.numbers s.found.edit s.recent s.table };
+    ghost invariant = { λ s. IsScene s.recent s.table };
 }
 
 /// Answers the commands for what is assigned, with `; ` between two answers.
@@ -79,7 +74,6 @@ pub fn run<L: Ledger>(
 
 impl Scene {
     fn new(alloc: Global, assignment: Assignment) -> Scene {
-        what_was_found_can_be_corrected();
         Scene {
             assignment,
             table: Table::new(alloc),
@@ -175,8 +169,6 @@ impl Scene {
         requires room { passed_limit (entries_with None entry.now self.old.campaigns) ≡ None }
         requires few { self.old.edits < 2 ^ 63 }
     {
-        what_was_found_can_be_corrected();
-        edits_are_remembered();
         self.table.reserve()?;
         self.recent.reserve()?;
         let shared = entry.share()?;
@@ -227,8 +219,6 @@ impl Scene {
         requires room { passed_limit (entries_with (Some n) entry.now self.old.campaigns) ≡ None }
         requires few { self.old.edits < 2 ^ 63 }
     {
-        what_was_found_can_be_corrected();
-        edits_are_remembered();
         self.recent.reserve()?;
         let shared = entry.share()?;
         self.table.change(n, shared);
@@ -241,8 +231,6 @@ impl Scene {
         if self.table.edits() >= MOST_EDITS || self.table.live(n) != Some(true) {
             return Ok(false);
         }
-        what_was_found_can_be_corrected();
-        edits_are_remembered();
         self.recent.reserve()?;
         self.table.pause(n);
         self.recent.note(n);
@@ -254,8 +242,6 @@ impl Scene {
         if self.table.edits() >= MOST_EDITS || self.table.live(n) != Some(false) {
             return Ok(false);
         }
-        what_was_found_can_be_corrected();
-        edits_are_remembered();
         self.recent.reserve()?;
         self.table.resume(n);
         self.recent.note(n);
@@ -287,7 +273,6 @@ impl Scene {
         steps: &mut Steps<L>,
         out: &mut Txt,
     ) -> Result<(), AllocError> {
-        what_was_found_can_be_corrected();
         self.found = find_now(alloc, &self.table, &self.assignment, steps)?;
         put_numbers(self.found.numbers.as_slice(), out)
     }
@@ -297,7 +282,6 @@ impl Scene {
         if edit < self.recent.oldest() || self.table.edits() < edit {
             return false;
         }
-        edits_are_remembered();
         self.recent.forget_to(edit);
         true
     }
@@ -308,16 +292,33 @@ impl Scene {
         steps: &mut Steps<L>,
         out: &mut Txt,
     ) -> Result<(), AllocError> {
-        let numbers = corrected(
-            alloc,
-            &self.found.numbers,
-            self.found.edit,
-            &self.recent,
-            &self.table,
-            &self.assignment,
-            steps,
-        )?;
-        put_corrected(numbers, out)
+        match touched_since(alloc, &self.recent, self.found.edit)? {
+            Some(touched) => {
+                let put = self.put_corrected(alloc, touched.as_slice(), steps, out);
+                drop(touched);
+                put
+            }
+            None => out.extend(b"too-old"),
+        }
+    }
+
+    // What was found and not touched since, and what was touched and is true now.
+    fn put_corrected<L: Ledger>(
+        &self,
+        alloc: Global,
+        touched: &[u32],
+        steps: &mut Steps<L>,
+        out: &mut Txt,
+    ) -> Result<(), AllocError> {
+        let now = true_among(alloc, touched, &self.table, &self.assignment, steps)?;
+        let mut numbers = Vec::from_slice(alloc, now.as_slice())?;
+        for n in self.found.numbers.as_slice() {
+            if !touched.contains(n) {
+                numbers.push(*n)?;
+            }
+        }
+        numbers.sort_unstable();
+        put_numbers(numbers.as_slice(), out)
     }
 }
 
@@ -327,22 +328,15 @@ fn find_now<L: Ledger>(
     table: &Table,
     assignment: &Assignment,
     steps: &mut Steps<L>,
-) -> Result<Found, AllocError>
-    ensures numbers { IfOk result (λ found. found.numbers ≡ true_under assignment.now (live_in table.now.campaigns)) }
-    ensures edit { IfOk result (λ found. found.edit ≡ table.now.edits) }
-{
+) -> Result<Found, AllocError> {
     let snapshot = snapshot_of(table)?;
-    let found = find_in(alloc, &snapshot, assignment, steps);
-    drop(snapshot);
-    found
+    find_in(alloc, snapshot, assignment, steps)
 }
 
 // The snapshot of a table. Its count says that all limits are kept.
 fn snapshot_of(table: &Table) -> Result<Snapshot, AllocError>
     ensures rising { IfOk result (λ s. DoRise (campaigns_of s.live)) }
     ensures few { IfOk result (λ s. conjunctions_in (campaigns_of s.live) ≤ 1000000) }
-    ensures live { IfOk result (λ s. campaigns_of s.live ≡ live_in table.now.campaigns) }
-    ensures edit { IfOk result (λ s. s.edit ≡ table.now.edits) }
 {
     a_snapshot_can_be_built();
     table.count();
@@ -351,14 +345,12 @@ fn snapshot_of(table: &Table) -> Result<Snapshot, AllocError>
 
 fn find_in<L: Ledger>(
     alloc: Global,
-    snapshot: &Snapshot,
+    snapshot: Snapshot,
     assignment: &Assignment,
     steps: &mut Steps<L>,
 ) -> Result<Found, AllocError>
-    requires rising { DoRise (campaigns_of snapshot.now.live) }
-    requires few { conjunctions_in (campaigns_of snapshot.now.live) ≤ 1000000 }
-    ensures numbers { IfOk result (λ found. found.numbers ≡ true_under assignment.now (campaigns_of snapshot.now.live)) }
-    ensures edit { IfOk result (λ found. found.edit ≡ snapshot.now.edit) }
+    requires rising { DoRise (campaigns_of snapshot.live) }
+    requires few { conjunctions_in (campaigns_of snapshot.live) ≤ 1000000 }
 {
     let version = build_next(alloc, snapshot, steps)?;
     let edit = version.edit;
@@ -418,15 +410,4 @@ fn put_limit(limit: Limit, out: &mut Txt) -> Result<(), AllocError> {
         Limit::TextBytes => b"text-bytes",
     };
     out.extend(word)
-}
-
-fn put_corrected(numbers: Option<List<u32>>, out: &mut Txt) -> Result<(), AllocError> {
-    match numbers {
-        Some(numbers) => {
-            let put = put_numbers(numbers.as_slice(), out);
-            drop(numbers);
-            put
-        }
-        None => out.extend(b"too-old"),
-    }
 }

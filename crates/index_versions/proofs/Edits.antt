@@ -7,7 +7,7 @@ use Rattle.campaign_store.specs.Table.{campaign_at, with_changed}
 use Rattle.campaign_store.specs.declared.listed.Listed.{Listed}
 use Rattle.conj_index.proofs.Members.{has_left, has_right}
 use Rattle.conj_index.specs.Find.{true_under}
-use Rattle.index_versions.specs.Fixed.{Pairs, WereFound, is_among}
+use Rattle.index_versions.specs.Fixed.{DifferAtMostIn, Pairs, WereFound, is_among}
 use Rattle.index_versions.specs.Recent.{RecentEdits, newest, touched_after}
 use Rattle.index_versions.specs.Versions.{live_in}
 use Rattle.index_versions.proofs.Present.{among_has, counted_from_one, has_among}
@@ -56,26 +56,30 @@ not_touched_before touched n m out =
 not_the_last : (touched : List ℕ) (n m : ℕ) → is_among (touched ++ n ∷ []) m ≡ false → m ≢ n
 not_the_last touched n m out e = false≢true (sym out ∙ has_among (touched ++ n ∷ []) m (has_right touched (n ∷ []) m (inl e)))
 
-one_more : (a : Pairs) (found touched : List ℕ) (now next : List Listed) (n : ℕ) → ((m : ℕ) → m ≢ n → campaign_at next m ≡ campaign_at now m)
-    → WereFound a found touched now → WereFound a found (touched ++ n ∷ []) next
-one_more a found touched now next n elsewhere were = record {
-  before = were.before;
-  differ = λ m out. were.differ m (not_touched_before touched n m out) ∙ sym (elsewhere m (not_the_last touched n m out));
-  true_then = were.true_then;
-}
+one_more : (touched : List ℕ) (before now next : List Listed) (n : ℕ) → ((m : ℕ) → m ≢ n → campaign_at next m ≡ campaign_at now m) → DifferAtMostIn touched before now → DifferAtMostIn (touched ++ n ∷ []) before next
+one_more touched before now next n elsewhere differ = λ m out. differ m (not_touched_before touched n m out) ∙ sym (elsewhere m (not_the_last touched n m out))
+
+pub differ_at_once : (now : List Listed) → DifferAtMostIn [] now now
+differ_at_once now = λ n out. refl
+
+pub differ_changed : (touched : List ℕ) (before now : List Listed) (change : Listed → Listed) (n : ℕ) → DifferAtMostIn touched before now → DifferAtMostIn (touched ++ n ∷ []) before (with_changed change n now)
+differ_changed touched before now change n = one_more touched before now (with_changed change n now) n (λ m apart. changed_elsewhere change n m now apart)
+
+pub differ_added : (touched : List ℕ) (before now : List Listed) (c : Listed) → DifferAtMostIn touched before now → DifferAtMostIn (touched ++ (length now + 1) ∷ []) before (now ++ c ∷ [])
+differ_added touched before now c = one_more touched before now (now ++ c ∷ []) (length now + 1) (λ m apart. added_elsewhere m now c apart)
 
 pub found_at_once : (a : Pairs) (now : List Listed) → WereFound a (true_under a (live_in now)) [] now
-found_at_once a now = record { before = now; differ = λ m out. refl; true_then = refl }
+found_at_once a now = record { before = now; differ = differ_at_once now; true_then = refl }
 
 pub found_before_change : (a : Pairs) (found touched : List ℕ) (now : List Listed) (change : Listed → Listed) (n : ℕ) → WereFound a found touched now
     → WereFound a found (touched ++ n ∷ []) (with_changed change n now)
-found_before_change a found touched now change n =
-    one_more a found touched now (with_changed change n now) n (λ m apart. changed_elsewhere change n m now apart)
+found_before_change a found touched now change n were =
+    record { before = were.before; differ = differ_changed touched were.before now change n were.differ; true_then = were.true_then }
 
 pub found_before_added : (a : Pairs) (found touched : List ℕ) (now : List Listed) (c : Listed) → WereFound a found touched now
     → WereFound a found (touched ++ (length now + 1) ∷ []) (now ++ c ∷ [])
-found_before_added a found touched now c =
-    one_more a found touched now (now ++ c ∷ []) (length now + 1) (λ m apart. added_elsewhere m now c apart)
+found_before_added a found touched now c were =
+    record { before = were.before; differ = differ_added touched were.before now c were.differ; true_then = were.true_then }
 
 -- ---- the edits that are remembered
 

@@ -1,5 +1,5 @@
 -- What is fixed by the edits since is what is true now.
-use Rattle.std.proofs.Common.{◌≡◌, ℕ, zero, suc, ◌+◌, ◌-◌, ◌<◌, ◌≤◌, inl, inr, ◌==◌, eqb-true, List, [], ◌∷◌, ◌++◌, length, get_or, slice_get, sum_by, Bool, true, false, ◌&&◌, cond, filter, map, flat_map, Option, Some, None, refl, sym, ◌∙◌, ap, subst, arith}
+use Rattle.std.proofs.Common.{◌≡◌, ℕ, zero, suc, ◌+◌, ◌<◌, ◌-◌, ◌≤◌, inl, inr, ◌==◌, eqb-true, List, [], ◌∷◌, ◌++◌, length, get_or, slice_get, sum_by, Bool, true, false, ◌&&◌, cond, filter, map, flat_map, Option, Some, None, refl, sym, ◌∙◌, ap, subst, arith}
 use Rattle.std.specs.List.{enumerate_from}
 use Rattle.std.specs.List.Sorted.{IsStrictlyIncreasing}
 use Rattle.std.specs.Option.{option_map_or}
@@ -15,6 +15,7 @@ use Rattle.target_expr.specs.declared.pred.Pred.{Pred}
 use Rattle.target_expr.specs.Truth.{holds}
 use Rattle.conj_index.proofs.Members.{Has, Up, any_has, filter_has, has_any, has_filter, has_mapped, mapped_has, up_from_increasing}
 use Rattle.index_versions.specs.Fixed.{Pairs, WereFound, fix_cost, fixed, is_among, is_fixed, is_true, touched_cost}
+use Rattle.index_versions.specs.Touched.{conjunctions_of}
 use Rattle.index_versions.specs.Versions.{live_in, numbered_expression}
 
 -- ---- campaigns by number
@@ -99,20 +100,6 @@ increasing_from_up (x ∷ y ∷ xs) up (suc k) within =
     let next : suc (k + 1) ≡ suc k + 1 = omega arith in
     subst (λ (n : ℕ). get_or (y ∷ xs) k 0 < get_or (x ∷ y ∷ xs) n 0) next (increasing_from_up (y ∷ xs) up.1 k (omega arith))
 
--- ---- what is fixed
-
-pub fixed_has : (a : Pairs) (found touched : List ℕ) (now : List Listed) (n : ℕ) → Has n (fixed a found touched now) → (c : Listed) × (campaign_at now n ≡ Some c) × (is_fixed a found touched (n, c) ≡ true)
-fixed_has a found touched now n h = numbers_has (is_fixed a found touched) now n h
-
-pub has_fixed : (a : Pairs) (found touched : List ℕ) (now : List Listed) (n : ℕ) (c : Listed) → campaign_at now n ≡ Some c → is_fixed a found touched (n, c) ≡ true → Has n (fixed a found touched now)
-has_fixed a found touched now n c at is = has_numbers (is_fixed a found touched) now n c at is
-
-pub fixed_up : (a : Pairs) (found touched : List ℕ) (now : List Listed) → Up (fixed a found touched now)
-fixed_up a found touched now = numbers_up (is_fixed a found touched) 1 now
-
-pub fixed_rises : (a : Pairs) (found touched : List ℕ) (now : List Listed) → IsStrictlyIncreasing (fixed a found touched now)
-fixed_rises a found touched now = increasing_from_up (fixed a found touched now) (fixed_up a found touched now)
-
 -- ---- the campaigns that are live and true
 
 -- one campaign in front
@@ -141,11 +128,6 @@ true_by_number a cs = true_from a 1 cs
 
 pub found_by_number : (a : Pairs) (found touched : List ℕ) (now : List Listed) (were : WereFound a found touched now) → found ≡ numbers_from (λ (p : ℕ × Listed). is_true a p.1) 1 were.before
 found_by_number a found touched now were = were.true_then ∙ true_by_number a were.before
-
-pub found_rises : (a : Pairs) (found touched : List ℕ) (now : List Listed) → WereFound a found touched now → IsStrictlyIncreasing found
-found_rises a found touched now were =
-    let test : ℕ × Listed → Bool = λ (p : ℕ × Listed). is_true a p.1 in
-    subst IsStrictlyIncreasing (sym (found_by_number a found touched now were)) (increasing_from_up (numbers_from test 1 were.before) (numbers_up test 1 were.before))
 
 -- what was found and not touched is true now
 pub found_has : (a : Pairs) (found touched : List ℕ) (now : List Listed) → WereFound a found touched now → (n : ℕ) → is_among touched n ≡ false → Has n found
@@ -206,17 +188,6 @@ fixed_is_true_now a found touched now were =
     (same_filters (is_fixed a found touched) test (enumerate_from 1 now) (λ p h. same_at a found touched now were p.0 p.1 (at_listed now p.0 p.1 h)))
     ∙ sym (true_by_number a now)
 
--- ---- the same numbers in another list
-
-pub same_fixed : (a : Pairs) (found touched ts : List ℕ) (now : List Listed) → ((n : ℕ) → is_among ts n ≡ is_among touched n) → fixed a found ts now ≡ fixed a found touched now
-same_fixed a found touched ts now same =
-    ap (map (λ (p : ℕ × Listed). p.0))
-    (same_filters (is_fixed a found ts) (is_fixed a found touched) (enumerate_from 1 now) (λ p h. ap (λ b. cond b (is_true a p.1) (is_among found p.0)) (same p.0)))
-
-pub same_found : (a : Pairs) (found touched ts : List ℕ) (now : List Listed) → ((n : ℕ) → is_among ts n ≡ is_among touched n) → WereFound a found touched now → WereFound a found ts now
-same_found a found touched ts now same were =
-    record { before = were.before; differ = λ n untouched. were.differ n (sym (same n) ∙ untouched); true_then = were.true_then }
-
 same_sums : {X : Type 0} (f g : X → ℕ) (xs : List X) → ((x : X) → Has x xs → f x ≡ g x) → sum_by f xs ≡ sum_by g xs
 same_sums f g [] same = refl
 same_sums f g (x ∷ xs) same =
@@ -224,15 +195,7 @@ same_sums f g (x ∷ xs) same =
     let rest : sum_by f xs ≡ sum_by g xs = same_sums f g xs (λ y h. same y (inr h)) in
     omega (arith, sum_by-cons f x xs, sum_by-cons g x xs, first, rest)
 
-pub same_cost : (touched ts : List ℕ) (now : List Listed) → ((n : ℕ) → is_among ts n ≡ is_among touched n) → fix_cost ts now ≡ fix_cost touched now
-same_cost touched ts now same =
-    same_sums (touched_cost ts) (touched_cost touched) (enumerate_from 1 now) (λ p h. ap (λ b. cond b (length p.1.entry.expr) 0) (same p.0))
-
 -- ---- what it costs
-
--- the conjunctions of campaign n
-abbrev pub cost_of : List Listed → ℕ → ℕ
-cost_of now n = option_map_or (λ (c : Listed). length c.entry.expr) (campaign_at now n) 0
 
 -- those of the campaign at a place
 abbrev cost_at : List Listed → ℕ → ℕ
@@ -277,26 +240,26 @@ cost_from touched m (c ∷ cs) (t ∷ ts) up above among =
     over_first n past (inl f) = omega (arith, past, f)
     over_first n past (inr h) = omega (arith, past, up.0 n h)
 
-same_place : (now : List Listed) (t : ℕ) → 1 ≤ t → cost_of now t ≡ cost_at now (t - 1)
+same_place : (now : List Listed) (t : ℕ) → 1 ≤ t → conjunctions_of now t ≡ cost_at now (t - 1)
 same_place now zero some = absurd (omega arith)
 same_place now (suc k) some =
     let before : k ≡ suc k - 1 = omega arith in
     ap (λ (o : Option Listed). option_map_or (λ (c : Listed). length c.entry.expr) o 0) (counted_from_one now k ∙ ap (slice_get now) before)
 
-cost_from_one : (touched ts : List ℕ) (now : List Listed) → Up ts → ((n : ℕ) → Has n ts → 1 ≤ n) → ((n : ℕ) → Has n ts → is_among touched n ≡ true) → sum_by (cost_of now) ts ≤ fix_cost touched now
+cost_from_one : (touched ts : List ℕ) (now : List Listed) → Up ts → ((n : ℕ) → Has n ts → 1 ≤ n) → ((n : ℕ) → Has n ts → is_among touched n ≡ true) → sum_by (conjunctions_of now) ts ≤ fix_cost touched now
 cost_from_one touched ts now up above among =
-    let same = same_sums (cost_of now) (λ (t : ℕ). cost_at now (t - 1)) ts (λ t h. same_place now t (above t h)) in
+    let same = same_sums (conjunctions_of now) (λ (t : ℕ). cost_at now (t - 1)) ts (λ t h. same_place now t (above t h)) in
     omega (arith, same, cost_from touched 1 now ts up above among)
 
-cost_up : (touched ts : List ℕ) (now : List Listed) → Up ts → ((n : ℕ) → Has n ts → is_among touched n ≡ true) → sum_by (cost_of now) ts ≤ fix_cost touched now
+cost_up : (touched ts : List ℕ) (now : List Listed) → Up ts → ((n : ℕ) → Has n ts → is_among touched n ≡ true) → sum_by (conjunctions_of now) ts ≤ fix_cost touched now
 cost_up touched [] now up among = omega arith
 cost_up touched (zero ∷ ts) now up among =
-    omega (arith, sum_by-cons (cost_of now) 0 ts, cost_from_one touched ts now up.1 (λ n h. omega (arith, up.0 n h)) (λ n h. among n (inr h)))
+    omega (arith, sum_by-cons (conjunctions_of now) 0 ts, cost_from_one touched ts now up.1 (λ n h. omega (arith, up.0 n h)) (λ n h. among n (inr h)))
 cost_up touched (suc k ∷ ts) now up among = cost_from_one touched (suc k ∷ ts) now up above among
   where
     above : (n : ℕ) → Has n (suc k ∷ ts) → 1 ≤ n
     above n (inl f) = omega (arith, f)
     above n (inr h) = omega (arith, up.0 n h)
 
-pub cost : (touched ts : List ℕ) (now : List Listed) → IsStrictlyIncreasing ts → ((n : ℕ) → is_among ts n ≡ is_among touched n) → sum_by (cost_of now) ts ≤ fix_cost touched now
+pub cost : (touched ts : List ℕ) (now : List Listed) → IsStrictlyIncreasing ts → ((n : ℕ) → is_among ts n ≡ is_among touched n) → sum_by (conjunctions_of now) ts ≤ fix_cost touched now
 cost touched ts now rises same = cost_up touched ts now (up_from_increasing ts rises) (λ n h. sym (same n) ∙ has_among ts n h)

@@ -1,3 +1,4 @@
 pub mod Fixed
 pub mod Recent
+pub mod Touched
 pub mod Versions

@@ -8,6 +8,7 @@ ghost use Rattle.index_versions.specs.Versions.{campaigns_of, version_cost};
 use campaign_store::{LiveRecord, Snapshot};
 use conj_index::{Builder, Index, IndexFault};
 use rtb_base::Steps;
+use rtb_num::List;
 use std::alloc::{AllocError, Global};
 use std::sync::Arc;
 use std::sync::ledger::Ledger;
@@ -17,6 +18,8 @@ use std::sync::ledger::Ledger;
 pub struct Version {
     pub edit: u64,
     pub index: Index,
+    /// Those campaigns, in the order of their numbers.
+    pub live: List<LiveRecord>,
 }
 
 /// The version of a snapshot: it stands for the live campaigns that the snapshot has.
@@ -24,20 +27,36 @@ pub struct Version {
 /// One step is one campaign, or one pair of attribute and value in an expression.
 pub fn build_next<L: Ledger>(
     alloc: Global,
-    s: &Snapshot,
+    s: Snapshot,
     steps: &mut Steps<L>,
 ) -> Result<Arc<Version>, AllocError>
-    requires rising { DoRise (campaigns_of s.now.live) }
-    requires few { conjunctions_in (campaigns_of s.now.live) ≤ 1000000 }
-    ensures edit { IfOk result (λ v. (arc_value v).edit ≡ s.now.edit) }
-    ensures content { IfOk result (λ v. IsIndexOf (campaigns_of s.now.live) (arc_value v).index) }
-    ensures cost { steps.new ≤ steps.old + version_cost s.now.live }
+    requires rising { DoRise (campaigns_of s.live) }
+    requires few { conjunctions_in (campaigns_of s.live) ≤ 1000000 }
+    ensures edit { IfOk result (λ v. (arc_value v).edit ≡ s.edit) }
+    ensures live { IfOk result (λ v. (arc_value v).live ≡ s.live) }
+    ensures content { IfOk result (λ v. IsIndexOf (campaigns_of s.live) (arc_value v).index) }
+    ensures cost { steps.new ≤ steps.old + version_cost s.live }
 {
-    let index = index_of(alloc, s.live.as_slice(), steps)?;
-    let version = Version {
-        edit: s.edit,
-        index,
-    };
+    match index_of(alloc, s.live.as_slice(), steps) {
+        Ok(index) => share(
+            alloc,
+            Version {
+                edit: s.edit,
+                index,
+                live: s.live,
+            },
+        ),
+        Err(AllocError) => {
+            drop(s);
+            Err(AllocError)
+        }
+    }
+}
+
+// One value that many share.
+fn share(alloc: Global, version: Version) -> Result<Arc<Version>, AllocError>
+    ensures { IfOk result (λ v. arc_value v ≡ version) }
+{
     Ok(Arc::new(alloc, version)?)
 }
 

@@ -7,3 +7,4 @@ pub mod GateLemmas
 pub mod CreationLemmas
 pub mod CompactLemmas
 pub mod OneText
+pub mod Shown

@@ -6,6 +6,8 @@ pub mod Gates
 pub mod Openings
 pub mod Pieces
 pub mod Readings
+pub mod Showing
+pub mod Shows
 pub mod Sizes
 pub mod Standing
 pub mod Unfinished

@@ -4,6 +4,8 @@ ghost use Rattle.rtb_base.specs.Faults.{CountsErrors, RisesOnlyWhere};
 ghost use Rattle.byte_fields.specs.Encodings.{eight_bytes};
 ghost use Rattle.journal_file.specs.Damage.{IsBlockAt, IsShut};
 ghost use Rattle.journal_file.specs.Gates.{begins_open};
+ghost use Rattle.journal_file.specs.Showing.{IsBehindShown, IsGateShown, IsNumberShown, IsRestShown, IsSizeShown};
+ghost use Rattle.journal_file.specs.Shows.{IsBlockShown, ShowsMore};
 ghost use Rattle.journal_file.specs.Sizes.{IsSizeAt, IsWholeSize};
 
 use crate::faults::JournalFault;
@@ -29,6 +31,8 @@ pub fn block_at<D: Disk>(
     ensures appended { IfOk result (λ found. MatchOption found (out.new ≡ out.old) (λ next. (more : List ℕ) × (out.new ≡ out.old ++ more) × (next ≡ gate + 9 + length more))) }
     ensures kept { OnErr result (out.new ≡ out.old) }
     ensures place { (at : ℕ) → result ≡ Err (JournalFault.Damaged at) → at ≡ gate }
+    // By what this call was shown alone, so also where another writer appends meanwhile.
+    ensures shows { ShowsMore (D.shown disk.old) (D.shown disk.new) (λ more. IsBlockShown gate more out.old out.new result) }
     ensures same { D.store disk.new ≡ D.store disk.old }
     ensures cause { RisesOnlyWhere (result ≡ Err JournalFault.DiskFailed) (D.faults disk.old) (D.faults disk.new) }
 {
@@ -42,6 +46,7 @@ pub fn block_at<D: Disk>(
 fn is_open<D: Disk>(disk: &mut D, gate: u64) -> Result<bool, Failed>
     ensures open { (D.store disk.old).told ≡ true → result ≡ Ok true → (rest : List ℕ) × (drop gate (D.store disk.old).reads ≡ 1 ∷ rest) }
     ensures shut { (D.store disk.old).told ≡ true → result ≡ Ok false → IsShut (drop gate (D.store disk.old).reads) }
+    ensures shows { ShowsMore (D.shown disk.old) (D.shown disk.new) (λ more. IfOk result (IsGateShown gate more)) }
     ensures same { D.store disk.new ≡ D.store disk.old }
     ensures cause { CountsErrors (D.faults disk.old) (D.faults disk.new) result }
 {
@@ -71,6 +76,7 @@ fn block_behind<D: Disk>(
     ensures appended { IfOk result (λ found. MatchOption found (out.new ≡ out.old) (λ next. (more : List ℕ) × (out.new ≡ out.old ++ more) × (next ≡ gate + 9 + length more))) }
     ensures kept { OnErr result (out.new ≡ out.old) }
     ensures place { (at : ℕ) → result ≡ Err (JournalFault.Damaged at) → at ≡ gate }
+    ensures shows { ShowsMore (D.shown disk.old) (D.shown disk.new) (λ more. IsBehindShown gate more out.old out.new result) }
     ensures same { D.store disk.new ≡ D.store disk.old }
     ensures cause { RisesOnlyWhere (result ≡ Err JournalFault.DiskFailed) (D.faults disk.old) (D.faults disk.new) }
 {
@@ -86,6 +92,7 @@ fn whole_size<D: Disk>(disk: &mut D, gate: u64) -> Result<Option<u64>, Failed>
     ensures whole { (D.store disk.old).told ≡ true → IfOk result (λ found. (rest : List ℕ) → drop gate (D.store disk.old).reads ≡ 1 ∷ rest → IsWholeSize rest found) }
     ensures inside { (D.store disk.old).told ≡ true → IfOk result (λ found. IfSome found (λ size. gate + 9 + size < length (D.store disk.old).reads)) }
     ensures fits { IfOk result (λ found. IfSome found (λ size. gate + 10 + size < 2 ^ 63)) }
+    ensures shows { ShowsMore (D.shown disk.old) (D.shown disk.new) (λ more. IfOk result (IsSizeShown gate more)) }
     ensures same { D.store disk.new ≡ D.store disk.old }
     ensures cause { CountsErrors (D.faults disk.old) (D.faults disk.new) result }
 {
@@ -104,6 +111,7 @@ fn whole_size<D: Disk>(disk: &mut D, gate: u64) -> Result<Option<u64>, Failed>
 // The length at the place; none where the disk ends first.
 fn size_at<D: Disk>(disk: &mut D, place: u64) -> Result<Option<u64>, Failed>
     ensures size { (D.store disk.old).told ≡ true → IfOk result (IsSizeAt (drop place (D.store disk.old).reads)) }
+    ensures shows { ShowsMore (D.shown disk.old) (D.shown disk.new) (λ more. IfOk result (IsNumberShown place more)) }
     ensures same { D.store disk.new ≡ D.store disk.old }
     ensures cause { CountsErrors (D.faults disk.old) (D.faults disk.new) result }
 {
@@ -135,6 +143,7 @@ fn payload_behind<D: Disk>(
     ensures appended { IfOk result (λ found. MatchOption found (out.new ≡ out.old) (λ next. (more : List ℕ) × (out.new ≡ out.old ++ more) × (next ≡ gate + 9 + length more))) }
     ensures kept { OnErr result (out.new ≡ out.old) }
     ensures place { (at : ℕ) → result ≡ Err (JournalFault.Damaged at) → at ≡ gate }
+    ensures shows { ShowsMore (D.shown disk.old) (D.shown disk.new) (λ more. IsRestShown gate size more out.old out.new result) }
     ensures same { D.store disk.new ≡ D.store disk.old }
     ensures cause { RisesOnlyWhere (result ≡ Err JournalFault.DiskFailed) (D.faults disk.old) (D.faults disk.new) }
 {

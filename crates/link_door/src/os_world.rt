@@ -10,6 +10,7 @@ use rtb_num::{Failed, List, Txt};
 use std::alloc::{AllocError, Global};
 use std::io;
 use std::net::{TcpListener, ToSocketAddrs};
+use std::sync::Wait;
 use std::time::Duration;
 
 /// The network, the files and the clock of the system.
@@ -17,25 +18,30 @@ use std::time::Duration;
 /// A file that is handed out to be written has the system's lock from before it is read until it is let go of, or its
 /// process ends: no second process gets it so. Why a file or a door was not handed out is said on standard error.
 #[derive(Drop)]
-pub struct OsWorld<'r> {
+pub struct OsWorld<'r, R: Wait> {
     rt: &'r HostRuntime,
+    // By which its doors wait for one another.
+    waits: &'r R,
     asked: List<Asked>,
     faults: u64,
 }
 
-impl<'r> OsWorld<'r> {
+impl<'r, R: Wait + Sync> OsWorld<'r, R> {
     /// The world that the runtime gives. It was asked for nothing, and has met no fault.
-    pub fn new(rt: &'r HostRuntime) -> OsWorld<'r>
-        ensures asked { ⟦<OsWorld<'r> as World>⟧.asked result ≡ [] }
-        ensures faults { ⟦<OsWorld<'r> as World>⟧.faults result ≡ 0 }
+    pub fn new(rt: &'r HostRuntime, waits: &'r R) -> OsWorld<'r, R>
+        ensures asked { ⟦<OsWorld<'r, R> as World>⟧.asked result ≡ [] }
+        ensures faults { ⟦<OsWorld<'r, R> as World>⟧.faults result ≡ 0 }
     {
         OsWorld {
             rt,
+            waits,
             asked: List::new(rt.alloc()),
             faults: 0,
         }
     }
+}
 
+impl<'r, R: Wait> OsWorld<'r, R> {
     // Counts a fault.
     fn count_fault(&mut self)
         ensures counted { self.new.faults ≡ one_more self.old.faults }
@@ -46,8 +52,8 @@ impl<'r> OsWorld<'r> {
     }
 }
 
-impl<'r> World for OsWorld<'r> {
-    type Door = TcpDoor<&'r HostRuntime>;
+impl<'r, R: Wait + Sync> World for OsWorld<'r, R> {
+    type Door = TcpDoor<&'r HostRuntime, &'r R>;
 
     type Disk = FileDisk<'r>;
 
@@ -65,13 +71,13 @@ impl<'r> World for OsWorld<'r> {
         address: &Txt,
         n: u32,
         patience: u64,
-    ) -> Result<List<TcpDoor<&'r HostRuntime>>, WorldFault> {
+    ) -> Result<List<TcpDoor<&'r HostRuntime, &'r R>>, WorldFault> {
         note_doors(&mut self.asked, address, n, patience)?;
         let Some(listener) = listen(self.rt, address) else {
             self.count_fault();
             return Err(WorldFault::Failed);
         };
-        match doors_over(alloc, self.rt, listener, n, patience) {
+        match doors_over(alloc, self.rt, self.waits, listener, n, patience) {
             Err(WorldFault::Failed) => {
                 self.count_fault();
                 Err(WorldFault::Failed)
@@ -136,13 +142,14 @@ fn listen_at(rt: &HostRuntime, address: &str) -> io::Result<TcpListener> {
 }
 
 // So many doors over the listener.
-fn doors_over<'r>(
+fn doors_over<'r, R: Wait>(
     alloc: Global,
     rt: &'r HostRuntime,
+    waits: &'r R,
     listener: TcpListener,
     n: u32,
     patience: u64,
-) -> Result<List<TcpDoor<&'r HostRuntime>>, WorldFault>
+) -> Result<List<TcpDoor<&'r HostRuntime, &'r R>>, WorldFault>
     ensures { IfOk result (λ doors. length doors ≡ n) }
 {
     let mut doors = List::new(alloc);
@@ -150,7 +157,7 @@ fn doors_over<'r>(
         return Ok(doors);
     }
     let patience = Duration::from_millis(patience.max(1));
-    let Ok(first) = TcpDoor::new(alloc, rt, listener, rt, patience) else {
+    let Ok(first) = TcpDoor::new(alloc, rt, listener, rt, waits, patience) else {
         return Err(WorldFault::Failed);
     };
     for _ in 1..n {

@@ -9,6 +9,7 @@ use rtb_num::Failed;
 use std::alloc::Global;
 use std::io::{self, Read, Write};
 use std::net::{Net, TcpListener, TcpStream};
+use std::sync::Wait;
 use std::time::{Clock, Duration, Instant, SystemTime};
 
 /// How many errors of accepting in a row one call of `next` gets over, and a link of writes that are broken off.
@@ -189,30 +190,34 @@ impl<C: Clock + Copy> Link for TcpLink<C> {
 /// accepting fails it tries again, and `next` fails after the hundredth error in one call. Where the clock cannot be read,
 /// `moment` repeats the last moment, which is 0 at first.
 #[derive(Drop)]
-pub struct TcpDoor<C: Clock + Copy + Send> {
+pub struct TcpDoor<C: Clock + Copy + Send, W: Wait + Copy> {
     // None while a link has it.
     entrance: Option<Entrance>,
     clock: C,
+    // By which it waits for others at the door.
+    waits: W,
     patience: Duration,
     last: u64,
     faults: u64,
 }
 
-impl<C: Clock + Copy + Send> TcpDoor<C> {
+impl<C: Clock + Copy + Send, W: Wait + Copy> TcpDoor<C, W> {
     /// A door over the listener, which does not block from now on. The patience is no less than a microsecond.
     pub fn new<R: Net>(
         alloc: Global,
         net: &R,
         listener: TcpListener,
         clock: C,
+        waits: W,
         patience: Duration,
-    ) -> io::Result<TcpDoor<C>>
-        ensures { IfOk result (λ d. ⟦<TcpDoor<C> as Door>⟧.faults d ≡ 0) }
+    ) -> io::Result<TcpDoor<C, W>>
+        ensures { IfOk result (λ d. ⟦<TcpDoor<C, W> as Door>⟧.faults d ≡ 0) }
     {
         let entrance = Entrance::new(alloc, net, listener)?;
         Ok(TcpDoor {
             entrance: Some(entrance),
             clock,
+            waits,
             patience,
             last: 0,
             faults: 0,
@@ -220,8 +225,8 @@ impl<C: Clock + Copy + Send> TcpDoor<C> {
     }
 
     /// Another door to the same address, where this one has given no link.
-    pub fn beside<R: Net>(&self, alloc: Global, net: &R) -> io::Result<TcpDoor<C>>
-        ensures { IfOk result (λ d. ⟦<TcpDoor<C> as Door>⟧.faults d ≡ 0) }
+    pub fn beside<R: Net>(&self, alloc: Global, net: &R) -> io::Result<TcpDoor<C, W>>
+        ensures { IfOk result (λ d. ⟦<TcpDoor<C, W> as Door>⟧.faults d ≡ 0) }
     {
         let Some(entrance) = &self.entrance else {
             return Err(io::Error::from(io::ErrorKind::WouldBlock));
@@ -230,6 +235,7 @@ impl<C: Clock + Copy + Send> TcpDoor<C> {
         Ok(TcpDoor {
             entrance: Some(entrance),
             clock: self.clock,
+            waits: self.waits,
             patience: self.patience,
             last: 0,
             faults: 0,
@@ -237,7 +243,7 @@ impl<C: Clock + Copy + Send> TcpDoor<C> {
     }
 }
 
-impl<C: Clock + Copy + Send> Door for TcpDoor<C> {
+impl<C: Clock + Copy + Send, W: Wait + Copy> Door for TcpDoor<C, W> {
     type Link = TcpLink<C>;
 
     ghost held = { λ _. None };
@@ -248,7 +254,7 @@ impl<C: Clock + Copy + Send> Door for TcpDoor<C> {
         let Some(entrance) = self.entrance.take() else {
             return Err(count_fault(&mut self.faults));
         };
-        match next_link(entrance, self.clock, self.patience) {
+        match next_link(entrance, self.clock, &self.waits, self.patience) {
             Ok(link) => Ok(Some(link)),
             Err(entrance) => {
                 self.entrance = Some(entrance);
@@ -279,14 +285,15 @@ fn count_fault(faults: &mut u64) -> Failed
 }
 
 // The next link that comes through the entrance, which it has then; or the entrance again.
-fn next_link<C: Clock + Copy>(
+fn next_link<C: Clock + Copy, W: Wait>(
     entrance: Entrance,
     clock: C,
+    waits: &W,
     patience: Duration,
 ) -> Result<TcpLink<C>, Entrance> {
     let mut entrance = entrance;
     for _ in 0..MOST_ERRORS {
-        if let Ok((arrival, since)) = next_arrival(&mut entrance, &clock, patience) {
+        if let Ok((arrival, since)) = next_arrival(&mut entrance, &clock, waits, patience) {
             let Arrival { stream, had_waited } = arrival;
             return Ok(TcpLink {
                 stream,
@@ -305,12 +312,13 @@ fn next_link<C: Clock + Copy>(
 }
 
 // The next stream that comes, made ready, and when it came.
-fn next_arrival<C: Clock>(
+fn next_arrival<C: Clock, W: Wait>(
     entrance: &mut Entrance,
     clock: &C,
+    waits: &W,
     patience: Duration,
 ) -> io::Result<(Arrival, Instant)> {
-    let arrival = entrance.next()?;
+    let arrival = entrance.next(waits)?;
     make_ready(&arrival.stream, patience)?;
     let since = Instant::now(clock)?;
     Ok((arrival, since))

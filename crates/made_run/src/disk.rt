@@ -1,6 +1,6 @@
 //! The disk of a run: bytes in memory, and nothing else. A run is served once and its disk is let go, so it keeps no
 //! record of its calls, as the one of `rtb_disk` does.
-ghost use Rattle.std.specs.Prelude.{◌≡◌, ◌≤◌, length};
+ghost use Rattle.std.specs.Prelude.{◌≡◌, ◌≤◌, length, None};
 ghost use Rattle.rtb_base.specs.Faults.{CountsErrors, one_more};
 ghost use Rattle.rtb_disk.specs.Images.{untold_stands};
 ghost use Rattle.rtb_disk.specs.Stores.{untold};
@@ -83,6 +83,8 @@ fn fill(out: &mut [u8], rest: &[u8]) -> usize
 
 impl Disk for RunDisk {
     ghost store = { λ d. untold };
+
+    ghost shown = { λ d. None };
 
     ghost faults = { λ d. d.faults };
 

@@ -3,12 +3,13 @@
 //!
 //! `case_lines` says what a case is. In a case of the book or the table each field is one command of a script,
 //! which `book.rt` and `table.rt` list, and the answer has what each command says, with `; ` between two.
-//! `rules.rt` has the calls on the rules, and `market.rt` which requests and campaigns their words stand for.
+//! `offers.rt` has clearing, `rules.rt` the calls on the rules, and `market.rt` which requests and campaigns their words stand for.
 #![tactic(auto)]
 
 mod ask;
 mod book;
 mod market;
+mod offers;
 mod records;
 mod rules;
 mod table;
@@ -27,13 +28,16 @@ fn main(rt: HostRuntime) -> ExitCode {
     ExitCode::from(run_cases(&answer, rt.alloc(), &mut source, &mut sink).code())
 }
 
-// The calls `book | ..` and `table | ..`, and those of the rules.
+// The calls `book | ..` and `table | ..`, of clearing, and those of the rules.
 fn answer(alloc: Global, call: &[u8], args: &[Txt], out: &mut Txt) -> Result<bool, AllocError> {
     if call == b"book".as_slice() {
         return done(book::run(alloc, args, out));
     }
     if call == b"table".as_slice() {
         return done(table::run(alloc, args, out));
+    }
+    if offers::answer(alloc, call, args, out)? {
+        return Ok(true);
     }
     rules::answer(alloc, call, args, out)
 }

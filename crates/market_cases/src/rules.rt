@@ -1,5 +1,5 @@
 //! The calls of `deal_rules` and `clearing` on a market.
-ghost use Rattle.std.specs.Prelude.{◌≡◌, Some, slice_get, IfOk, IsTrue};
+ghost use Rattle.std.specs.Prelude.{◌≡◌, ◌<◌, Some, length, slice_get, IfOk, IsTrue};
 ghost use Rattle.std.specs.List.{list_all};
 ghost use Rattle.clearing.specs.Clearing.{is_fit};
 ghost use Rattle.deal_rules.specs.Terms.{terms_of};
@@ -7,8 +7,8 @@ ghost use Rattle.rtb_types.specs.declared.request.Imp.{Imp as Impression};
 
 use crate::market::{Market, market_of};
 use case_lines::{done, put_space};
-use clearing::{Offer, PriceKind, Terms, Win, clear};
-use deal_rules::{Rule, offers, terms, user_of, why_not};
+use clearing::{Offer, PriceKind, Terms, Win, clear, put_in_order};
+use deal_rules::{Asked, Rule, offers, push_candidates, user_of, why_not};
 use rtb_num::{Txt, write_decimal};
 use std::alloc::{AllocError, Global};
 
@@ -16,6 +16,8 @@ use std::alloc::{AllocError, Global};
 ///
 /// - `offers | ..`: the offers for the first impression, all campaigns in their order, as
 ///   `CAMPAIGN:BID:POOL` in micro-dollars, or `none`.
+/// - `candidates | ..`: the candidates for it, whatever is free of their budgets and was shown, in the order in which
+///   one beats the other, in the same form.
 /// - `why_not | ..`: the rule that excludes each campaign, or `offers`.
 /// - `terms | ..`: the terms of each pool, as `second 300000`.
 /// - `sold | ..`: what the offers are cleared to, as `1 pays 1010000 in pool 0`, or `no sale`.
@@ -37,17 +39,35 @@ fn answer_in(
     market: &Market,
     out: &mut Txt,
 ) -> Result<bool, AllocError> {
+    let asked = Asked::new(alloc, &market.request)?;
+    let told = answer_asked(alloc, call, market, &asked, out);
+    drop(asked);
+    told
+}
+
+fn answer_asked(
+    alloc: Global,
+    call: &[u8],
+    market: &Market,
+    asked: &Asked<'_>,
+    out: &mut Txt,
+) -> Result<bool, AllocError>
+    requires some { 0 < length asked.now.imps }
+{
     if call == b"offers".as_slice() {
-        return done(put_offers(alloc, market, out));
+        return done(put_offers(alloc, market, asked, out));
+    }
+    if call == b"candidates".as_slice() {
+        return done(put_candidates(alloc, market, asked, out));
     }
     if call == b"why_not".as_slice() {
-        return done(put_reasons(market, out));
+        return done(put_reasons(market, asked, out));
     }
     if call == b"terms".as_slice() {
-        return done(put_terms(alloc, market, out));
+        return done(put_each_term(asked.terms_at(0), out));
     }
     if call == b"sold".as_slice() {
-        return done(put_sale(alloc, market, out));
+        return done(put_sale(alloc, market, asked, out));
     }
     if call == b"user_of".as_slice() {
         return done(put_user(market, out));
@@ -57,8 +77,15 @@ fn answer_in(
 
 // ---- offers
 
-fn put_offers(alloc: Global, market: &Market, out: &mut Txt) -> Result<(), AllocError> {
-    let offers = all_offers(alloc, market)?;
+fn put_offers(
+    alloc: Global,
+    market: &Market,
+    asked: &Asked<'_>,
+    out: &mut Txt,
+) -> Result<(), AllocError>
+    requires some { 0 < length asked.now.imps }
+{
+    let offers = all_offers(alloc, market, asked)?;
     let told = put_each_offer(&offers, out);
     drop(offers);
     told
@@ -76,24 +103,48 @@ fn put_each_offer(offers: &[Offer], out: &mut Txt) -> Result<(), AllocError> {
 }
 
 // The offers of all campaigns, which fit the terms.
-fn all_offers(alloc: Global, market: &Market) -> Result<Vec<Offer>, AllocError>
-    ensures { (i : Impression) → slice_get market.now.request.imps 0 ≡ Some i → IfOk result (λ os. IsTrue (list_all (is_fit (terms_of market.now.request i)) os.items)) }
+fn all_offers(alloc: Global, market: &Market, asked: &Asked<'_>) -> Result<Vec<Offer>, AllocError>
+    requires some { 0 < length asked.now.imps }
+    ensures { (i : Impression) → slice_get asked.now.imps 0 ≡ Some i → IfOk result (λ os. IsTrue (list_all (is_fit (terms_of asked.now i)) os.items)) }
 {
     let mut all = Vec::new(alloc);
     let mut number: u32 = 0;
     for bidder in &market.bidders {
         number = number.saturating_add(1);
         let shown = bidder.shown_in(&market.request);
-        let more = offers(
-            alloc,
-            &market.request,
-            0,
-            number,
-            &bidder.facts,
-            bidder.free,
-            shown,
-        )?;
+        let more = offers(alloc, asked, 0, number, &bidder.facts, bidder.free, shown)?;
         all.extend_from_slice(more.as_slice())?;
+    }
+    Ok(all)
+}
+
+fn put_candidates(
+    alloc: Global,
+    market: &Market,
+    asked: &Asked<'_>,
+    out: &mut Txt,
+) -> Result<(), AllocError>
+    requires some { 0 < length asked.now.imps }
+{
+    let mut candidates = all_candidates(alloc, market, asked)?;
+    put_in_order(&mut candidates);
+    let told = put_each_offer(&candidates, out);
+    drop(candidates);
+    told
+}
+
+fn all_candidates(
+    alloc: Global,
+    market: &Market,
+    asked: &Asked<'_>,
+) -> Result<Vec<Offer>, AllocError>
+    requires some { 0 < length asked.now.imps }
+{
+    let mut all = Vec::new(alloc);
+    let mut number: u32 = 0;
+    for bidder in &market.bidders {
+        number = number.saturating_add(1);
+        push_candidates(&mut all, asked, 0, number, &bidder.facts)?;
     }
     Ok(all)
 }
@@ -111,11 +162,13 @@ fn put_number(words: &[u8], n: u64, out: &mut Txt) -> Result<(), AllocError> {
 
 // ---- why there is none
 
-fn put_reasons(market: &Market, out: &mut Txt) -> Result<(), AllocError> {
+fn put_reasons(market: &Market, asked: &Asked<'_>, out: &mut Txt) -> Result<(), AllocError>
+    requires some { 0 < length asked.now.imps }
+{
     for (i, bidder) in market.bidders.iter().enumerate() {
         put_space(i, out)?;
         let shown = bidder.shown_in(&market.request);
-        let rule = why_not(&market.request, 0, &bidder.facts, bidder.free, shown);
+        let rule = why_not(asked, 0, &bidder.facts, bidder.free, shown);
         out.extend(name_of(rule))?;
     }
     Ok(())
@@ -143,13 +196,6 @@ fn name_of(rule: Option<Rule>) -> &'static [u8] {
 
 // ---- terms and sales
 
-fn put_terms(alloc: Global, market: &Market, out: &mut Txt) -> Result<(), AllocError> {
-    let terms = terms(alloc, &market.request, 0)?;
-    let told = put_each_term(terms.as_slice(), out);
-    drop(terms);
-    told
-}
-
 fn put_each_term(terms: &[Terms], out: &mut Txt) -> Result<(), AllocError> {
     for (i, term) in terms.iter().enumerate() {
         put_space(i, out)?;
@@ -167,12 +213,17 @@ fn kind_name(kind: PriceKind) -> &'static [u8] {
     }
 }
 
-fn put_sale(alloc: Global, market: &Market, out: &mut Txt) -> Result<(), AllocError> {
-    let terms = terms(alloc, &market.request, 0)?;
-    let offers = all_offers(alloc, market)?;
-    let win = clear(&offers, terms.as_slice());
+fn put_sale(
+    alloc: Global,
+    market: &Market,
+    asked: &Asked<'_>,
+    out: &mut Txt,
+) -> Result<(), AllocError>
+    requires some { 0 < length asked.now.imps }
+{
+    let offers = all_offers(alloc, market, asked)?;
+    let win = clear(&offers, asked.terms_at(0));
     drop(offers);
-    drop(terms);
     put_win(win, out)
 }
 

@@ -4,7 +4,7 @@
 //! `case_exprs` says how expressions and assignments are written.
 ghost use Rattle.std.specs.Prelude.{◌≡◌, ◌<◌};
 
-use crate::campaigns::{campaign_of, place_in};
+use crate::campaigns::place_in;
 use assign::assignment;
 use bumpalo::Bump;
 use case_exprs::{assignment_in, make_expr};
@@ -29,12 +29,8 @@ use target_expr::{Assignment, Attr, Expr, ExprBytes, ExprFault, Pair, attr_named
 /// - `encode_expr | EXPRESSION`: its bytes. `decode_expr | BYTES | PLACE`: the place behind it and the
 ///   expression, or where it is torn.
 /// - `assign | REQUEST | IMP`: what the impression of the JSON text assigns.
-/// - `request_holds | CAMPAIGN | REQUEST | IMP`: whether the target of the campaign holds of it.
 pub fn answer(alloc: Global, call: &[u8], args: &[Txt], out: &mut Txt) -> Result<bool, AllocError> {
     match args {
-        [campaign, request, imp] if call == b"request_holds".as_slice() => {
-            done(put_request_holds(alloc, campaign, request, imp, out))
-        }
         [first, second] => of_two(alloc, call, first, second, out),
         [one] => of_one(alloc, call, one, out),
         _ => Ok(false),
@@ -266,40 +262,6 @@ fn request_of(alloc: Global, text: &Txt) -> Option<BidRequest> {
     }
 }
 
-fn put_request_holds(
-    alloc: Global,
-    campaign: &Txt,
-    request: &Txt,
-    imp: &Txt,
-    out: &mut Txt,
-) -> Result<(), AllocError> {
-    match campaign_of(alloc, campaign)? {
-        Some(read) => {
-            let written = put_holds_for(alloc, &read.1, request, imp, out);
-            drop(read);
-            written
-        }
-        None => out.extend(b"unreadable"),
-    }
-}
-
-fn put_holds_for(
-    alloc: Global,
-    target: &Expr,
-    request: &Txt,
-    imp: &Txt,
-    out: &mut Txt,
-) -> Result<(), AllocError> {
-    match assignment_of(alloc, request, imp)? {
-        Some(assignment) => {
-            let told = put_truth(target, &assignment, out);
-            drop(assignment);
-            told
-        }
-        None => out.extend(b"unreadable"),
-    }
-}
-
 // The calls that take an expression alone.
 fn of_expr(alloc: Global, call: &[u8], written: &[u8], out: &mut Txt) -> Result<bool, AllocError> {
     if call == b"make_expr".as_slice()
@@ -353,18 +315,8 @@ fn put_size(expr: &Expr, out: &mut Txt) -> Result<(), AllocError> {
     put_count(b" conjunctions, ", expr.values() as u64, out)?;
     put_count(b" values, ", expr.text_bytes(), out)?;
     out.extend(b" bytes, sizes")?;
-    put_sizes(expr, out)
-}
-
-fn put_sizes(expr: &Expr, out: &mut Txt) -> Result<(), AllocError> {
     let sizes = expr.sizes()?;
-    let told = put_each_size(sizes.as_slice(), out);
-    drop(sizes);
-    told
-}
-
-fn put_each_size(sizes: &[u32], out: &mut Txt) -> Result<(), AllocError> {
-    for size in sizes {
+    for size in sizes.as_slice() {
         put_count(b" ", u64::from(*size), out)?;
     }
     Ok(())
@@ -372,13 +324,7 @@ fn put_each_size(sizes: &[u32], out: &mut Txt) -> Result<(), AllocError> {
 
 fn put_pairs(expr: &Expr, out: &mut Txt) -> Result<(), AllocError> {
     let pairs = pairs(expr)?;
-    let told = put_each_pair(pairs.as_slice(), out);
-    drop(pairs);
-    told
-}
-
-fn put_each_pair(pairs: &[Pair], out: &mut Txt) -> Result<(), AllocError> {
-    for pair in pairs {
+    for pair in pairs.as_slice() {
         put_count(b"", u64::from(pair.conjunction), out)?;
         put_count(b"/", u64::from(pair.size), out)?;
         out.push(b' ')?;
@@ -388,8 +334,8 @@ fn put_each_pair(pairs: &[Pair], out: &mut Txt) -> Result<(), AllocError> {
     Ok(())
 }
 
-/// The fault in words, with the places of its conjunction and its predicate.
-pub fn put_expr_fault(fault: ExprFault, out: &mut Txt) -> Result<(), AllocError> {
+// The fault in words, with the places of its conjunction and its predicate.
+fn put_expr_fault(fault: ExprFault, out: &mut Txt) -> Result<(), AllocError> {
     match fault {
         ExprFault::NoConjunction => out.extend(b"no-conjunction"),
         ExprFault::Memory => Err(AllocError),

@@ -1,44 +1,11 @@
--- Checksums and campaigns, one more at a time.
-use Rattle.std.proofs.Common.{◌≡◌, ℕ, zero, suc, ◌+◌, ◌*◌, ◌%◌, ◌^◌, ◌≤◌, ◌<◌, List, [], ◌∷◌, ◌++◌, length, map, take, drop, get_or, All, refl, sym, ◌∙◌, ap, subst, arith}
-use Rattle.std.specs.List.{AllPairs, flat_map}
-use Rattle.std.proofs.Math.Nat.{mod-add-mod}
+-- Campaigns, one more at a time.
+use Rattle.std.proofs.Common.{◌≡◌, ℕ, zero, suc, ◌+◌, ◌*◌, ◌≤◌, ◌<◌, List, [], ◌∷◌, ◌++◌, length, take, drop, get_or, All, refl, sym, ◌∙◌, ap, subst, arith}
+use Rattle.std.specs.List.{AllPairs}
 use Rattle.std.proofs.lemmas.List.Kept.{AllPairs-from_increasing}
 use Rattle.std.proofs.lemmas.List.{take_more, take-append-drop, length-append, append-nil, map-append}
 use Rattle.std.proofs.lemmas.List.Concat.{flat_map-append}
-use Rattle.target_expr.specs.declared.attr.Attr.{Attr}
 use Rattle.target_expr.specs.declared.pred.Pred.{Pred}
 use Rattle.conj_index.specs.Campaigns.{Campaigns, DoRise, conjunctions_in, expression_of, numbers_of}
-use Rattle.conj_index.specs.Find.{true_under}
-use Rattle.rtb_bench.specs.Found.{AreSums, all_found, check_from, with_number}
-use Rattle.rtb_bench.specs.declared.named_work.index_work.Sums.{Sums}
-
-pub check_append : (check : ℕ) (xs ys : List ℕ) → check_from check (xs ++ ys) ≡ check_from (check_from check xs) ys
-check_append check [] ys = refl
-check_append check (x ∷ xs) ys = check_append (with_number check x) xs ys
-
-pub check_more : (check : ℕ) (ns : List ℕ) (i d : ℕ) → i < length ns → check_from check (take (i + 1) ns) ≡ with_number (check_from check (take i ns)) (get_or ns i d)
-check_more check ns i d h = ap (check_from check) (take_more ns i d h) ∙ check_append check (take i ns) (get_or ns i d ∷ [])
-
-pub all_more : (added : Campaigns) (asked : List (List (Attr × List ℕ))) (i : ℕ) (d : List (Attr × List ℕ)) → i < length asked
-    → all_found added (take (i + 1) asked) ≡ all_found added (take i asked) ++ true_under (get_or asked i d) added
-all_more added asked i d h =
-    let find_in = λ (a : List (Attr × List ℕ)). true_under a added in
-    ap (flat_map find_in) (take_more asked i d h) ∙ flat_map-append find_in (take i asked) (get_or asked i d ∷ [])
-    ∙ ap (λ l. all_found added (take i asked) ++ l) (append-nil (true_under (get_or asked i d) added))
-
-pub more_sums : (before ns : List ℕ) (s t : Sums) → AreSums before s → t.found ≡ (s.found + length ns) % 2 ^ 64 → t.check ≡ check_from s.check ns → AreSums (before ++ ns) t
-more_sums before ns s t are found check = record {
-  found = found ∙ ap (λ n. (n + length ns) % 2 ^ 64) are.found ∙ mod-add-mod (length before) (2 ^ 64) (length ns) ∙ ap (λ n. n % 2 ^ 64) (sym (length-append before ns));
-  check = check ∙ ap (λ n. check_from n ns) are.check ∙ sym (check_append 0 before ns);
-}
-
--- one assignment more
-pub sums_step : (added : Campaigns) (asked : List (List (Attr × List ℕ))) (i : ℕ) (d : List (Attr × List ℕ)) (ns : List ℕ) (t : Sums) → i < length asked → d ≡ get_or asked i d → ns ≡ true_under d added
-    → AreSums (all_found added (take i asked) ++ ns) t → AreSums (all_found added (take (i + 1) asked)) t
-sums_step added asked i d ns t h at is are =
-    let same : all_found added (take i asked) ++ ns ≡ all_found added (take (i + 1) asked)
-    = ap (λ l. all_found added (take i asked) ++ l) (is ∙ ap (λ (a : List (Attr × List ℕ)). true_under a added) at) ∙ sym (all_more added asked i d h) in
-    subst (λ (l : List ℕ). AreSums l t) same are
 
 -- ---- campaigns that are added in turn
 

@@ -1,7 +1,1 @@
 pub mod Turns
-pub mod Counts
-pub mod Answer
-pub mod Found
-pub mod Work
-pub mod States
-pub mod Changes

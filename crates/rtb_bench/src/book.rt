@@ -15,6 +15,7 @@ ghost use Rattle.budget_book.specs.Sales.{committed_of};
 use budget_book::{Book, MOST_SALES, UserKey};
 use rtb_num::Nanos;
 use std::alloc::{AllocError, Global};
+use std::io;
 use std::marker::Model;
 
 // A million dollars, in nano-dollars.
@@ -28,7 +29,7 @@ const HELD: u64 = 1_000;
 
 // A book, how many campaigns it has, and how many sales are to be made.
 #[derive(Drop)]
-pub struct Shop {
+struct Shop {
     book: Book,
     campaigns: u32,
     sales: u32,
@@ -45,6 +46,37 @@ impl Model for Shop {
     ghost invariant = { λ s. s.campaigns ≡ length s.book.campaigns };
 }
 
+/// Makes a book with so many campaigns and room for so many sales, takes the step of each line of standard input, up to an
+/// empty one, and prints it and how many sales it reached.
+pub fn run(rt: &HostRuntime, campaigns: u32, sales: u32) -> Result<(), AllocError> {
+    let mut shop = Shop {
+        book: Book::new(rt.alloc()),
+        campaigns: 0,
+        sales,
+    };
+    let told = match shop.add_all(campaigns) {
+        Ok(()) => take_steps(rt, &mut shop),
+        Err(_) => Err(io::ErrorKind::OutOfMemory.into()),
+    };
+    drop(shop);
+    match told {
+        Ok(()) => Ok(()),
+        Err(_) => Err(AllocError),
+    }
+}
+
+fn take_steps(rt: &HostRuntime, shop: &mut Shop) -> io::Result<()> {
+    for line in rt.lines(rt.alloc()) {
+        let line = line?;
+        if line.is_empty() {
+            return Ok(());
+        }
+        let reached = shop.take_step(rt.alloc(), line.as_str())?;
+        println!(rt; "{line} {reached}")?;
+    }
+    Ok(())
+}
+
 // The user of the sale at that place, from 0 on: another one for each, in no order.
 fn user_of(i: u32) -> [u8; 16] {
     let mut user = *b"0000000000000000";
@@ -59,7 +91,7 @@ fn user_of(i: u32) -> [u8; 16] {
 }
 
 // A number of 32 bits for each place, as good as drawn at random.
-fn drawn(i: u32) -> u64 {
+fn mixed(i: u32) -> u64 {
     let word = (u64::from(i) + 1).wrapping_mul(0x9e37_79b9_7f4a_7c15);
     (word ^ word >> 32).wrapping_mul(0x9e37_79b9_7f4a_7c15) >> 32
 }
@@ -73,22 +105,6 @@ enum Order {
 }
 
 impl Shop {
-    // A book with so many campaigns, and room for so many sales.
-    pub fn open(alloc: Global, campaigns: u32, sales: u32) -> Result<Shop, AllocError> {
-        let mut shop = Shop {
-            book: Book::new(alloc),
-            campaigns: 0,
-            sales,
-        };
-        match shop.add_all(campaigns) {
-            Ok(()) => Ok(shop),
-            Err(refused) => {
-                drop(shop);
-                Err(refused)
-            }
-        }
-    }
-
     fn add_all(&mut self, campaigns: u32) -> Result<(), AllocError> {
         self.book.reserve_room(self.sales, 0)?;
         for _ in 0..campaigns {
@@ -111,7 +127,7 @@ impl Shop {
     }
 
     // Takes the step of that name. How many sales it reached.
-    pub fn take_step(&mut self, alloc: Global, name: &str) -> Result<u64, AllocError> {
+    fn take_step(&mut self, alloc: Global, name: &str) -> Result<u64, AllocError> {
         match name {
             "make" => self.make_users(alloc),
             "sell" => self.sell_all(alloc, Order::Rising),
@@ -151,7 +167,7 @@ impl Shop {
         match order {
             Order::Rising => u64::from(i) + HELD,
             Order::Falling => u64::from(self.sales.saturating_sub(i)) + HELD - 1,
-            Order::Mixed => drawn(i).checked_rem(u64::from(self.sales)).unwrap_or(0) + HELD,
+            Order::Mixed => mixed(i).checked_rem(u64::from(self.sales)).unwrap_or(0) + HELD,
         }
     }
 

@@ -3,7 +3,7 @@ use Rattle.std.specs.Prelude.{◌≡◌, ℕ, ◌+◌, ◌-◌, ◌≤◌, ◌<�
 use Rattle.std.proofs.Common.{refl, sym, ◌∙◌, ap, arith, ⊎_elim, append_assoc, length-append, length-drop}
 use Rattle.std.proofs.lemmas.List.{take_at, drop_at, drop-drop, take-take, take_min, take_all, drop_all, length-take, length-replicate, take-append-le, append-nil}
 use Rattle.std.proofs.lemmas.Bool.{cases_lt, false≢true}
-use Rattle.rtb_disk.specs.Stores.{Store, Torn, TornCut, IsImage, untold, fresh, write, overwritten}
+use Rattle.rtb_disk.specs.Stores.{Store, Torn, TornCut, IsImage, untold, fresh, overwritten}
 use Rattle.rtb_disk.specs.Record.{effect, filled, part, replay, written}
 use Rattle.rtb_disk.specs.Memory.{DiskState, store_of}
 use Rattle.rtb_disk.specs.declared.calls.Call.{Call}

@@ -1,5 +1,5 @@
 //! A disk in a file of the system.
-ghost use Rattle.std.specs.Prelude.{◌≡◌, ◌≤◌, length, IfOk, IfSome};
+ghost use Rattle.std.specs.Prelude.{◌≡◌, ◌≤◌, length, None, IfOk, IfSome};
 ghost use Rattle.rtb_base.specs.Faults.{CountsErrors, one_more};
 ghost use Rattle.rtb_disk.specs.Stores.{untold};
 ghost use Rattle.rtb_disk.specs.Images.{untold_stands};
@@ -163,6 +163,8 @@ fn read_on(file: &File, place: u64, out: &mut [u8]) -> io::Result<usize>
 
 impl<'r> Disk for FileDisk<'r> {
     ghost store = { λ d. untold };
+
+    ghost shown = { λ d. None };
 
     ghost faults = { λ d. d.faults };
 

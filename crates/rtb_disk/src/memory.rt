@@ -172,6 +172,8 @@ impl Disk for MemDisk {
 
     ghost store = { store_of };
 
+    ghost shown = { λ d. None };
+
     ghost faults = { λ d. d.calls.faults };
 
     fn length(&mut self) -> Result<u64, Failed>

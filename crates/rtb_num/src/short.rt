@@ -53,23 +53,6 @@ impl Short {
         }
     }
 
-    // The text of the first `n` bytes. Those behind them are copied too, and are no part of it: a copy of
-    // a length that is known is a few moves.
-    #[inline(always)]
-    pub(crate) fn front_of(alloc: Global, bytes: &[u8], n: usize) -> Short
-        requires room { n ≤ 24 }
-        requires bytes { 24 ≤ length bytes.now }
-        ensures { result ≡ take n bytes.now }
-    {
-        let mut kept = [0; ROOM];
-        kept.copy_from_slice(&bytes[..ROOM]);
-        Short {
-            alloc,
-            len: n as u32,
-            bytes: kept,
-        }
-    }
-
     #[inline]
     pub(crate) fn as_slice(&self) -> &[u8]
         ensures { result.now ≡ self.now }

@@ -77,19 +77,6 @@ impl Txt {
         Ok(Txt::from_vec(copy))
     }
 
-    /// A text of the first `n` bytes, or of all where there are fewer.
-    #[inline(always)]
-    pub fn from_front(alloc: Global, bytes: &[u8], n: usize) -> Result<Txt, AllocError>
-        ensures { IfOk result (λ t. t ≡ take n bytes.now) }
-    {
-        if n <= ROOM && ROOM <= bytes.len() {
-            return Ok(Txt {
-                kept: Kept::Short(Short::front_of(alloc, bytes, n)),
-            });
-        }
-        Txt::from_slice(alloc, &bytes[..n.min(bytes.len())])
-    }
-
     /// How many bytes it has.
     #[inline]
     pub fn len(&self) -> usize

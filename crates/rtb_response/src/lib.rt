@@ -8,5 +8,5 @@ mod bid;
 mod reply;
 mod response;
 
-pub use reply::{closed, error_reply, put_report, write_reply};
+pub use reply::{closed, error_reply, limit_word, put_report, write_reply};
 pub use response::write_response;

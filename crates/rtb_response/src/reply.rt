@@ -236,11 +236,12 @@ fn put_full(writer: &mut Writer, limit: Limit) -> Result<(), AllocError>
 {
     writer.obj()?;
     writer.put_text(b"error", b"full")?;
-    writer.put_text(b"limit", word_of(limit))?;
+    writer.put_text(b"limit", limit_word(limit))?;
     Ok(())
 }
 
-fn word_of(limit: Limit) -> &'static [u8]
+/// The word by which an answer names a limit.
+pub fn limit_word(limit: Limit) -> &'static [u8]
     ensures { result.now ≡ limit_word limit }
 {
     match limit {

@@ -5,7 +5,7 @@ ghost use Rattle.std.specs.Prelude.{◌≢◌};
 ghost use Rattle.rtb_io.specs.declared.status.Status.TheVariants.{NotWritten};
 
 use exchange_run::{end_with, explain, run};
-use link_door::{NoPause, OsWorld, World};
+use link_door::{OsWorld, Pause, World};
 use rtb_io::Status;
 use rtb_num::{Sink, Source, StdSink, StdSource, Txt};
 use std::alloc::Global;
@@ -15,6 +15,8 @@ use std::io::{self, Write};
 use std::process::ExitCode;
 use std::rt::Env;
 use std::sync::Wait;
+use std::sync::atomic::AtomicU64;
+use std::sync::atomic::Ordering::SeqCst;
 use std::thread::Threads;
 
 fn main(rt: HostRuntime) -> ExitCode {
@@ -51,9 +53,19 @@ fn run_words<R: Threads + Wait + Sync>(rt: &HostRuntime, threads: &R) -> u8 {
     match words_of(rt) {
         Ok(words) => {
             let mut source = StdSource::new(rt.reader());
-            let mut world = OsWorld::new(rt);
+            let mut world = OsWorld::new(rt, threads);
             let words = words.as_slice();
-            let status = status_of_run(alloc, words, &mut world, &mut source, &mut sink, threads);
+            let limits = Limits::new(rt);
+            let status = status_of_run(
+                alloc,
+                words,
+                &mut world,
+                &limits,
+                &mut source,
+                &mut sink,
+                threads,
+            );
+            drop(limits);
             complain(alloc, words, &mut rt.stderr());
             status
         }
@@ -66,10 +78,11 @@ fn run_words<R: Threads + Wait + Sync>(rt: &HostRuntime, threads: &R) -> u8 {
 }
 
 // Runs the command, and lets go of what the world handed out.
-fn status_of_run<W: World, S: Source, K: Sink, R: Threads + Wait + Sync>(
+fn status_of_run<W: World, P: Pause + Sync, S: Source, K: Sink, R: Threads + Wait + Sync>(
     alloc: Global,
     words: &[Txt],
     world: &mut W,
+    pause: &P,
     source: &mut S,
     sink: &mut K,
     rt: &R,
@@ -77,10 +90,65 @@ fn status_of_run<W: World, S: Source, K: Sink, R: Threads + Wait + Sync>(
 where
     W::Disk: Drop,
 {
-    let outcome = run(alloc, words, world, &NoPause, source, sink, rt);
+    let outcome = run(alloc, words, world, pause, source, sink, rt);
     let status = outcome.status;
     drop(outcome);
     status
+}
+
+// Says on standard error which limit was met, once for each.
+#[derive(Drop)]
+struct Limits<'r> {
+    rt: &'r HostRuntime,
+    // The bits of those that were said.
+    said: AtomicU64,
+}
+
+impl<'r> Limits<'r> {
+    fn new(rt: &'r HostRuntime) -> Limits<'r> {
+        Limits {
+            rt,
+            said: AtomicU64::new(0),
+        }
+    }
+}
+
+impl<'r> Pause for Limits<'r> {
+    fn between(&self, _: u32) {}
+
+    fn met(&self, limit: &[u8]) {
+        let bit = bit_of(limit);
+        if self.said.fetch_or(bit, SeqCst) & bit == 0 {
+            say_full(self.rt, limit);
+        }
+    }
+}
+
+// A bit for each of the limits that an answer may say was met.
+fn bit_of(limit: &[u8]) -> u64 {
+    if limit == b"sales".as_slice() {
+        return 1;
+    }
+    if limit == b"campaigns".as_slice() {
+        return 2;
+    }
+    if limit == b"conjunctions".as_slice() {
+        return 4;
+    }
+    if limit == b"values".as_slice() {
+        return 8;
+    }
+    16
+}
+
+fn say_full(rt: &HostRuntime, limit: &[u8]) {
+    let mut line = Txt::new(rt.alloc());
+    let written = line.extend(b"rtbx: full: ").is_ok()
+        && line.extend(limit).is_ok()
+        && line.push(b'\n').is_ok();
+    if written {
+        let _ = rt.stderr().write_all(line.as_bytes());
+    }
 }
 
 // The words behind the program's name.

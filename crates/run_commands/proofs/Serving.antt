@@ -6,7 +6,7 @@ use Rattle.door_worker.specs.Languages.{rtb}
 use Rattle.exchange_shared.specs.Opening.{IsOriginOver}
 use Rattle.exchange_shared.specs.Seats.{IsOrdered}
 use Rattle.exchange_state.proofs.Rising.{faults_later, rising_front}
-use Rattle.exchange_state.specs.Standing.{SaysFront}
+use Rattle.exchange_state.specs.Standing.{SaysFront, SaysSomeSince}
 use Rattle.exchange_state.specs.Tickets.{IsLegalFrom, effects_after}
 use Rattle.exchange_state.specs.Views.{IsRising, calls, failures, faults_told, mine, stable}
 use Rattle.exchange_state.specs.declared.entries.Entry.{Entry}
@@ -29,6 +29,10 @@ use Rattle.worker_pool.specs.declared.pool.PoolEnd.TheVariants as ending
 abbrev pub SaysFronts : Store → History → Type 0
 SaysFronts store past = past.origin.told ≡ true → EachImage (SaysFront past.origin past.seen) store.now
 
+-- so it did at each moment since it was opened
+abbrev pub SaysSomes : Store → History → Type 0
+SaysSomes store past = past.origin.told ≡ true → SaysSomeSince past.origin past.seen store
+
 -- where all effects are durable, the front is all
 whole : (o : Origin) (l : List Entry) (image : List ℕ) → stable l ≡ length (effects_after o (calls l)) → SaysFront o l image → HasText image (o.effects ++ effects_after o (calls l))
 whole o l image all says =
@@ -49,9 +53,9 @@ rose_since past b rising =
 
 module _ {Disk Door Link : Type 0} (G : DiskGhosts Disk) (H : DoorGhosts Door Link) (K : LinkGhosts Link) (options : ServeOptions) where
   pub is_idle : (disk disk' : Disk) (o : Origin) (past : History) → IsOriginOver (G.store disk) (G.faults disk) options.ttl o → past.origin ≡ o → past.seen ≡ []
-      → IsLegalFrom past.origin (calls past.seen) → KeepsBudgets past → IsOrdered past.origin past.seen → SaysFronts (G.store disk') past → G.faults disk' ≡ faults_told past.origin past.seen → RoseBy (failures past.seen) past.origin.faults (G.faults disk')
+      → IsLegalFrom past.origin (calls past.seen) → KeepsBudgets past → IsOrdered past.origin past.seen → SaysFronts (G.store disk') past → SaysSomes (G.store disk') past → G.faults disk' ≡ faults_told past.origin past.seen → RoseBy (failures past.seen) past.origin.faults (G.faults disk')
       → IsIdle G H K options disk disk' past
-  is_idle disk disk' o past begins origin none legal budgets order crash faults counted = record {
+  is_idle disk disk' o past begins origin none legal budgets order crash since faults counted = record {
     served = record {
       begins = subst (λ (x : Origin). IsOriginOver (G.store disk) (G.faults disk) options.ttl x) (sym origin) begins;
       legal = legal;
@@ -59,6 +63,7 @@ module _ {Disk Door Link : Type 0} (G : DiskGhosts Disk) (H : DoorGhosts Door Li
       order = order;
       answers = record { alls = []; each = tt; others = λ w le. ap (λ (l : List Entry). mine w (calls l)) none; few = omega arith };
       crash = crash;
+      since = since;
       faults = faults;
       failed = subst (λ (n : ℕ). RoseBy (failures past.seen) n (G.faults disk')) (ap (λ (x : Origin). x.faults) origin ∙ begins.faults_are) counted;
     };
@@ -67,11 +72,11 @@ module _ {Disk Door Link : Type 0} (G : DiskGhosts Disk) (H : DoorGhosts Door Li
 
   pub is_run : (disk disk' : Disk) (doors doors' : List Door) (o : Origin) (past : History) (end : PoolEnd) (before announced written' : Option (List ℕ)) (code : ℕ)
       → IsOriginOver (G.store disk) (G.faults disk) options.ttl o → past.origin ≡ o → IsLegalFrom past.origin (calls past.seen) → KeepsBudgets past → IsOrdered past.origin past.seen
-      → AreServed K (rtb options.public) past (map H.held doors) (map H.held doors') → SaysFronts (G.store disk') past → G.faults disk' ≡ faults_told past.origin past.seen → RoseBy (failures past.seen) past.origin.faults (G.faults disk')
+      → AreServed K (rtb options.public) past (map H.held doors) (map H.held doors') → SaysFronts (G.store disk') past → SaysSomes (G.store disk') past → G.faults disk' ≡ faults_told past.origin past.seen → RoseBy (failures past.seen) past.origin.faults (G.faults disk')
       → LeaveAs H.faults H.held doors doors' end → EndsAs past (map H.faults doors) (map H.faults doors') end
       → Appends before announced (first_line options) → EndsBehind end announced written' code
       → IsRun G H K options disk disk' doors doors' past before written' code
-  is_run disk disk' doors doors' o past end before announced written' code begins origin legal budgets order answers crash faults counted left why line ends = record {
+  is_run disk disk' doors doors' o past end before announced written' code begins origin legal budgets order answers crash since faults counted left why line ends = record {
     served = record {
       begins = subst (λ (x : Origin). IsOriginOver (G.store disk) (G.faults disk) options.ttl x) (sym origin) begins;
       legal = legal;
@@ -79,6 +84,7 @@ module _ {Disk Door Link : Type 0} (G : DiskGhosts Disk) (H : DoorGhosts Door Li
       order = order;
       answers = answers;
       crash = crash;
+      since = since;
       faults = faults;
       failed = subst (λ (n : ℕ). RoseBy (failures past.seen) n (G.faults disk')) (ap (λ (x : Origin). x.faults) origin ∙ begins.faults_are) counted;
     };

@@ -3,7 +3,7 @@ use Rattle.std.specs.Prelude.{◌≡◌, List, ◌++◌, map, true}
 use Rattle.door_worker.specs.Languages.{rtb}
 use Rattle.exchange_shared.specs.Opening.{IsOriginOver}
 use Rattle.exchange_shared.specs.Seats.{IsOrdered}
-use Rattle.exchange_state.specs.Standing.{SaysFront}
+use Rattle.exchange_state.specs.Standing.{SaysFront, SaysSomeSince}
 use Rattle.exchange_state.specs.Tickets.{IsLegalFrom, effects_after}
 use Rattle.exchange_state.specs.Views.{calls, failures, faults_told}
 use Rattle.link_door.specs.declared.door.Door.{Ghosts as DoorGhosts}
@@ -23,8 +23,8 @@ module _ {Disk Door Link : Type 0} (G : DiskGhosts Disk) (H : DoorGhosts Door Li
   -- Between the disk as it was handed out and as it comes back there is one history. It begins with what the disk says,
   -- each reply is that of an exchange of one thread at its place, and budgets hold at every place. The messages of each
   -- door are the calls of its worker, in order. A crash now leaves what the exchange was opened with and a front of the
-  -- effects that came since, which has each that is durable; the disk's count rose by each write that failed, and is what the
-  -- history tells last.
+  -- effects that came since, which has each that is durable; at each moment since the opening it left such a front. The disk's
+  -- count rose by each write that failed, and is what the history tells last.
   pub record IsServed (disk disk' : Disk) (doors doors' : List Door) (past : History) : Type 0 where
     pub begins : IsOriginOver (G.store disk) (G.faults disk) options.ttl past.origin
     pub legal : IsLegalFrom past.origin (calls past.seen)
@@ -32,5 +32,6 @@ module _ {Disk Door Link : Type 0} (G : DiskGhosts Disk) (H : DoorGhosts Door Li
     pub order : IsOrdered past.origin past.seen
     pub answers : AreServed K (rtb options.public) past (map H.held doors) (map H.held doors')
     pub crash : past.origin.told ≡ true → EachImage (SaysFront past.origin past.seen) (G.store disk').now
+    pub since : past.origin.told ≡ true → SaysSomeSince past.origin past.seen (G.store disk')
     pub faults : G.faults disk' ≡ faults_told past.origin past.seen
     pub failed : RoseBy (failures past.seen) (G.faults disk) (G.faults disk')

@@ -3,7 +3,7 @@ ghost use Rattle.std.specs.Prelude.{◌≡◌, ◌<◌, ◌^◌, ℕ, [], List, 
 ghost use Rattle.std.specs.Io.KnownBytes.{Appends};
 ghost use Rattle.exchange_shared.specs.Opening.{IsOriginOver};
 ghost use Rattle.exchange_shared.specs.Seats.{IsOrdered, MayCall, lock_of};
-ghost use Rattle.exchange_state.specs.Standing.{SaysFront};
+ghost use Rattle.exchange_state.specs.Standing.{SaysFront, SaysSomeSince};
 ghost use Rattle.exchange_state.specs.Tickets.{IsLegalFrom};
 ghost use Rattle.exchange_state.specs.Views.{calls, failures, faults_told};
 ghost use Rattle.hist_lock.specs.Views.{first_seat};
@@ -237,6 +237,7 @@ fn close_idle<D: Disk>(exchange: Exchange<D>, seat: Seat<D>) -> (D, Past<Exchang
     ensures legal { IsLegalFrom result.1.origin (calls result.1.seen) }
     ensures budgets { KeepsBudgets result.1 }
     ensures crash { result.1.origin.told ≡ true → EachImage (SaysFront result.1.origin result.1.seen) (D.store result.0).now }
+    ensures since { result.1.origin.told ≡ true → SaysSomeSince result.1.origin result.1.seen (D.store result.0) }
     ensures faults { D.faults result.0 ≡ faults_told result.1.origin result.1.seen }
     ensures failed { RoseBy (failures result.1.seen) result.1.origin.faults (D.faults result.0) }
 {

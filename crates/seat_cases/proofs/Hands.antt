@@ -15,7 +15,7 @@ use Rattle.rtb_disk.specs.declared.disk.Disk.{Ghosts}
 use Rattle.seat_cases.specs.declared.seats.Hand.{Hand}
 use Rattle.seat_cases.specs.declared.seats.Sought.{Sought}
 use Rattle.seat_cases.specs.declared.session.Two.{Two}
-use Rattle.seat_cases.specs.Hands.{AreBack, AreSeated, AreTwo, GoesOn, IsFirst, IsHand, WasSought}
+use Rattle.seat_cases.specs.Hands.{AreTwo, GoesOn, IsFirst, IsHand, WasSought}
 use Rattle.std.specs.declared.alloc.AllocError.{AllocError}
 
 pub same_of : (s t : Seat) (l : List Entry) → t ≡ seat_with s l false → IsSameSeat s t
@@ -78,25 +78,6 @@ module _ {D : Type 0} {G : Ghosts D} where
   pub stays : (here : TableId) (a : Hand D G) → IsHand here a → GoesOn here a a
   stays here a is = record { hand = is; same = (let may = is.calls in ap (λ b. seat_with a.seat a.seat.seen b) may.free) }
 
--- ---- seats that are split off and joined
-
-pub first_of : (here : TableId) (o : Origin) (s : Seat) → s ≡ first_seat here o → MayCall here s → IsFirst here 0 s
-first_of here o s is may = record { calls = may; worker = ap (λ (y : Seat). y.worker) is; out = ap (λ (y : Seat). y.out) is }
-
-pub splits_one : (here : TableId) (n : ℕ) (s t u : Seat) → IsFirst here n s → SplitsOff worker_of s t u → MayCall here t → IsFirst here (n + 1) t
-splits_one here n s t u f p may = record {
-  calls = may;
-  worker = ap (λ (y : Seat). y.worker) p.0 ∙ f.worker;
-  out = ap (λ (y : Seat). y.out) p.0 ∙ (let o = f.out in omega (arith, o));
-}
-
-pub joins_one : (here : TableId) (n : ℕ) (s b t : Seat) → IsFirst here (suc n) s → TakesIn worker_of s b t → MayCall here t → IsFirst here n t
-joins_one here n s b t f j may = record {
-  calls = may;
-  worker = j.number ∙ f.worker;
-  out = (let o = f.out in let p = j.out in omega (arith, o, p));
-}
-
 -- ---- two workers
 
 module _ {D : Type 0} {G : Ghosts D} where
@@ -140,9 +121,3 @@ joined here s b t worker out j may = record {
   worker = j.number ∙ worker;
   out = (let p = j.out in omega (arith, out, p));
 }
-
-pub seated : (here : TableId) (old new : List (Option Seat × ℕ × ℕ)) → AreBack here old new → AreSeated here new
-seated here old new b = record { each = λ k d lt. b.each k d (let many = b.many in omega (arith, lt, many)) }
-
-pub first_still : (here : TableId) (n m : ℕ) (s : Seat) → n ≡ m → IsFirst here n s → IsFirst here m s
-first_still here n m s e f = subst (λ (k : ℕ). IsFirst here k s) e f

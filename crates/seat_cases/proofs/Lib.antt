@@ -1,2 +1,1 @@
 mod Hands
-mod Sending

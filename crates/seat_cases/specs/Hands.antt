@@ -1,18 +1,19 @@
 -- What two workers have of an exchange, each with its seat.
-use Rattle.std.specs.Prelude.{◌≡◌, ℕ, ◌<◌, ◌≤◌, List, length, slice_index_or, Option, Some, IfSome, IsTrue}
+use Rattle.std.specs.Prelude.{◌≡◌, ℕ, ◌≤◌, IfSome, IsTrue}
 use Rattle.atomic_table.specs.Seated.{TableId}
 use Rattle.auction_core.specs.Draft.{is_valid_command}
-use Rattle.exchange_shared.specs.Seats.{MayBeSettled, MayCall, Seat, effects_in}
-use Rattle.exchange_state.specs.Tickets.{version_in}
+use Rattle.exchange_shared.specs.Seats.{MayCall, Seat, effects_in}
+use Rattle.exchange_state.specs.Tickets.{IsVersionOf, version_in}
+use Rattle.exchange_state.specs.Views.{calls}
 use Rattle.hist_lock.specs.Views.{IsSameSeat}
 use Rattle.rtb_disk.specs.declared.disk.Disk.{Ghosts}
 use Rattle.seat_cases.specs.declared.seats.Hand.{Hand}
 use Rattle.seat_cases.specs.declared.seats.Sought.{Sought}
 use Rattle.seat_cases.specs.declared.session.Two.{Two}
 
--- the version is one of the history that the seat has seen, and this was found in it for the auction
+-- the version is one of the history that the seat has seen, and the auction is valid
 pub record WasSought (s : Seat) (x : Sought) : Type 0 where
-  pub may : MayBeSettled s (version_in x.ticket) x.found.lists x.auction
+  pub version : IsVersionOf s.origin (calls s.seen) (version_in x.ticket)
   pub valid : IsTrue (is_valid_command x.auction)
 
 module _ {D : Type 0} {G : Ghosts D} where
@@ -39,18 +40,3 @@ pub record IsFirst (here : TableId) (n : ℕ) (s : Seat) : Type 0 where
   pub calls : MayCall here s
   pub worker : s.worker ≡ 0
   pub out : s.out ≡ n
-
--- the job has a seat, which may call
-pub record IsHired (here : TableId) (job : Option Seat × ℕ × ℕ) : Type 0 where
-  pub seat : Seat
-  pub has : job.0 ≡ Some seat
-  pub calls : MayCall here seat
-
--- each job has a seat again, which may call
-pub record AreBack (here : TableId) (old new : List (Option Seat × ℕ × ℕ)) : Type 0 where
-  pub many : length new ≡ length old
-  pub each : (k : ℕ) (d : Option Seat × ℕ × ℕ) → k < length old → IsHired here (slice_index_or new k d)
-
--- each job has one
-pub record AreSeated (here : TableId) (jobs : List (Option Seat × ℕ × ℕ)) : Type 0 where
-  pub each : (k : ℕ) (d : Option Seat × ℕ × ℕ) → k < length jobs → IsHired here (slice_index_or jobs k d)

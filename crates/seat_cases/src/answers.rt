@@ -47,6 +47,7 @@ pub fn put_reply(reply: &Reply, out: &mut Txt) -> Result<(), AllocError> {
         Reply::Sold(all) => put_sold(all, out),
         Reply::NoBid => out.extend(b"no bid"),
         Reply::Added { n } => put_numbered(b"added", u64::from(*n), out),
+        Reply::Changed { n } => put_numbered(b"changed", u64::from(*n), out),
         Reply::Paused { n } => put_numbered(b"paused", u64::from(*n), out),
         Reply::Resumed { n } => put_numbered(b"resumed", u64::from(*n), out),
         Reply::Billed { sale } => put_numbered(b"billed", *sale, out),

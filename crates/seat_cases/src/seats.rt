@@ -2,8 +2,9 @@
 ghost use Rattle.std.specs.Prelude.{◌≡◌, ◌≤◌, None, IfOk, IfSome, IsTrue};
 ghost use Rattle.auction_core.specs.Draft.{is_simple, is_valid_command};
 ghost use Rattle.exchange_shared.specs.Seats.{MayBeSettled, Seat as ASeat, lock_of};
-ghost use Rattle.exchange_state.specs.Tickets.{IsVersionOf, version_in};
-ghost use Rattle.exchange_state.specs.Views.{calls, out};
+ghost use Rattle.exchange_state.specs.Tickets.{version_in};
+ghost use Rattle.exchange_state.specs.Views.{out};
+ghost use Rattle.plain_exchange.specs.declared.commands.Command.TheVariants.{Auction as AnAuction};
 ghost use Rattle.seat_cases.specs.Hands.{GoesOn, IsHand, WasSought};
 
 use crate::answers::{put_numbered, put_reply};
@@ -12,6 +13,7 @@ use plain_exchange::{Command, Reply};
 use rtb_base::Steps;
 use rtb_disk::Disk;
 use rtb_num::Txt;
+use rtb_types::BidRequest;
 use std::alloc::{AllocError, Global};
 use std::sync::Wait;
 use std::sync::ledger::Ledger;
@@ -26,11 +28,10 @@ pub struct Hand<D: Disk> {
     pub upto: u64,
 }
 
-/// A version, and what was found in it for an auction.
+/// A version, and an auction for which is looked in it.
 #[derive(Drop)]
 pub struct Sought {
     pub ticket: Ticket,
-    pub found: Found,
     pub auction: Command,
 }
 
@@ -42,7 +43,7 @@ pub struct Landed {
 }
 
 /// Carries out a command other than an auction, in the first turn that finds no change ahead of it; the reply, where
-/// memory is there.
+/// memory is there, which is asked for twice.
 #[tactic(auto, using(crate::proofs::Hands::stays, crate::proofs::Hands::goes_then))]
 pub fn carry_out<D: Disk, R: Wait>(
     rt: &R,
@@ -55,12 +56,16 @@ pub fn carry_out<D: Disk, R: Wait>(
     ensures { GoesOn (lock_of exchange.now) hand result.0 }
 {
     let mut hand = hand;
+    let mut refused = false;
     for _ in rt.forever() {
         let (next, carried) = carry_out_once(rt, exchange, hand, command);
         match carried {
             Ok(reply) => return (next, Ok(reply)),
-            Err(Unsettled::Memory) => return (next, Err(AllocError)),
-            Err(Unsettled::Held) => hand = next,
+            Err(Unsettled::Memory) if refused => return (next, Err(AllocError)),
+            Err(why) => {
+                refused = matches!(why, Unsettled::Memory);
+                hand = next;
+            }
         }
     }
     unreachable!()
@@ -80,7 +85,11 @@ fn carry_out_once<D: Disk, R: Wait>(
     let (seat, settled) = exchange.simple(rt, seat, command, MOMENT);
     match settled {
         Ok(settled) => {
-            let Settled { reply, upto } = settled;
+            let Settled {
+                reply,
+                upto,
+                durable: _,
+            } = settled;
             (Hand { seat, upto }, Ok(reply))
         }
         Err(why) => (Hand { seat, upto }, Err(why)),
@@ -102,11 +111,19 @@ pub fn change<D: Disk, R: Wait>(
     let (seat, changed) = exchange.change(rt, seat, command, MOMENT);
     match changed {
         Ok(Changed::Durable(settled)) => {
-            let Settled { reply, upto } = settled;
+            let Settled {
+                reply,
+                upto,
+                durable: _,
+            } = settled;
             (Hand { seat, upto }, some_landed(reply, true))
         }
         Ok(Changed::StoreFailed(settled)) => {
-            let Settled { reply, upto } = settled;
+            let Settled {
+                reply,
+                upto,
+                durable: _,
+            } = settled;
             (Hand { seat, upto }, some_landed(reply, false))
         }
         Ok(Changed::NotAlone) => (Hand { seat, upto }, Ok(None)),
@@ -196,27 +213,22 @@ fn put_published(
     }
 }
 
-/// Looks at the version and finds in it for the auction; nothing for another command.
-pub fn seek<D: Disk, R: Wait, L: Ledger>(
+/// Looks at the version for the auction.
+pub fn seek<D: Disk, R: Wait>(
     rt: &R,
-    alloc: Global,
     exchange: &Exchange<D>,
     hand: Hand<D>,
     auction: Command,
-    steps: &mut Steps<L>,
-) -> (Hand<D>, Result<Option<Sought>, AllocError>)
+) -> (Hand<D>, Result<Sought, AllocError>)
     requires hand { IsHand (lock_of exchange.now) hand }
     requires valid { IsTrue (is_valid_command auction) }
     ensures on { GoesOn (lock_of exchange.now) hand result.0 }
-    ensures sought { IfOk result.1 (λ r. IfSome r (WasSought result.0.seat)) }
+    ensures sought { IfOk result.1 (WasSought result.0.seat) }
 {
     let Hand { seat, upto } = hand;
     let (seat, ticket) = exchange.begin(rt, seat);
     match ticket {
-        Ok(ticket) => {
-            let found = find_for(alloc, &ticket, &auction, steps);
-            (Hand { seat, upto }, put_together(ticket, found, auction))
-        }
+        Ok(ticket) => (Hand { seat, upto }, Ok(Sought { ticket, auction })),
         Err(refused) => {
             drop(auction);
             (Hand { seat, upto }, Err(refused))
@@ -224,54 +236,10 @@ pub fn seek<D: Disk, R: Wait, L: Ledger>(
     }
 }
 
-// What the version gives for the auction; nothing for another command.
-fn find_for<L: Ledger>(
-    alloc: Global,
-    ticket: &Ticket,
-    auction: &Command,
-    steps: &mut Steps<L>,
-) -> Result<Option<Found>, AllocError>
-    ensures { (s : ASeat) → IsVersionOf s.origin (calls s.seen) (version_in ticket.now) → IfOk result (λ r. IfSome r (λ f. MayBeSettled s (version_in ticket.now) f.lists auction.now)) }
-{
-    match auction {
-        Command::Auction(request) => {
-            let found = ticket.find(alloc, request, steps)?;
-            Ok(Some(found))
-        }
-        _ => Ok(None),
-    }
-}
-
-fn put_together(
-    ticket: Ticket,
-    found: Result<Option<Found>, AllocError>,
-    auction: Command,
-) -> Result<Option<Sought>, AllocError>
-    requires valid { IsTrue (is_valid_command auction) }
-    ensures { (s : ASeat) → IfOk found (λ r. IfSome r (λ f. MayBeSettled s (version_in ticket) f.lists auction)) → IfOk result (λ r. IfSome r (WasSought s)) }
-{
-    match found {
-        Ok(Some(found)) => Ok(Some(Sought {
-            ticket,
-            found,
-            auction,
-        })),
-        Ok(None) => {
-            drop(ticket);
-            drop(auction);
-            Ok(None)
-        }
-        Err(refused) => {
-            drop(ticket);
-            drop(auction);
-            Err(refused)
-        }
-    }
-}
-
-/// Sells over what was found, and says the reply.
+/// Finds in the version that was looked at, sells over that, and says the reply.
 pub fn settle<D: Disk, R: Wait, L: Ledger>(
     rt: &R,
+    alloc: Global,
     exchange: &Exchange<D>,
     hand: Hand<D>,
     sought: Sought,
@@ -282,17 +250,88 @@ pub fn settle<D: Disk, R: Wait, L: Ledger>(
     requires sought { WasSought hand.seat sought }
     ensures { GoesOn (lock_of exchange.now) hand result.0 }
 {
-    let Hand { seat, upto } = hand;
-    let Sought {
-        ticket,
-        found,
-        auction,
-    } = sought;
-    let (seat, settled) = exchange.settle(rt, seat, ticket, found, &auction, MOMENT, steps);
+    let Sought { ticket, auction } = sought;
+    let settled = settle_auction(rt, alloc, exchange, hand, ticket, &auction, steps, out);
     drop(auction);
+    settled
+}
+
+fn settle_auction<D: Disk, R: Wait, L: Ledger>(
+    rt: &R,
+    alloc: Global,
+    exchange: &Exchange<D>,
+    hand: Hand<D>,
+    ticket: Ticket,
+    auction: &Command,
+    steps: &mut Steps<L>,
+    out: &mut Txt,
+) -> (Hand<D>, Result<(), AllocError>)
+    requires hand { IsHand (lock_of exchange.now) hand }
+    requires sought { WasSought hand.seat (record { ticket = ticket; auction = auction.now }) }
+    ensures { GoesOn (lock_of exchange.now) hand result.0 }
+{
+    match auction {
+        Command::Auction(request) => {
+            settle_for(
+                rt, alloc, exchange, hand, ticket, auction, request, steps, out,
+            )
+        }
+        _ => {
+            drop(ticket);
+            (hand, Err(AllocError))
+        }
+    }
+}
+
+fn settle_for<D: Disk, R: Wait, L: Ledger>(
+    rt: &R,
+    alloc: Global,
+    exchange: &Exchange<D>,
+    hand: Hand<D>,
+    ticket: Ticket,
+    auction: &Command,
+    request: &BidRequest,
+    steps: &mut Steps<L>,
+    out: &mut Txt,
+) -> (Hand<D>, Result<(), AllocError>)
+    requires hand { IsHand (lock_of exchange.now) hand }
+    requires asked { auction.now ≡ AnAuction request.now }
+    requires sought { WasSought hand.seat (record { ticket = ticket; auction = auction.now }) }
+    ensures { GoesOn (lock_of exchange.now) hand result.0 }
+{
+    match ticket.find(alloc, request, steps) {
+        Ok(found) => settle_found(rt, exchange, hand, ticket, found, auction, steps, out),
+        Err(refused) => {
+            drop(ticket);
+            (hand, Err(refused))
+        }
+    }
+}
+
+fn settle_found<D: Disk, R: Wait, L: Ledger>(
+    rt: &R,
+    exchange: &Exchange<D>,
+    hand: Hand<D>,
+    ticket: Ticket,
+    found: Found<'_>,
+    auction: &Command,
+    steps: &mut Steps<L>,
+    out: &mut Txt,
+) -> (Hand<D>, Result<(), AllocError>)
+    requires hand { IsHand (lock_of exchange.now) hand }
+    requires valid { IsTrue (is_valid_command auction.now) }
+    requires found { MayBeSettled hand.seat (version_in ticket) found.asked found.candidates auction.now }
+    ensures { GoesOn (lock_of exchange.now) hand result.0 }
+{
+    let Hand { seat, upto } = hand;
+    let (seat, settled) = exchange.settle(rt, seat, ticket, found, auction, MOMENT, steps);
     match settled {
         Ok(settled) => {
-            let Settled { reply, upto } = settled;
+            let Settled {
+                reply,
+                upto,
+                durable: _,
+            } = settled;
             let told = put_reply(&reply, out);
             drop(reply);
             (Hand { seat, upto }, told)

@@ -7,7 +7,7 @@ ghost use Rattle.seat_cases.specs.Hands.{AreTwo};
 use crate::answers::{number_at, put_mark, word_at};
 use crate::seats::{Hand, Sought, flush};
 use crate::steps::step;
-use case_lines::{number_in, numbers_in};
+use case_lines::{number_in, numbers_in, paired};
 use exchange_shared::{Exchange, Seat};
 use rtb_base::Steps;
 use rtb_disk::{Disk, MemDisk};
@@ -19,6 +19,10 @@ use std::sync::ledger::Ledger;
 
 /// How long a sale is held, in milliseconds.
 pub const TTL: u64 = 300_000;
+
+// The answers of a case have room for so many bytes from the start: so what was carried out is told, and what is tried once
+// more found no memory before it was.
+const MOST_BYTES: usize = 4_096;
 
 /// What the two workers have, and what B found last.
 #[derive(Drop)]
@@ -40,8 +44,8 @@ pub struct Two<D: Disk> {
 /// - `A worn`: whether a newer version pays, which is told once; says `worn out`, `worn` or `not worn`.
 /// - `A flush`: writes what is not durable; says `flushed` or `store failed`.
 /// - `B find`: looks at the version and finds in it for the bid request of `case_messages`; says the edit of the version.
-/// - `B settle`: sells over what was found last; says the number of the sale, its campaign and the price in
-///   micro-dollars, `no bid`, or `held`.
+/// - `B settle`: sells over what was found last, or over what is found now; says the number of the sale, its campaign and
+///   the price in micro-dollars, `no bid`, or `held`.
 /// - `A keep` and `B keep`: make the worker's last command durable; say `durable` or `store failed`.
 /// - `reopen`: B's seat is joined, A flushes, the exchange is closed, and is opened again from its disk.
 /// - `crash PICK`: the same, from what a crash leaves of the disk by the pick.
@@ -54,15 +58,23 @@ pub fn run<R: Wait, L: Ledger>(
     out: &mut Txt,
 ) -> Result<(), AllocError> {
     let mut disk = disk;
-    let told = run_lives(rt, alloc, &mut disk, commands, steps, out);
+    let told = match out.reserve(MOST_BYTES) {
+        Ok(()) => run_lives(rt, alloc, &mut disk, commands, steps, out),
+        Err(refused) => Err(refused),
+    };
     drop(disk);
     told
 }
 
-/// An empty disk in memory.
-pub fn disk_of(alloc: Global, fails: &[u8], stop: &[u8]) -> Result<MemDisk, AllocError> {
-    let fails = numbers_in(alloc, fails)?;
-    let mut disk = MemDisk::new(alloc, Txt::new(alloc), fails);
+/// A disk in memory with this content.
+pub fn disk_of(
+    alloc: Global,
+    content: &Txt,
+    fails: &[u8],
+    stop: &[u8],
+) -> Result<MemDisk, AllocError> {
+    let (content, fails) = paired(content.copy(), numbers_in(alloc, fails))?;
+    let mut disk = MemDisk::new(alloc, content, fails);
     stop_at(&mut disk, stop);
     Ok(disk)
 }

@@ -1,6 +1,6 @@
 //! One command of two workers.
-ghost use Rattle.std.specs.Prelude.{◌≡◌, IfSome, IsTrue};
-ghost use Rattle.auction_core.specs.Draft.{is_simple, is_valid_command};
+ghost use Rattle.std.specs.Prelude.{◌≡◌, IfOk, IfSome, IsTrue};
+ghost use Rattle.auction_core.specs.Draft.{is_simple};
 ghost use Rattle.exchange_shared.specs.Seats.{lock_of};
 ghost use Rattle.seat_cases.specs.Hands.{AreTwo, GoesOn, IsHand, WasSought};
 
@@ -19,8 +19,29 @@ use std::alloc::{AllocError, Global};
 use std::sync::Wait;
 use std::sync::ledger::Ledger;
 
-/// Answers the command; `session.rt` says what it does.
+/// Answers the command; `session.rt` says what it does. Where that finds no memory it is tried once more.
 pub fn step<D: Disk + Drop, R: Wait, L: Ledger>(
+    rt: &R,
+    alloc: Global,
+    exchange: &Exchange<D>,
+    two: Two<D>,
+    command: &[u8],
+    steps: &mut Steps<L>,
+    out: &mut Txt,
+) -> (Two<D>, Result<(), AllocError>)
+    requires { AreTwo (lock_of exchange.now) two }
+    ensures { AreTwo (lock_of exchange.now) result.0 }
+{
+    let before = out.len();
+    let (two, told) = step_once(rt, alloc, exchange, two, command, steps, out);
+    if told.is_ok() {
+        return (two, told);
+    }
+    out.truncate(before);
+    step_once(rt, alloc, exchange, two, command, steps, out)
+}
+
+fn step_once<D: Disk + Drop, R: Wait, L: Ledger>(
     rt: &R,
     alloc: Global,
     exchange: &Exchange<D>,
@@ -299,18 +320,20 @@ fn step_second<D: Disk + Drop, R: Wait, L: Ledger>(
     ensures sought { IfSome result.1 (WasSought result.0.seat) }
 {
     if word == b"settle".as_slice() {
-        return settle_sought(rt, exchange, hand, sought, steps, out);
+        return settle_sought(rt, alloc, exchange, hand, sought, steps, out);
     }
     drop(sought);
     if word == b"find".as_slice() {
-        return find(rt, alloc, exchange, hand, steps, out);
+        return find(rt, alloc, exchange, hand, out);
     }
     let (hand, told) = keep_told(rt, exchange, hand, out);
     (hand, None, told)
 }
 
+#[tactic(auto, using(crate::proofs::Hands::goes_then))]
 fn settle_sought<D: Disk, R: Wait, L: Ledger>(
     rt: &R,
+    alloc: Global,
     exchange: &Exchange<D>,
     hand: Hand<D>,
     sought: Option<Sought>,
@@ -322,62 +345,55 @@ fn settle_sought<D: Disk, R: Wait, L: Ledger>(
     ensures on { GoesOn (lock_of exchange.now) hand result.0 }
     ensures sought { IfSome result.1 (WasSought result.0.seat) }
 {
-    match sought {
-        Some(sought) => {
-            let (hand, told) = settle(rt, exchange, hand, sought, steps, out);
+    if let Some(sought) = sought {
+        let (hand, told) = settle(rt, alloc, exchange, hand, sought, steps, out);
+        return (hand, None, told);
+    }
+    let (hand, found) = sought_now(rt, alloc, exchange, hand);
+    match found {
+        Ok(sought) => {
+            let (hand, told) = settle(rt, alloc, exchange, hand, sought, steps, out);
             (hand, None, told)
         }
-        None => (hand, None, out.extend(b"nothing was sought")),
-    }
-}
-
-fn find<D: Disk, R: Wait, L: Ledger>(
-    rt: &R,
-    alloc: Global,
-    exchange: &Exchange<D>,
-    hand: Hand<D>,
-    steps: &mut Steps<L>,
-    out: &mut Txt,
-) -> (Hand<D>, Option<Sought>, Result<(), AllocError>)
-    requires hand { IsHand (lock_of exchange.now) hand }
-    ensures on { GoesOn (lock_of exchange.now) hand result.0 }
-    ensures sought { IfSome result.1 (WasSought result.0.seat) }
-{
-    match command_of(alloc, b"/openrtb2/auction", REQUEST) {
-        Ok(Some(auction)) => find_for(rt, alloc, exchange, hand, auction, steps, out),
-        Ok(None) => (hand, None, out.extend(b"refused")),
         Err(refused) => (hand, None, Err(refused)),
     }
 }
 
-fn find_for<D: Disk, R: Wait, L: Ledger>(
+fn find<D: Disk, R: Wait>(
     rt: &R,
     alloc: Global,
     exchange: &Exchange<D>,
     hand: Hand<D>,
-    auction: Command,
-    steps: &mut Steps<L>,
     out: &mut Txt,
 ) -> (Hand<D>, Option<Sought>, Result<(), AllocError>)
     requires hand { IsHand (lock_of exchange.now) hand }
-    requires valid { IsTrue (is_valid_command auction) }
     ensures on { GoesOn (lock_of exchange.now) hand result.0 }
     ensures sought { IfSome result.1 (WasSought result.0.seat) }
 {
-    let (hand, sought) = seek(rt, alloc, exchange, hand, auction, steps);
-    match sought {
+    let (hand, found) = sought_now(rt, alloc, exchange, hand);
+    match found {
         Ok(sought) => {
-            let told = put_sought(&sought, out);
-            (hand, sought, told)
+            let edit = sought.ticket.version.edit;
+            (hand, Some(sought), put_numbered(b"version", edit, out))
         }
         Err(refused) => (hand, None, Err(refused)),
     }
 }
 
-// Appends the edit of the version that was looked at.
-fn put_sought(sought: &Option<Sought>, out: &mut Txt) -> Result<(), AllocError> {
-    match sought {
-        Some(sought) => put_numbered(b"version", sought.ticket.version.edit, out),
-        None => out.extend(b"no auction"),
+// The present version, and the auction for which is looked in it.
+fn sought_now<D: Disk, R: Wait>(
+    rt: &R,
+    alloc: Global,
+    exchange: &Exchange<D>,
+    hand: Hand<D>,
+) -> (Hand<D>, Result<Sought, AllocError>)
+    requires hand { IsHand (lock_of exchange.now) hand }
+    ensures on { GoesOn (lock_of exchange.now) hand result.0 }
+    ensures sought { IfOk result.1 (WasSought result.0.seat) }
+{
+    match command_of(alloc, b"/openrtb2/auction", REQUEST) {
+        Ok(Some(auction)) => seek(rt, exchange, hand, auction),
+        Ok(None) => (hand, Err(AllocError)),
+        Err(refused) => (hand, Err(refused)),
     }
 }

@@ -14,5 +14,5 @@ mod service;
 mod turns;
 
 pub use link_end::{LinkEnd, stream_ends_once};
-pub use serve::serve_link;
+pub use serve::{LinkRoom, serve_link, serve_link_in};
 pub use service::{Given, Service};

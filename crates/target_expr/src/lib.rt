@@ -31,7 +31,6 @@ pub use fault::ExprFault;
 pub use laws::{
     encoded_expressions_are_read_again, expressions_tell_their_ends, keeping_changes_no_truth,
 };
-pub use make::keep_pred;
 pub use pred::{Pair, Pred, RawPred};
 pub use truth::pred_holds;
 

@@ -102,23 +102,6 @@ fn kept_copy(alloc: Global, attr: Attr, pred: &RawPred) -> Result<Pred, AllocErr
     })
 }
 
-/// The predicate of that attribute, with its values in byte order, each once, in the memory that they are in.
-pub fn keep_pred(attr: Attr, pred: RawPred) -> Pred
-    ensures { result ≡ keep_pred attr pred }
-{
-    let RawPred {
-        attr: name,
-        negated,
-        values,
-    } = pred;
-    drop(name);
-    Pred {
-        attr,
-        negated,
-        values: in_order(values),
-    }
-}
-
 // The texts in byte order, each once. Mostly they are written so.
 #[tactic(auto, using(crate::proofs::ByteOrder::risen_in_order))]
 fn in_order(texts: List<Txt>) -> List<Txt>

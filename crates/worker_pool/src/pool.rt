@@ -2,7 +2,7 @@
 ghost use Rattle.std.specs.Prelude.{◌≡◌, ◌<◌, ◌^◌, true, None, length, map};
 ghost use Rattle.door_worker.specs.Languages.{rtb};
 ghost use Rattle.exchange_shared.specs.Seats.{IsOrdered, MayCall, lock_of, worker_of};
-ghost use Rattle.exchange_state.specs.Standing.{SaysFront};
+ghost use Rattle.exchange_state.specs.Standing.{SaysFront, SaysSomeSince};
 ghost use Rattle.exchange_state.specs.Tickets.{IsLegalFrom};
 ghost use Rattle.exchange_state.specs.Views.{calls, failures, faults_told, out};
 ghost use Rattle.hist_lock.specs.Views.{Complete, first_seat};
@@ -77,6 +77,7 @@ pub fn serve_doors<
     ensures order { IsOrdered result.past.origin result.past.seen }
     ensures served { AreServed G.Link.Link (rtb public.now) result.past (map G.held doors) (map G.held result.doors) }
     ensures images { result.past.origin.told ≡ true → EachImage (SaysFront result.past.origin result.past.seen) (D.store result.disk).now }
+    ensures since { result.past.origin.told ≡ true → SaysSomeSince result.past.origin result.past.seen (D.store result.disk) }
     ensures faults { D.faults result.disk ≡ faults_told result.past.origin result.past.seen }
     ensures counted { RoseBy (failures result.past.seen) result.past.origin.faults (D.faults result.disk) }
     ensures left { LeaveAs G.faults G.held doors result.doors result.end }
@@ -116,6 +117,7 @@ fn write_last<D: Disk, R: Wait, G: Door>(
     ensures legal { IsLegalFrom result.past.origin (calls result.past.seen) }
     ensures budgets { KeepsBudgets result.past }
     ensures images { result.past.origin.told ≡ true → EachImage (SaysFront result.past.origin result.past.seen) (D.store result.disk).now }
+    ensures since { result.past.origin.told ≡ true → SaysSomeSince result.past.origin result.past.seen (D.store result.disk) }
     ensures faults { D.faults result.disk ≡ faults_told result.past.origin result.past.seen }
     ensures counted { RoseBy (failures result.past.seen) result.past.origin.faults (D.faults result.disk) }
 {
@@ -156,6 +158,7 @@ fn close<D: Disk, G: Door>(
     ensures legal { IsLegalFrom result.past.origin (calls result.past.seen) }
     ensures budgets { KeepsBudgets result.past }
     ensures images { result.past.origin.told ≡ true → EachImage (SaysFront result.past.origin result.past.seen) (D.store result.disk).now }
+    ensures since { result.past.origin.told ≡ true → SaysSomeSince result.past.origin result.past.seen (D.store result.disk) }
     ensures faults { D.faults result.disk ≡ faults_told result.past.origin result.past.seen }
     ensures counted { RoseBy (failures result.past.seen) result.past.origin.faults (D.faults result.disk) }
 {

@@ -1,6 +1,5 @@
-use Rattle.std.proofs.Common.{◌≡◌, map, take}
+use Rattle.std.proofs.Common.{◌≡◌, List, map, take, ℕ}
 use Rattle.std.specs.Borrow.{Bor}
-use Rattle.std.proofs.Common.{ℕ, List}
 use Rattle.deal_rules.proofs.names.references.Given as goal
 
 abbrev pub invariant-loop-text : goal.invariant-loop-text

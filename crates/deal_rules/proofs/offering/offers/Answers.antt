@@ -1,19 +1,25 @@
-use Rattle.std.proofs.Common.{◌≡◌, subst, true}
+use Rattle.std.proofs.Common.{ap, ◌++◌, ◌∙◌}
 use Rattle.std.specs.List.{list_all}
 use Rattle.clearing.specs.Clearing.{is_fit}
-use Rattle.deal_rules.specs.Offers.{offers_of}
-use Rattle.deal_rules.specs.Rules.{opportunity_of}
+use Rattle.deal_rules.specs.Offers.{candidates_of}
 use Rattle.deal_rules.specs.Terms.{terms_of}
 use Rattle.deal_rules.proofs.Fitting.{offers_fit}
-use Rattle.deal_rules.proofs.Places.{fit_as_answered, same_place}
+use Rattle.deal_rules.proofs.Standing.{paid, unpaid}
 use Rattle.deal_rules.proofs.offering.offers.Goals as goal
+
+pub returns-then-not-may_pay-clause-value : goal.returns-then-not-may_pay-clause-value
+returns-then-not-may_pay-clause-value c = λ i at.
+    unpaid c.args.number c.args.asked.now i c.args.facts.now c.args.free c.args.shown c.from_vec.result c.may_pay.result c.may_pay.ensures c.if-not-may_pay.true (c.from_vec.ensures ∙ c.new-offers.ensures.items)
+
+pub returns-then-not-may_pay-clause-fit : goal.returns-then-not-may_pay-clause-fit
+returns-then-not-may_pay-clause-fit c = λ i at.
+    ap (list_all (is_fit (terms_of c.args.asked.now i))) (returns-then-not-may_pay-clause-value c i at) ∙ offers_fit c.args.number c.args.asked.now i c.args.facts.now c.args.free c.args.shown
+
+pub returns-clause-value : goal.returns-clause-value
+returns-clause-value c = λ i at.
+    paid c.args.number c.args.asked.now i c.args.facts.now c.args.free c.args.shown c.from_vec-2.result c.may_pay.result c.may_pay.ensures c.if-not-may_pay.false
+    (c.from_vec-2.ensures ∙ c.in_ok-push_candidates.ensures i at ∙ ap (λ l. l ++ candidates_of c.args.number c.args.asked.now i c.args.facts.now) c.new-offers.ensures.items)
 
 pub returns-clause-fit : goal.returns-clause-fit
 returns-clause-fit c = λ i at.
-    let r = c.args.request.now in
-    let imp = c.index-as_slice-imp.result in
-    let offers = offers_of c.args.number (opportunity_of r imp c.args.facts.now c.args.free c.args.shown) in
-    let same : imp ≡ i = same_place c.as_slice.result.now r.imps c.args.imp imp i c.index-as_slice-imp.is c.as_slice.ensures at in
-    fit_as_answered c.offers_for.result (terms_of r i) offers
-    (subst (λ k. list_all (is_fit (terms_of r k)) offers ≡ true) same (offers_fit c.args.number r imp c.args.facts.now c.args.free c.args.shown))
-    c.offers_for.ensures
+    ap (list_all (is_fit (terms_of c.args.asked.now i))) (returns-clause-value c i at) ∙ offers_fit c.args.number c.args.asked.now i c.args.facts.now c.args.free c.args.shown

@@ -9,4 +9,4 @@ loop-k-preserved c =
     let k = c.loop-k.k in
     c.in_ok-push_deal.ensures
     ∙ ap (λ l. l ++ option_to_list (deal_offer c.args.number c.args.facts.now (k + 1, deal))) c.loop-k.invariant
-    ∙ more_offers c.args.number c.args.facts.now c.args.offers.now c.args.deals.now k deal c.loop-k-test.true c.index-deals-k.is
+    ∙ more_offers c.args.number c.args.facts.now c.args.offers.now.items c.args.deals.now k deal c.loop-k-test.true c.index-deals-k.is

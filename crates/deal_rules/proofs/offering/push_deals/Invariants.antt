@@ -4,4 +4,4 @@ use Rattle.deal_rules.proofs.offering.push_deals.Given as goal
 
 -- the offers for the deals so far
 abbrev pub invariant-loop-k : goal.invariant-loop-k
-invariant-loop-k l = l.offers ≡ l.fn.offers ++ deal_offers l.number l.facts (take l.k l.deals)
+invariant-loop-k l = l.offers.items ≡ l.fn.offers.items ++ deal_offers l.number l.facts (take l.k l.deals)

@@ -10,13 +10,19 @@ pub returns-in-Ok-clause-answers : goal.returns-in-Ok-clause-answers
 returns-in-Ok-clause-answers g c = λ message read.
     let m = c.enter-seat.result.0 in
     let entered = subst (λ r. IfOk r (Entered c.args.command.now c.args.moment c.args.seat m)) c.in-Ok.is c.enter-seat.ensures.entered in
-    answered (rtb c.args.tools.now.public.now) c.args.moment c.args.command.now message c.in-Ok.settled c.args.seat m c.conclude.result.0 c.conclude.result.1 read entered c.conclude.ensures.concluded (inr c.conclude.ensures.order.rising)
+    answered (rtb c.args.tools.now.public.now) c.args.moment c.args.command.now message c.in-Ok.settled c.args.seat m c.conclude.result.0 c.conclude.result.1 read entered.goes c.conclude.ensures.concluded (inr c.conclude.ensures.order.rising)
 
 pub conclude-requires-clause-upto : goal.conclude-requires-clause-upto
 conclude-requires-clause-upto g c =
     let m = c.enter-seat.result.0 in
     let entered = subst (λ r. IfOk r (Entered c.args.command.now c.args.moment c.args.seat m)) c.in-Ok.is c.enter-seat.ensures.entered in
     entered.upto
+
+pub conclude-requires-clause-durable : goal.conclude-requires-clause-durable
+conclude-requires-clause-durable g c =
+    let m = c.enter-seat.result.0 in
+    let entered = subst (λ r. IfOk r (Entered c.args.command.now c.args.moment c.args.seat m)) c.in-Ok.is c.enter-seat.ensures.entered in
+    entered.durable
 
 pub returns-in-Err-clause-answers : goal.returns-in-Err-clause-answers
 returns-in-Err-clause-answers g c = λ message read.

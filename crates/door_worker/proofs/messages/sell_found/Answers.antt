@@ -1,7 +1,8 @@
 use Rattle.std.proofs.Common.{subst}
 use Rattle.std.specs.Prelude.{IfOk}
-use Rattle.door_worker.proofs.Answering.{entered_later, may_settle, not_entered_later}
+use Rattle.door_worker.proofs.Answering.{entered_later, not_entered_later}
 use Rattle.door_worker.proofs.Going.{goes_waits}
+use Rattle.exchange_shared.proofs.Histories.{may_be_settled}
 use Rattle.exchange_state.specs.Tickets.{IsVersionOf, version_in}
 use Rattle.exchange_state.specs.Views.{calls}
 use Rattle.door_worker.proofs.messages.sell_found.Goals as goal
@@ -9,7 +10,7 @@ use Rattle.door_worker.proofs.messages.sell_found.Goals as goal
 pub settle-requires-clause-found : goal.settle-requires-clause-found
 settle-requires-clause-found g c =
     let m = c.begin-seat.result.0 in
-    may_settle m (version_in c.in-Ok.ticket) c.args.request.now _ _ (subst (λ r. IfOk r (λ t. IsVersionOf m.origin (calls m.seen) (version_in t))) c.in-Ok.is c.begin-seat.ensures.version) c.requires.auction c.in-Ok-find.ensures
+    may_be_settled m (version_in c.in-Ok.ticket) c.args.request.now _ _ _ (subst (λ r. IfOk r (λ t. IsVersionOf m.origin (calls m.seen) (version_in t))) c.in-Ok.is c.begin-seat.ensures.version) c.requires.auction c.in-Ok-find.ensures.asked c.in-Ok-find.ensures.found
 
 pub returns-in-Ok-find-clause-entered : goal.returns-in-Ok-find-clause-entered
 returns-in-Ok-find-clause-entered g c = entered_later _ _ _ c.begin-seat.result.0 _ _ c.begin-seat.ensures.seat.1 c.settle.ensures.entered

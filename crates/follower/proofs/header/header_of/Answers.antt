@@ -1,6 +1,3 @@
-use Rattle.std.proofs.Common.{◌∙◌, ap, drop, take}
-use Rattle.std.specs.Prelude.{nat_eq}
-use Rattle.std.specs.Cmp.Lexicographic.{pointwise}
 use Rattle.follower.proofs.Beginning.{begins_compacted}
 use Rattle.follower.proofs.header.header_of.Goals as goal
 

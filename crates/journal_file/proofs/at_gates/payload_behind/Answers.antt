@@ -1,6 +1,10 @@
 use Rattle.std.proofs.Common.{◌<◌, ◌∙◌, ◌++◌, List, ℕ, Ok, take, length, ap, arith, length-append}
 use Rattle.std.proofs.lemmas.List.{length-take-le}
 use Rattle.journal_file.proofs.GateLemmas.{payload_there, rest_long, whole_block}
+use Rattle.std.proofs.Common.{subst, sym, ◌≡◌, ◌+◌, refl}
+use Rattle.std.specs.Prelude.{Bool}
+use Rattle.journal_file.proofs.Shown.{cut_back, shown_so}
+use Rattle.journal_file.specs.Showing.{ArePayloadShown}
 use Rattle.journal_file.proofs.at_gates.payload_behind.Goals as goal
 
 pub returns-in-Ok-true-clause-block : goal.returns-in-Ok-true-clause-block
@@ -21,3 +25,21 @@ returns-in-Ok-true-clause-appended g c =
 
 pub returns-in-Ok-true-clause-cause : goal.returns-in-Ok-true-clause-cause
 returns-in-Ok-true-clause-cause g c = (c.in-Ok-true.ensures.no_less, λ e. absurd (cc e), λ _. c.in-Ok-true.ensures.quiet (λ e. cc))
+
+pub returns-in-Ok-true-clause-shows : goal.returns-in-Ok-true-clause-shows
+returns-in-Ok-true-clause-shows g c =
+    shown_so _ _ c.in-Ok-true.ensures.shows (λ more s.
+    let there = subst (λ (b : Bool). ArePayloadShown (c.args.gate + 9) c.args.size more c.args.out.now c.read_payload.new.out b) c.in-Ok-true.field-0-test s in
+    let long : length there.0 ≡ c.args.size = omega (arith, c.in-Ok-true.ensures.long (ap Ok c.in-Ok-true.field-0-test), ap length there.2, length-append c.args.out.now there.0) in
+    (there.0, there.1, long, ap (λ n. c.args.gate + 9 + n) (sym long), there.2))
+
+pub returns-in-Ok-false-clause-shows : goal.returns-in-Ok-false-clause-shows
+returns-in-Ok-false-clause-shows g c =
+    shown_so _ _ c.in-Ok-false.ensures.shows (λ more s.
+    (subst (λ (b : Bool). ArePayloadShown (c.args.gate + 9) c.args.size more c.args.out.now c.read_payload.new.out b) c.in-Ok-false.field-0-test s, refl, cut_back c.args.out.now c.in-Ok-false.ensures.front.0 c.read_payload.new.out _ _ c.in-Ok-false.ensures.front.1 c.len-before.ensures c.truncate.ensures))
+
+pub returns-in-Err-Failed-clause-shows : goal.returns-in-Err-Failed-clause-shows
+returns-in-Err-Failed-clause-shows g c = shown_so _ _ c.in-Err-Failed.ensures.shows (λ more _. cut_back c.args.out.now c.in-Err-Failed.ensures.front.0 c.read_payload.new.out _ _ c.in-Err-Failed.ensures.front.1 c.len-before.ensures c.truncate-in-Err-Failed.ensures)
+
+pub returns-in-Err-Memory-clause-shows : goal.returns-in-Err-Memory-clause-shows
+returns-in-Err-Memory-clause-shows g c = shown_so _ _ c.in-Err-Memory.ensures.shows (λ more _. cut_back c.args.out.now c.in-Err-Memory.ensures.front.0 c.read_payload.new.out _ _ c.in-Err-Memory.ensures.front.1 c.len-before.ensures c.truncate-in-Err-Memory.ensures)

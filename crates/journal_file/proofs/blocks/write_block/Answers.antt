@@ -1,4 +1,4 @@
-use Rattle.std.proofs.Common.{◌+◌, ◌++◌, ◌∷◌, [], ◌≤◌, ◌∙◌, sym, length, arith}
+use Rattle.std.proofs.Common.{◌+◌, ◌≤◌, ◌∙◌, sym, length, arith}
 use Rattle.rtb_disk.proofs.Moments.{always_same}
 use Rattle.journal_file.proofs.Writing.{behind_now, block_parts, fails_longer, fails_there, parts_long, syncs_on, synced_longer}
 use Rattle.journal_file.proofs.Reaching.{synced_reaches}

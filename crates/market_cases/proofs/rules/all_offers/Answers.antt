@@ -7,7 +7,7 @@ use Rattle.market_cases.proofs.rules.all_offers.Goals as goal
 
 pub loop-bidder-preserved : goal.loop-bidder-preserved
 loop-bidder-preserved c = λ i at.
-    let fits = is_fit (terms_of c.args.market.now.request i) in
+    let fits = is_fit (terms_of c.args.asked.now i) in
     let all = c.loop-bidder.all.items in
     let more = c.in_ok-more.more in
     ap (list_all fits) (c.in_ok-extend_from_slice.ensures.items ∙ ap (λ l. all ++ l) c.as_slice.ensures)

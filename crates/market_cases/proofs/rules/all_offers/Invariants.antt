@@ -7,4 +7,4 @@ use Rattle.market_cases.proofs.rules.all_offers.Given as goal
 
 -- the offers so far fit
 abbrev pub invariant-loop-bidder : goal.invariant-loop-bidder
-invariant-loop-bidder l = (i : Imp) → slice_get l.market.request.imps 0 ≡ Some i → list_all (is_fit (terms_of l.market.request i)) l.all.items ≡ true
+invariant-loop-bidder l = (i : Imp) → slice_get l.asked.imps 0 ≡ Some i → list_all (is_fit (terms_of l.asked i)) l.all.items ≡ true

@@ -12,8 +12,8 @@ first (x ∷ xs) some = (x, refl)
 -- the offers fit the terms by the contracts alone
 pub clear-win-requires : goal.clear-win-requires
 clear-win-requires c =
-    let r = c.args.market.now.request in
-    let found = first r.imps c.args.market.now.some in
-    ap (λ ts. list_all (is_fit ts) c.deref.result.now) (c.as_slice.ensures ∙ c.in_ok-terms.ensures found.0 found.1)
+    let r = c.args.asked.now in
+    let found = first r.imps c.requires.some in
+    ap (λ ts. list_all (is_fit ts) c.deref.result.now) (c.terms_at.ensures found.0 found.1)
     ∙ ap (list_all (is_fit (terms_of r found.0))) c.deref.ensures.value
     ∙ c.in_ok-offers.ensures found.0 found.1

@@ -20,6 +20,7 @@ returns g c =
       legal = h.legal;
       budgets = c.budgets_hold_at_each_place.ensures past.origin (calls past.seen);
       crash = h.images;
+      since = h.since;
       faults = h.faults;
       failed = h.counted;
     }

@@ -45,7 +45,7 @@ returns-in-Err-clause-serves g c = λ before disk gives begins.
       disks = c.doors.ensures.disks;
       faults = has_failed c.in-Err.fault _ _ h.cause;
     })
-    (is_idle g.W.Disk.Disk g.W.Door.Door g.W.Door.Link.Link o disk back c.args.seat.origin past begins idle.origin idle.untouched idle.legal idle.budgets idle.order idle.crash idle.faults idle.failed)
+    (is_idle g.W.Disk.Disk g.W.Door.Door g.W.Door.Link.Link o disk back c.args.seat.origin past begins idle.origin idle.untouched idle.legal idle.budgets idle.order idle.crash idle.since idle.faults idle.failed)
     (out.doors ∙ c.new.ensures) out.disk out.past
     (subst (λ (code : ℕ). EndsWithoutDoors c.in-Err.fault (g.K.Sink.written c.args.sink.now) (g.K.Sink.written c.end_without_doors-status.new.sink) code) (sym out.status) c.end_without_doors-status.ensures.ends)
 

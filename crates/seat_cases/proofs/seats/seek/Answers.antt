@@ -14,5 +14,4 @@ returns-in-Err-clause-on g c = goes_waiting _ c.args.hand c.begin-seat.result.0 
 pub returns-in-Ok-clause-sought : goal.returns-in-Ok-clause-sought
 returns-in-Ok-clause-sought g c =
     let seat : Seat = c.begin-seat.result.0 in
-    let version = subst (λ r. IfOk r (λ t. IsVersionOf seat.origin (calls seat.seen) (version_in t))) c.in-Ok.is c.begin-seat.ensures.version in
-    c.put_together.ensures seat (c.find_for-found.ensures seat version)
+    record { version = subst (λ r. IfOk r (λ t. IsVersionOf seat.origin (calls seat.seen) (version_in t))) c.in-Ok.is c.begin-seat.ensures.version; valid = c.requires.valid }

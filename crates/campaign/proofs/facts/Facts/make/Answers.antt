@@ -5,7 +5,10 @@ use Rattle.campaign.proofs.Firsts.{no_first}
 
 pub invariant_of-result : goal.invariant_of-result
 invariant_of-result c = record {
-  faultless = no_first (fact_faults c.args.parts) (sym c.in-None.ensures.value);
-  whole_micros = c.requires;
-  in_range = c.in-None.ensures.range;
+  kept = record {
+    faultless = no_first (fact_faults c.args.parts) (sym c.in-None.ensures.value);
+    whole_micros = c.requires;
+    in_range = c.in-None.ensures.range;
+  };
+  marks = c.marks_of.ensures;
 }

@@ -5,6 +5,13 @@ use Rattle.follower.specs.Passing.{TurnsIn}
 use Rattle.follower.proofs.Standing.{all_is_said, found_block, found_shut, not_found}
 use Rattle.journal_file.specs.Damage.{HasBlock}
 use Rattle.journal_file.specs.declared.faults.JournalFault.{JournalFault}
+use Rattle.std.proofs.Common.{ℕ, Ok}
+use Rattle.std.specs.Prelude.{Option}
+use Rattle.follower.specs.Moving.{IsTurn, spot}
+use Rattle.follower.specs.Seen.{Since}
+use Rattle.follower.proofs.Seen.{found_shown, not_found_shown, passes_none}
+use Rattle.journal_file.proofs.Shown.{shown_so, shown_still}
+use Rattle.journal_file.specs.Shows.{IsBlockShown, ShowsBlock}
 use Rattle.follower.proofs.follower.Follower.pass_block.Goals as goal
 
 pub returns-in_err-found-clause-turns : goal.returns-in_err-found-clause-turns
@@ -42,3 +49,35 @@ returns-clause-turns g c = λ told small within.
     let image = (g.D.Disk.store old.disk).reads in
     let found = rw c.in-None.is at (c.in_ok-found.ensures.block told) in
     (within, all_is_said image old.core.state old.count old.gate old.done c.requires.begun within (found_shut old.gate _ _ _ found))
+
+pub returns-in_err-found-clause-shows : goal.returns-in_err-found-clause-shows
+returns-in_err-found-clause-shows g c =
+    let f = spot c.args.self.now in
+    let p = err_from_is_err_and c.from_residual.result c.from_residual.ensures.1 in
+    let is = p.1 ∙ ap Err p.2 in
+    shown_so _ _ c.in_err-found.ensures.shows (λ s found. subst (λ (r : Result Bool JournalFault). IsTurn s f f r) (sym is) (not_found_shown f s _ _ _ found))
+
+pub returns-in_err-pass_payload-in-Some-clause-shows : goal.returns-in_err-pass_payload-in-Some-clause-shows
+returns-in_err-pass_payload-in-Some-clause-shows g c =
+    let old = c.args.self.now in
+    let new = c.pass_payload.new.self in
+    let p = err_from_is_err_and c.from_residual-in_err-pass_payload-in-Some.result c.from_residual-in_err-pass_payload-in-Some.ensures.1 in
+    let is = p.1 ∙ ap Err p.2 in
+    shown_still _ _ _ c.in_ok-found.ensures.shows (ap (λ d. g.D.Disk.shown d) c.pass_payload.ensures.disk) (λ s found.
+    let there = found_shown old.gate c.in-Some.next s c.new-payload.result c.block_at.new.out c.new-payload.ensures (subst (λ (o : Option ℕ). IsBlockShown old.gate s c.new-payload.result c.block_at.new.out (Ok o)) c.in-Some.is found) in
+    subst (λ (r : Result Bool JournalFault). IsTurn s (spot old) (spot new) r) (sym is)
+    (c.in_err-pass_payload-in-Some.ensures.shows s (subst (λ l. Since (ShowsBlock old.gate l) s) (sym c.as_bytes.ensures.value) there)))
+
+pub returns-in-Some-clause-shows : goal.returns-in-Some-clause-shows
+returns-in-Some-clause-shows g c =
+    let old = c.args.self.now in
+    shown_still _ _ _ c.in_ok-found.ensures.shows (ap (λ d. g.D.Disk.shown d) c.pass_payload.ensures.disk) (λ s found.
+    let there = found_shown old.gate c.in-Some.next s c.new-payload.result c.block_at.new.out c.new-payload.ensures (subst (λ (o : Option ℕ). IsBlockShown old.gate s c.new-payload.result c.block_at.new.out (Ok o)) c.in-Some.is found) in
+    c.in_ok-pass_payload-in-Some.ensures.shows s (subst (λ l. Since (ShowsBlock old.gate l) s) (sym c.as_bytes.ensures.value) there))
+
+pub returns-clause-shows : goal.returns-clause-shows
+returns-clause-shows g c =
+    let old = c.args.self.now in
+    shown_so _ _ c.in_ok-found.ensures.shows (λ s found.
+    let shut = subst (λ (o : Option ℕ). IsBlockShown old.gate s c.new-payload.result c.block_at.new.out (Ok o)) c.in-None.is found in
+    (passes_none s (spot old), shut.0))

@@ -3,6 +3,15 @@ use Rattle.rtb_disk.specs.Stores.{Store}
 use Rattle.follower.specs.Following.{StandsIn}
 use Rattle.follower.specs.Passing.{TurnsIn}
 use Rattle.follower.proofs.Standing.{goes_then, inside}
+use Rattle.std.proofs.Common.{[], ◌++◌, Err, ap, false, inl, inr, refl, sym}
+use Rattle.std.specs.Prelude.{MatchResult, Result, ◌⊎◌, ◌≤◌}
+use Rattle.std.proofs.lemmas.Result.{err_from_is_err_and}
+use Rattle.follower.specs.Moving.{IsRefused, IsTurn, Passes, spot}
+use Rattle.follower.proofs.Seen.{moves_passed, passes_none, passes_then, refused_then, turn_then}
+use Rattle.follower.proofs.Standing.{goes_none}
+use Rattle.journal_file.proofs.Shown.{shown_none, shown_so, shown_then}
+use Rattle.journal_file.specs.Shows.{ShowsShut}
+use Rattle.journal_file.specs.declared.faults.JournalFault.{JournalFault}
 use Rattle.follower.proofs.follower.Follower.pass_blocks.Goals as goal
 
 pub returns-then-self-size-clause-turns : goal.returns-then-self-size-clause-turns
@@ -29,5 +38,41 @@ loop-preserved g c =
       goes = goes_then c.args.self.now c.loop.self new i.goes c.pass_piece.ensures.goes;
       same = c.pass_piece.ensures.same ∙ i.same;
       faults = one.cause.2 (λ e. absurd (cc e)) ∙ i.faults;
+      shows = shown_then _ _ _ i.shows one.shows (λ s t a b. passes_then s t (spot c.args.self.now) (spot f) (spot new) a (subst (λ more. IsTurn t (spot f) (spot new) (Ok more)) c.if-not-more.false b));
       within = λ told small w. subst (λ more. TurnsIn (g.D.Disk.store c.args.self.now.disk).reads new.core.state new.count new.gate new.done (Ok more)) c.if-not-more.false (turns told small (i.within told small w));
     }
+
+pub loop-init : goal.loop-init
+loop-init g c = record {
+  begun = c.requires.begun;
+  goes = goes_none c.args.self.now;
+  same = refl;
+  faults = refl;
+  shows = shown_none _ _ refl (passes_none [] (spot c.args.self.now));
+  within = λ told small w. w;
+}
+
+pub returns-then-self-size-clause-shows : goal.returns-then-self-size-clause-shows
+returns-then-self-size-clause-shows g c = shown_so _ _ c.loop.invariant.shows (λ s a. (a, inr c.if-self-size.true))
+
+pub returns-then-not-more-clause-shows : goal.returns-then-not-more-clause-shows
+returns-then-not-more-clause-shows g c =
+    let old = spot c.args.self.now in
+    let f = spot c.loop.self in
+    let new = spot c.pass_piece.new.self in
+    shown_then _ _ _ c.loop.invariant.shows c.in_ok-more.ensures.shows (λ s t a b.
+    let all : IsTurn (s ++ t) old new (Ok false) = turn_then s t old f new (Ok false) a (subst (λ more. IsTurn t f new (Ok more)) c.if-not-more.true b) in
+    (all.0, inl all.1))
+
+pub returns-in_err-more-clause-shows : goal.returns-in_err-more-clause-shows
+returns-in_err-more-clause-shows g c =
+    let old = spot c.args.self.now in
+    let f = spot c.loop.self in
+    let new = spot c.pass_piece.new.self in
+    let p = err_from_is_err_and c.from_residual.result c.from_residual.ensures.1 in
+    let is = p.1 ∙ ap Err p.2 in
+    shown_then _ _ _ c.loop.invariant.shows c.in_err-more.ensures.shows (λ s t a b.
+    subst (λ (r : Result Unit JournalFault). MatchResult r (λ _. Passes (s ++ t) old new × (ShowsShut new.gate (s ++ t) ⊎ (c.args.size ≤ new.gate))) (IsRefused (s ++ t) old new)) (sym is) (refused_then s t old f new _ a b))
+
+pub returns-clause-shows : goal.returns-clause-shows
+returns-clause-shows g c = shown_so _ _ c.loop.invariant.shows (λ s a. moves_passed s (spot c.args.self.now) (spot c.loop.self) a)

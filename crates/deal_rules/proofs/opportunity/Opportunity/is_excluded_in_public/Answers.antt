@@ -1,7 +1,0 @@
-use Rattle.std.proofs.Common.{◌∙◌}
-use Rattle.deal_rules.specs.Seen.{opportunity_seen}
-use Rattle.deal_rules.proofs.Ordered.{public_excludes}
-use Rattle.deal_rules.proofs.opportunity.Opportunity.is_excluded_in_public.Goals as goal
-
-pub returns : goal.returns
-returns c = c.has_reason.ensures ∙ public_excludes (opportunity_seen c.args.self.now)
