@@ -20,8 +20,13 @@ def install(machine, package):
 
 
 def status(machine):
-    """The status with which the server last ended."""
-    return machine.run("systemctl show -p ExecMainStatus --value rtbx")[1].strip()
+    """The status with which the server last ended. While a start is under way systemd tells none, which it says as 0."""
+    for _ in range(50):
+        told = machine.run("systemctl show -p ExecMainStatus --value rtbx")[1].strip()
+        if told != "0":
+            break
+        time.sleep(0.1)
+    return told
 
 
 def try_first_start(machine):

@@ -1,4 +1,5 @@
-"""A change that is written before it is carried out: who waits for the disk meanwhile, and who does not."""
+"""A change that is written before it is carried out, and a sale that is written behind it: who waits for the disk meanwhile,
+and who does not."""
 
 import shutil
 import subprocess
@@ -39,7 +40,8 @@ def holding_library(folder):
 
 def try_ahead(program, folder):
     """While the disk holds a change of a campaign, auctions without a sale and reports are answered as before it, and a
-    sale waits; then the change is answered, and the sale is of the changed campaign."""
+    sale waits; then the change is answered, and the sale is of the changed campaign. While it holds a sale, all that comes
+    behind that waits."""
     library = holding_library(folder)
     if library is None:
         print("ahead: left out, since there is no compiler")
@@ -66,5 +68,18 @@ def try_ahead(program, folder):
             CHECKS.same("the sale", seller.answer(), won_by_a(1, "0.3"))
             other.send(get("/campaign/1"))
             CHECKS.same("a report is that of behind", other.answer(), report(1, bid="3", reserved="0.0003", held=1))
+            switch.touch()
+            seller.send(SELL)
+            CHECKS.holds("a sale waits for its block", seller.is_silent())
+            other.send(NOT_WANTED)
+            CHECKS.holds("an auction without a sale waits behind it", other.is_silent())
+            editor.send(post("/campaign", A))
+            CHECKS.holds("another campaign waits", editor.is_silent())
+            switch.unlink()
+            CHECKS.same("the second sale", seller.answer(), won_by_a(2, "0.3"))
+            CHECKS.same("the auction without one", other.answer(), NO_BID)
+            CHECKS.same("the other campaign", editor.answer(), new(2))
+            other.send(get("/campaign/1"))
+            CHECKS.same("a report has the sale", other.answer(), report(1, bid="3", reserved="0.0006", held=2))
         server.kill()
-    CHECKS.same("recover has both", recovered(program, journal), counts(campaigns=1, live=1, sales=1, held=1))
+    CHECKS.same("recover has all", recovered(program, journal), counts(campaigns=2, live=2, sales=2, held=2))

@@ -1,9 +1,11 @@
-"""Both sides of each limit of a message and a body."""
+"""Both sides of each limit of a message and a body, and what is told where one of all campaigns is met."""
 
 import json
+import os
+import select
 
 from serving.checks import CHECKS
-from serving.messages import campaign, error, get, post, request
+from serving.messages import campaign, error, get, new, post, request
 from serving.program import converse, running
 
 
@@ -53,6 +55,33 @@ def body_limits():
             error(400, "price", field="bid", fault="too-large"),
         ),
     ]
+
+
+def wide(count):
+    """A campaign whose target lists so many values in each of its 1,024 predicates."""
+    values = [str(i) for i in range(count)]
+    return campaign(target="[" + ",".join([targeted(*(predicate(attr, values) for attr in ATTRIBUTES[:16]))[1:-1]] * 64) + "]")
+
+
+def try_full(program, folder):
+    """Where a limit of all campaigns is met, a message says which, each time, and standard error does, once."""
+    values, full = 4_194_304, error(503, "full", limit="values")
+    body, each = wide(30), 30 * 16 * 64
+    with running(program, folder / "full-limit") as server, server.link() as link:
+        for n in range(values // each):
+            link.send(post("/campaign", body))
+            CHECKS.same(f"campaign {n + 1}", link.answer(), new(n + 1))
+        for _ in range(3):
+            link.send(post("/campaign", body))
+            CHECKS.same("one campaign more", link.answer(), full)
+        link.send(post("/campaign/1", campaign()))
+        CHECKS.holds("one is changed to hold fewer", link.answer().startswith(b"HTTP/1.1 200 "))
+        link.send(post("/campaign", body))
+        CHECKS.same("then there is room", link.answer(), new(values // each + 1))
+        said = b""
+        while select.select([server.process.stderr], [], [], 0.3)[0]:
+            said += os.read(server.process.stderr.fileno(), 65536)
+        CHECKS.same("standard error says it once", said, b"rtbx: full: values\n")
 
 
 def padded(size):

@@ -433,7 +433,9 @@ def try_failing(program, folder):
         switch.unlink()
         came = [it for some in answers for it in some]
         failed = came.count(error(500, "store-failed"))
-        told = sorted(int(re.search(rb'"campaign":(\d+)', it)[1]) for it in came if it != error(500, "store-failed"))
+        numbers = [(it, re.search(rb'"campaign":(\d+)', it)) for it in came if it != error(500, "store-failed")]
+        CHECKS.same("nothing else is told", [it for it, number in numbers if not number], [])
+        told = sorted(int(number[1]) for _, number in numbers if number)
         if not failed:
             print("failing: left out, since no call failed behind the library")
             return
