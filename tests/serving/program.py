@@ -3,10 +3,12 @@
 import os
 import re
 import select
+import signal
 import socket
 import subprocess
 import time
 from contextlib import contextmanager
+from pathlib import Path
 
 from serving.checks import CHECKS, LIMIT, SILENCE, Stopped
 from serving.messages import PUBLIC
@@ -19,7 +21,7 @@ class Running:
     """A server that runs, at an address of loopback."""
 
     def __init__(self, program, journal, port=None, ttl=300000, workers=1, patience=60000, env=None, public=PUBLIC, under=(), more=()):
-        self.port = port or free_port()
+        self.port, self.under = port or free_port(), under
         self.command = [*under, *serve_words(program, journal, self.port, ttl, workers, patience, public), *more]
         given = {"stdin": subprocess.DEVNULL, "stdout": subprocess.PIPE, "stderr": subprocess.PIPE}
         self.process = subprocess.Popen(self.command, restore_signals=False, env=env and {**os.environ, **env}, **given)
@@ -32,9 +34,16 @@ class Running:
     def link(self):
         return Link(self.port)
 
+    def inner(self):
+        """The server's own process, where another one has begun it."""
+        children = Path(f"/proc/{self.process.pid}/task/{self.process.pid}/children")
+        return [int(it) for it in children.read_text().split()] if self.under else []
+
     def kill(self):
-        """Ends the server at once (SIGKILL)."""
+        """Ends the server at once (SIGKILL), and what it runs under."""
         if self.process.poll() is None:
+            for pid in self.inner():
+                os.kill(pid, signal.SIGKILL)
             self.process.kill()
             self.process.wait(LIMIT)
         self.process.stdout.close()
