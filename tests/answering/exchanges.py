@@ -5,6 +5,7 @@
   `STATUS BODY`, at 405 with the methods in between, with `; ` between two answers.
 - `times N MESSAGE`: the message so many times, of which the last answer is told.
 - `ttl N`: how long a sale is held, in milliseconds; it stands in front. Without it, 300000.
+- `sales N`: how many sales the list is to have at most; it stands in front.
 - `forget N`: the journal is written anew by `compact --keep N`, and served from there.
 - `replay`: the server ends and begins again over its journal.
 
@@ -17,6 +18,8 @@ from serving.checks import CHECKS
 from serving.messages import A, B, P1, Q1, get, message
 from serving.program import Running, ended
 
+# So many messages are sent over a link, which has 10,000 at most.
+ON_A_LINK = 9_000
 BODIES = {
     "A": A,
     "B": B,
@@ -39,18 +42,19 @@ def body_of(text):
 class Exchange:
     """A server over a journal of its own, which ends and begins again."""
 
-    def __init__(self, program, folder, system, ttl):
-        self.program, self.folder, self.system, self.ttl = program, folder, system, ttl
+    def __init__(self, program, folder, system, ttl, more):
+        self.program, self.folder, self.system, self.ttl, self.more = program, folder, system, ttl, more
         self.numbers = itertools.count()
         self.journal = self.new_path()
         self.server = self.link = None
+        self.taken = 0
 
     def new_path(self):
         return self.folder / f"exchange{next(self.numbers)}.journal"
 
     def begin(self):
-        self.server = Running(self.program, self.journal, ttl=self.ttl, env=self.system.clock())
-        self.link = self.server.link()
+        self.server = Running(self.program, self.journal, ttl=self.ttl, env=self.system.clock(), more=self.more)
+        self.link, self.taken = self.server.link(), 0
 
     def end(self):
         if self.server:
@@ -73,6 +77,10 @@ class Exchange:
 
     def answer(self, moment, data):
         self.system.stand_at(moment)
+        if self.taken == ON_A_LINK:
+            self.link.socket.close()
+            self.link, self.taken = self.server.link(), 0
+        self.taken += 1
         self.link.send(data)
         return told(self.link.answer())
 
@@ -118,7 +126,10 @@ def try_exchange(program, folder, system, fields):
     ttl = 300_000
     if fields[0].startswith(b"ttl "):
         ttl = int(fields.pop(0)[4:])
-    exchange = Exchange(program, folder, system, ttl)
+    more = ()
+    if fields[0].startswith(b"sales "):
+        more = ("--sales", fields.pop(0)[6:].decode())
+    exchange = Exchange(program, folder, system, ttl, more)
     system.stand_at(0)
     try:
         exchange.begin()

@@ -38,18 +38,20 @@ class Reader:
     def __init__(self, program, journal):
         self.journal = journal
         self.server = Running(program, self.journal)
-        self.link = self.server.link()
 
     def end(self):
-        self.link.socket.close()
         self.server.kill()
         self.journal.unlink()
 
-    def ask(self, target, body):
-        """The status, and the body that was answered."""
-        self.link.send(post(target, body))
-        head, _, answered = self.link.answer().partition(b"\r\n\r\n")
+    def told(self, message):
+        """The status, and the body that was answered, over a link of its own, since one on which nothing comes is closed."""
+        with self.server.link() as link:
+            link.send(message)
+            head, _, answered = link.answer().partition(b"\r\n\r\n")
         return int(head[9:12]), answered
+
+    def ask(self, target, body):
+        return self.told(post(target, body))
 
     def fault(self, target, body):
         """The members of the refusal, or none where nothing is wrong."""

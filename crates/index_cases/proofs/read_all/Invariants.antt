@@ -1,5 +1,5 @@
 use Rattle.std.proofs.Common.{◌≤◌, ◌+◌, length}
-use Rattle.index_cases.proofs.conjunctive.read_all.Given as goal
+use Rattle.index_cases.proofs.read_all.Given as goal
 
 abbrev pub invariant-loop-place : goal.invariant-loop-place
 invariant-loop-place l = length l.expressions ≤ length l.fn.expressions + l.place
