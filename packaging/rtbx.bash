@@ -12,7 +12,7 @@ _rtbx() {
         words="serve recover compact follow audit make try which --help --version"
     else
         case ${COMP_WORDS[1]} in
-        serve) words="--listen --journal --existing --public --workers --ttl --patience --help --version" ;;
+        serve) words="--listen --journal --existing --public --workers --ttl --sales --patience --help --version" ;;
         recover | audit) words="--journal --help --version" ;;
         compact) words="--journal --into --keep --help --version" ;;
         follow) words="--listen --journal --help --version" ;;

@@ -4,10 +4,14 @@ import re
 import time
 
 from debian.swaps import HOME, JOURNAL, Script, comes_to, made_journals, damaged, prepare, run_script
-from serving.checks import CHECKS
+from serving.checks import CHECKS, LIMIT
+from serving.messages import P1
 
+SELL = f"curl -s -o /dev/null -w '%{{http_code}}' -d '{P1}' http://127.0.0.1:8080/openrtb2/auction"
 ASK = "curl -s -o /dev/null -w '%{http_code}' --retry 20 --retry-delay 0 --retry-connrefused http://127.0.0.1:8080/campaign/1"
-UNITS = ["rtbx.service", "rtbx-standby.service", "rtbx-follow.service", "rtbx-compact.timer", "rtbx-metrics.timer"]
+UNITS = ["rtbx.service", "rtbx-standby.service", "rtbx-follow.service", "rtbx-compact.timer", "rtbx-forget.timer", "rtbx-metrics.timer"]
+# How long the list is, and how many sales are forgotten: a forgetting that takes none.
+LIST = "curl -s -X POST --retry 20 --retry-delay 0 --retry-connrefused http://127.0.0.1:8080/forget/67108864"
 
 
 def install(machine, package):
@@ -102,8 +106,8 @@ def try_figures(machine, program, temporary):
     machine.run("mkdir -p /var/lib/prometheus/node-exporter; systemctl start rtbx-follow")
     effects(machine)
     for line, wanted in [
-        ("true", ["rtbx_up 1", "rtbx_follower_up 1", f"rtbx_journal_bytes {len(late)}", "rtbx_journal_sales 40", 'rtbx_campaign_live{campaign="3"} 1']),
-        (f"rtbx-compact --keep 10; rm {file}; {ASK}; systemctl restart rtbx-follow", ["rtbx_up 1", "rtbx_journal_whole 1", "rtbx_journal_sales 10"]),
+        ("true", ["rtbx_up 1", "rtbx_follower_up 1", f"rtbx_journal_bytes {len(late)}", "rtbx_journal_sales 40", "rtbx_sales 40", "rtbx_sales_forgotten 0", "rtbx_sales_limit 4194304", 'rtbx_campaign_live{campaign="3"} 1']),
+        (f"rtbx-compact --keep 10; rm {file}; {ASK}; systemctl restart rtbx-follow", ["rtbx_up 1", "rtbx_journal_whole 1", "rtbx_journal_sales 10", "rtbx_sales 10", "rtbx_sales_forgotten 30"]),
         ("systemctl stop rtbx", ["rtbx_up 0", "rtbx_follower_up 0", "rtbx_journal_sales 10"]),
         (f"rm {file} {JOURNAL}", ["rtbx_up 0", "rtbx_journal_bytes 0", "rtbx_journal_whole 0"]),
     ]:
@@ -113,6 +117,36 @@ def try_figures(machine, program, temporary):
         CHECKS.same(f"figures after {line}: {said}", code, 0)
         found = machine.path(file).read_text().splitlines()
         CHECKS.same(f"figures after {line}: missing", [it for it in wanted if it not in found], [])
+
+
+def try_forgets(machine, program, temporary):
+    """The timer's service forgets what is settled, but as many as are to stay, at each run, and fails where nobody answers."""
+    late = made_journals(program, temporary)[1]
+    prepare(machine, Script("", "", late, late))
+    machine.run("cp /etc/default/rtbx /srv/default")
+    for line, wanted in [
+        ("systemctl start rtbx-forget", told(40, 0)),
+        ("echo RTBX_KEEP=10 >> /etc/default/rtbx; systemctl start rtbx-forget", told(10, 30)),
+        ("echo RTBX_SALES=10 >> /etc/default/rtbx; systemctl restart rtbx", told(10, 30)),
+    ]:
+        code, said = machine.run(line)
+        CHECKS.same(f"{line}: {said}", (code, machine.run(LIST)[1]), (0, wanted))
+    CHECKS.same("a list of as many as it may have", machine.run(SELL)[1], "503")
+    machine.run("echo RTBX_KEEP=0 >> /etc/default/rtbx; systemctl start rtbx-forget.timer")
+    until = time.monotonic() + 2 * LIMIT
+    while machine.run(LIST)[1] != told(0, 40) and time.monotonic() < until:
+        time.sleep(0.5)
+    CHECKS.same("the timer forgets the rest", machine.run(LIST)[1], told(0, 40))
+    CHECKS.same("and it sells again", machine.run(SELL)[1], "200")
+    machine.run("systemctl stop rtbx-forget.timer; systemctl stop rtbx")
+    CHECKS.holds("nobody answers", machine.run("systemctl start rtbx-forget")[0] != 0)
+    CHECKS.same("and that is its end", machine.run("systemctl show -p ExecMainStatus --value rtbx-forget")[1], "1\n")
+    machine.run("cp /srv/default /etc/default/rtbx; systemctl reset-failed rtbx-forget; systemctl start rtbx")
+    CHECKS.same("once it is back", (machine.run("systemctl start rtbx-forget")[0], machine.run(LIST)[1]), (0, told(1, 40)))
+
+
+def told(sales, forgotten):
+    return f'{{"sales":{sales},"forgotten":{forgotten}}}'
 
 
 def try_refusals(machine, program, temporary):

@@ -208,10 +208,10 @@ def report_of(state, number, effects):
     own = [sale for sale in state.sales if sale.campaign == number]
 
     def total(name):
-        return sum(sale.price for sale in own if sale.state == name)
+        return sum(sale.price for sale in own if sale.state == name) + (campaign.gone["spent"] if name == "billed" else 0)
 
     def count(name):
-        return sum(sale.state == name for sale in own)
+        return sum(sale.state == name for sale in own) + campaign.gone.get(name, 0)
 
     return report(
         number,

@@ -6,7 +6,7 @@ import struct
 from dataclasses import dataclass, field
 from heapq import heappop, heappush
 
-SOLD, ADDED, CHANGED, PAUSED, RESUMED, BILLED, LOST, SOLD_TO, CAPPED_ADDED, CAPPED_CHANGED, KEPT, KEPT_SALE = range(1, 13)
+SOLD, ADDED, CHANGED, PAUSED, RESUMED, BILLED, LOST, SOLD_TO, CAPPED_ADDED, CAPPED_CHANGED, KEPT, KEPT_SALE, FORGOT = range(1, 14)
 NAMES = {1: b"RTBXJ01", 2: b"RTBXJ02"}
 STATES = ["held", "billed", "lost", "expired"]
 
@@ -121,10 +121,10 @@ class State:
             self.apply(reader.number(8), reader.number(1), reader)
 
     def apply(self, moment, tag, reader):
-        while tag < KEPT and self.held and self.held[0][0] <= moment:
-            sale = self.sale(heappop(self.held)[1])
-            if sale.state == "held":
-                sale.state = "expired"
+        while tag not in (KEPT, KEPT_SALE) and self.held and self.held[0][0] <= moment:
+            number = heappop(self.held)[1]
+            if number > self.forgotten and self.sale(number).state == "held":
+                self.sale(number).state = "expired"
         if tag in (SOLD, SOLD_TO):
             user = reader.text() if tag == SOLD_TO else None
             for _ in range(reader.number(1)):
@@ -153,6 +153,9 @@ class State:
             state = STATES[reader.number(1)]
             self.add(Sale(campaign, price, made, due, state, reader.text() if reader.number(1) else None))
 
+        elif tag == FORGOT:
+            self.forget_first(reader.number(8) - self.forgotten)
+
     @staticmethod
     def campaign(capped, reader):
         facts = reader.facts()
@@ -163,13 +166,17 @@ class State:
         """The longest front of sales of which none is held goes, but so many stay."""
         front = 0
         while front < len(self.sales) - keep and self.sales[front].state != "held":
-            gone = self.campaigns[self.sales[front].campaign - 1].gone
-            gone[self.sales[front].state] += 1
-            if self.sales[front].state == "billed":
-                gone["spent"] += self.sales[front].price
             front += 1
-        del self.sales[:front]
-        self.forgotten += front
+        self.forget_first(front)
+
+    def forget_first(self, count):
+        """So many sales go, of which none is held; each campaign keeps what its own added up to."""
+        for sale in self.sales[: max(0, count)]:
+            gone = self.campaigns[sale.campaign - 1].gone
+            gone[sale.state] += 1
+            gone["spent"] += sale.price if sale.state == "billed" else 0
+        del self.sales[: max(0, count)]
+        self.forgotten += max(0, count)
 
     def kept(self):
         """The bytes of its effects, one after the other."""

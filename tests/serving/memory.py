@@ -6,7 +6,7 @@ import struct
 import subprocess
 
 from serving.checks import CHECKS, LIMIT
-from serving.messages import A, B, SELL, error, get, message, new, number, post, report, request, settled, won_by_a
+from serving.messages import A, B, SELL, error, get, message, new, number, post, report, request, settled, trimmed, won_by_a
 from serving.program import Link, counts, ended, free_port, recovered, running, serve_words
 
 # A start or a message asks for fewer pieces of memory than this.
@@ -205,6 +205,7 @@ def try_messages(refusals, program, journal):
             ("bill", message("POST", "/bill/1"), settled(1, "billed")),
             ("lose", message("GET", "/lose/2"), settled(2, "lost")),
             ("report", get("/campaign/2"), report(2, bid="1")),
+            ("forget", post("/forget/0"), trimmed(told.sales - 2, 2)),
             ("no such path", get("/nothing"), error(404, "not-found")),
             ("no JSON", post("/campaign", "{"), error(400, "json-ended", at=1)),
         ]:

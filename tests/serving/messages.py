@@ -80,6 +80,11 @@ def settled(n, state):
     return answer(200, f'{{"sale":{n},"state":"{state}"}}')
 
 
+def trimmed(sales, forgotten):
+    """The answer to POST /forget/K."""
+    return answer(200, f'{{"sales":{sales},"forgotten":{forgotten}}}')
+
+
 def report(campaign, state="live", bid="2.5", budget="10", reserved="0", spent="0", held=0, billed=0, lost=0, expired=0):
     """The answer to GET /campaign/N; amounts as they are written."""
     return answer(

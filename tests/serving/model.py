@@ -6,11 +6,13 @@ import random
 from decimal import ROUND_CEILING, Decimal
 
 from serving.checks import CHECKS
-from serving.messages import NO_BID, PUBLIC, answer, error, new, number, post, message, settled, text_of
+from serving.messages import NO_BID, PUBLIC, answer, error, new, number, post, message, settled, text_of, trimmed
 from serving.program import counts, recovered, running
 
 SEEDS = [1, 2, 3]
 COMMANDS = 300
+# A forgetting takes no more at once.
+MOST_AT_ONCE = 16_384
 # A kill comes before one of so many commands.
 KILLS = 40
 
@@ -29,7 +31,8 @@ def amount(value, digits):
 class Sale:
     """An impression that was sold, for a price in nano-dollars, which are micro-dollars for a thousand."""
 
-    def __init__(self, campaign, price, user):
+    def __init__(self, number, campaign, price, user):
+        self.number = number
         self.campaign = campaign
         self.price = price
         self.user = user
@@ -42,7 +45,9 @@ class Exchange:
     def __init__(self):
         self.campaigns = []
         self.live = []
+        # The first so many of the sales are forgotten: they count for the money of their campaigns alone.
         self.sales = []
+        self.forgotten = 0
 
     def of(self, campaign, *states):
         return [it for it in self.sales if it.campaign == campaign and it.state in states]
@@ -95,10 +100,22 @@ class Exchange:
         """A billing or a loss, which is the other's refusal."""
         if sale > len(self.sales):
             return error(404, "no-such-sale")
+        if sale <= self.forgotten:
+            return error(410, "forgotten")
         if self.sales[sale - 1].state not in ["held", state]:
             return error(409, f"was-{self.sales[sale - 1].state}")
         self.sales[sale - 1].state = state
         return settled(sale, state)
+
+    def to_forget(self, keep):
+        """How many of the oldest a forgetting takes: none behind the first that is held, and so that so many are left."""
+        most = min(len(self.sales) - self.forgotten - keep, MOST_AT_ONCE)
+        oldest = range(self.forgotten, self.forgotten + most)
+        return next((n - self.forgotten for n in oldest if self.sales[n].state == "held"), len(oldest))
+
+    def forget(self, keep):
+        self.forgotten += self.to_forget(keep)
+        return trimmed(len(self.sales) - self.forgotten, self.forgotten)
 
     def auction(self, request):
         """Sells the impressions one after the other."""
@@ -108,7 +125,7 @@ class Exchange:
             if offers:
                 winner, pool = min(offers, key=lambda it: order(self.campaigns, *it))
                 price = self.price(request, imp, offers, winner, pool)
-                self.sales.append(Sale(winner, price, user_of(request)))
+                self.sales.append(Sale(len(self.sales) + 1, winner, price, user_of(request)))
                 sold.append((imp, winner, pool, price, len(self.sales)))
         return self.response(request, sold) if sold else NO_BID
 
@@ -155,7 +172,8 @@ class Exchange:
         )
 
     def shown(self, campaign, user):
-        return sum(it.user == user for it in self.of(campaign, "held", "billed"))
+        """How often a cap counts that the user was shown the campaign: a forgotten sale counts no more."""
+        return sum(it.user == user and it.number > self.forgotten for it in self.of(campaign, "held", "billed"))
 
     def price(self, request, imp, offers, winner, pool):
         """What the winner pays in its pool."""
@@ -395,17 +413,27 @@ class Draw(random.Random):
             **self.maybe(0.2, "badv", lambda: self.some(DOMAINS, 0.3)),
         }
 
+    def sale(self, exchange):
+        """The oldest sale that is held, which holds back all behind it, or one of the last, or any, or one that is not there."""
+        last = len(exchange.sales)
+        oldest = next((it.number for it in exchange.sales if it.state == "held"), max(1, last))
+        return self.choice([oldest, oldest, self.randint(max(1, last - 12), last + 1), self.randint(1, last + 1)])
+
     def command(self, exchange):
         """A message, and what the exchange answers to it."""
-        kind = self.choices(["auction", "settle", "report", "add", "change", "state"], [50, 20, 10, 10, 5, 5])[0]
+        kinds = {"auction": 50, "settle": 20, "report": 10, "add": 10, "change": 5, "state": 5, "forget": 5}
+        kind = self.choices(list(kinds), list(kinds.values()))[0]
         campaign = self.randint(1, len(exchange.campaigns) + 1)
         if kind == "auction":
             request = self.request()
             return post("/openrtb2/auction", text_of(request)), exchange.auction(request)
         if kind == "settle":
-            sale = self.randint(max(1, len(exchange.sales) - 12), len(exchange.sales) + 1)
+            sale = self.sale(exchange)
             path, state = self.choice([("bill", "billed"), ("lose", "lost")])
             return message(self.choice(["GET", "POST"]), f"/{path}/{sale}"), exchange.settle(sale, state)
+        if kind == "forget":
+            keep = self.randint(0, 30)
+            return post(f"/forget/{keep}"), exchange.forget(keep)
         if kind == "report":
             return message("GET", f"/campaign/{campaign}"), exchange.report(campaign)
         if kind == "state":

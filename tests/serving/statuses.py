@@ -30,6 +30,9 @@ def try_usage(program, folder):
         ["serve", *full, "--ttl", "-1"],
         ["serve", *full, "--ttl", "0"],
         ["serve", *full, "--ttl", "31536000001"],
+        ["serve", *full, "--sales", "0"],
+        ["serve", *full, "--sales", "67108865"],
+        ["serve", *full, "--sales=2", "--sales", "2"],
         ["serve", *full, "--patience", "0"],
         ["serve", *full, "--patience", "3600001"],
         ["serve", *full, "--listen", "127.0.0.1:2"],
@@ -61,7 +64,7 @@ def try_usage(program, folder):
     for words in [["--help"], ["--version"], ["serve", "--help"], ["recover", "--help"], ["try", "--help"], ["serve", "--version"]]:
         status, out, errors = ended([program, *words])
         CHECKS.same(f"rtbx {' '.join(words)}", (status, out.startswith(b"rtbx") or b"Usage" in out, errors), (0, True, b""))
-    named = {"serve": [b"--listen", b"--journal", b"--existing", b"--public", b"--workers", b"--ttl", b"--patience"], "recover": [b"--journal"], "try": [b"BID@DOMAIN"]}
+    named = {"serve": [b"--listen", b"--journal", b"--existing", b"--public", b"--workers", b"--ttl", b"--sales", b"--patience"], "recover": [b"--journal"], "try": [b"BID@DOMAIN"]}
     for command, options in named.items():
         out = ended([program, command, "--help"])[1]
         CHECKS.same(f"rtbx {command} --help names its options", [it for it in options if it not in out], [])

@@ -10,9 +10,9 @@ import time
 from collections import Counter
 
 from serving.checks import CHECKS, LIMIT
-from serving.journal_bytes import ADDED, BILLED, CAPPED_ADDED, CAPPED_CHANGED, CHANGED, LOST, PAUSED, RESUMED, SOLD, SOLD_TO
+from serving.journal_bytes import ADDED, BILLED, CAPPED_ADDED, CAPPED_CHANGED, CHANGED, FORGOT, LOST, PAUSED, RESUMED, SOLD, SOLD_TO
 from serving.journal_bytes import Reader, State, payloads
-from serving.messages import A, B, NO_BID, SELL, error, get, message, new, post, settled, text_of
+from serving.messages import A, B, NO_BID, SELL, error, get, message, new, post, settled, text_of, trimmed
 from serving.model import Draw, Exchange, micros
 from serving.program import Link, counts, ended, recovered, running
 
@@ -62,13 +62,15 @@ class Counted(Exchange):
 
 class Client:
     """Sends messages one after the other, and keeps them with their answers. It edits its own campaigns alone, and bills
-    and loses its own sales, so that it is known whose message an effect is of."""
+    and loses its own sales, so that it is known whose message an effect is of; half of these are the oldest that it has not
+    settled, so that none holds back for long what the clients forget."""
 
     def __init__(self, port, seed):
         self.port = port
         self.draw = Draw(seed)
         self.own = []
         self.sales = []
+        self.settled = 0
         self.sent = []
         self.place = 0
         # A campaign that offers for the next message, which got no bid.
@@ -96,11 +98,15 @@ class Client:
         if len(self.own) < CAMPAIGNS:
             facts = self.draw.campaign()
             return "add", post("/campaign", text_of(facts)), facts
-        kind = self.draw.choices(["auction", "settle", "report", "change", "state"], [50, 25, 10, 5, 10])[0]
+        kinds = {"auction": 50, "settle": 30, "report": 10, "change": 5, "state": 10, "forget": 5}
+        kind = self.draw.choices(list(kinds), list(kinds.values()))[0]
         if kind == "settle" and self.sales:
             path, state = self.draw.choice([("bill", "billed"), ("lose", "lost")])
-            sale = self.draw.choice(self.sales[-12:])
+            sale = self.sale()
             return kind, message(self.draw.choice(["GET", "POST"]), f"/{path}/{sale}"), (sale, state)
+        if kind == "forget":
+            keep = self.draw.choice([0, 10, 100, 1000])
+            return kind, post(f"/forget/{keep}"), keep
         if kind == "report":
             campaign = self.draw.randint(1, CLIENTS * CAMPAIGNS + 1)
             return kind, get(f"/campaign/{campaign}"), campaign
@@ -112,6 +118,13 @@ class Client:
             return kind, post(f"/campaign/{campaign}", text_of(facts)), (campaign, facts)
         request = self.draw.request()
         return "auction", post("/openrtb2/auction", text_of(request)), request
+
+    def sale(self):
+        """The oldest of its own that it has not settled, or one of its last."""
+        if self.settled < len(self.sales) and self.draw.random() < 0.7:
+            self.settled += 1
+            return self.sales[self.settled - 1]
+        return self.draw.choice(self.sales[-12:])
 
     def learn(self, kind, came):
         if kind == "add":
@@ -159,6 +172,8 @@ def effect_in(reader):
         return "change", campaign
     if tag in (PAUSED, RESUMED):
         return "state", reader.number(4)
+    if tag == FORGOT:
+        return "forget", reader.number(8)
     assert tag in (BILLED, LOST)
     return "settle", reader.number(8)
 
@@ -170,9 +185,12 @@ def offering(exchange, request):
 
 
 def touched_by(exchange, effect, sold):
-    """The campaigns of which the effect says something, where so many sales stood before it."""
+    """The campaigns of which the effect says something, where so many sales stood before it. One whose sales are forgotten
+    offers again where its cap kept it from that, and stops nowhere."""
     if effect[0] == "sale":
         return {it.campaign for it in exchange.sales[sold:]}
+    if effect[0] == "forget":
+        return set()
     return {exchange.sales[effect[1] - 1].campaign if effect[0] == "settle" else effect[1]}
 
 
@@ -185,6 +203,8 @@ def is_still(exchange, kind, what, came):
     if kind == "settle":
         sale, state = what
         return exchange.sales[sale - 1].state != "held" and came == exchange.settle(sale, state)
+    if kind == "forget":
+        return exchange.to_forget(what) == 0 and came == exchange.forget(what)
     if kind == "state":
         campaign, live = what
         return exchange.live[campaign - 1] == live and came == exchange.set_live(campaign, live)
@@ -195,8 +215,11 @@ def is_still(exchange, kind, what, came):
     return False
 
 
-def is_effect(effect, kind, what, came):
-    """Whether the effect is the message's."""
+def is_effect(exchange, effect, kind, what, came):
+    """Whether the effect is the message's. Where several forget the same, it is any one's, and the others find nothing."""
+    if effect[0] == "forget":
+        is_so = kind == "forget" and exchange.forgotten + exchange.to_forget(what) == effect[1]
+        return is_so and came == trimmed(len(exchange.sales) - effect[1], effect[1])
     if effect[0] == "sale":
         return kind == "auction" and sold_in(came)[:1] == [effect[1]]
     if effect[0] == "add":
@@ -209,6 +232,8 @@ def carry_out(exchange, kind, what):
         return exchange.auction(what)
     if kind == "add":
         return exchange.add(what)
+    if kind == "forget":
+        return exchange.forget(what)
     return {"settle": exchange.settle, "state": exchange.set_live, "change": exchange.change}[kind](*what)
 
 
@@ -227,7 +252,7 @@ def owner_of(exchange, effect, clients):
     """The client whose next message the effect is of."""
     for client in clients:
         it = client.next()
-        if it and is_effect(effect, *it) and (it[0] != "add" or it[2] == new(len(exchange.campaigns) + 1)):
+        if it and is_effect(exchange, effect, *it) and (it[0] != "add" or it[2] == new(len(exchange.campaigns) + 1)):
             return client
     return None
 
@@ -274,6 +299,7 @@ def try_workers(program, folder):
     exchange = place_all(clients, effects)
     if exchange:
         CHECKS.same("recover", recovered(program, journal), exchange.counts())
+        CHECKS.holds(f"{exchange.forgotten} of {len(exchange.sales)} sales are forgotten", exchange.forgotten > 0)
 
 
 # ---- beside each other

@@ -20,6 +20,7 @@ use Rattle.campaign.specs.declared.parts.FactParts.{FactParts}
 use Rattle.clearing.specs.declared.Offer.{Offer}
 use Rattle.deal_rules.specs.Rules.{opportunity_of}
 use Rattle.deal_rules.specs.Terms.{user_of}
+use Rattle.plain_exchange.specs.declared.settings.Settings.{Settings}
 use Rattle.plain_exchange.specs.Auction.{Award, offers, offers_by, opportunity, sale_of, sales_of, shown_to}
 use Rattle.plain_exchange.specs.State.{Campaign, State, campaign_at, free, swept}
 use Rattle.plain_exchange.proofs.Each.{Each, each_numbered, none_some, some_same}
@@ -43,17 +44,17 @@ own_price : (b : Bool) (p : ℕ) → pick ((b && true) || (b && false)) p 0 ≡ 
 own_price true p = refl
 own_price false p = refl
 
-drawn_sold : (ttl m : ℕ) (r : BidRequest) (n : ℕ) (awards : List Award) → sum_by (taken n) (sales_of ttl m r awards) ≡ sum_by (paid n) awards
-drawn_sold ttl m r n [] = refl
-drawn_sold ttl m r n (a ∷ awards) =
-    let one : taken n (sale_of ttl m r a) ≡ paid n a = own_price (eqb a.1.campaign n) a.1.price in
-    omega (arith, one, sum_by-cons (taken n) (sale_of ttl m r a) (sales_of ttl m r awards), sum_by-cons (paid n) a awards, drawn_sold ttl m r n awards)
+drawn_sold : (settings : Settings) (m : ℕ) (r : BidRequest) (n : ℕ) (awards : List Award) → sum_by (taken n) (sales_of settings m r awards) ≡ sum_by (paid n) awards
+drawn_sold settings m r n [] = refl
+drawn_sold settings m r n (a ∷ awards) =
+    let one : taken n (sale_of settings m r a) ≡ paid n a = own_price (eqb a.1.campaign n) a.1.price in
+    omega (arith, one, sum_by-cons (taken n) (sale_of settings m r a) (sales_of settings m r awards), sum_by-cons (paid n) a awards, drawn_sold settings m r n awards)
 
-pub committed_beside : (ttl m : ℕ) (r : BidRequest) (n : ℕ) (gone : Gone) (sales : List SaleRow) (awards : List Award) → committed_of n gone (sales ++ sales_of ttl m r awards) ≡ committed_of n gone sales + awards_cost n awards
-committed_beside ttl m r n gone sales awards = omega (arith, sum_by-append (taken n) sales (sales_of ttl m r awards), drawn_sold ttl m r n awards)
+pub committed_beside : (settings : Settings) (m : ℕ) (r : BidRequest) (n : ℕ) (gone : Gone) (sales : List SaleRow) (awards : List Award) → committed_of n gone (sales ++ sales_of settings m r awards) ≡ committed_of n gone sales + awards_cost n awards
+committed_beside settings m r n gone sales awards = omega (arith, sum_by-append (taken n) sales (sales_of settings m r awards), drawn_sold settings m r n awards)
 
-pub free_drawn : (ttl m : ℕ) (r : BidRequest) (n : ℕ) (s : State) (c : Campaign) (awards : List Award) → free (beside ttl m r s awards) n c ≡ free (swept m s) n c - awards_cost n awards
-free_drawn ttl m r n s c awards = omega (arith, committed_beside ttl m r n c.gone (swept m s).sales awards)
+pub free_drawn : (settings : Settings) (m : ℕ) (r : BidRequest) (n : ℕ) (s : State) (c : Campaign) (awards : List Award) → free (beside settings m r s awards) n c ≡ free (swept m s) n c - awards_cost n awards
+free_drawn settings m r n s c awards = omega (arith, committed_beside settings m r n c.gone (swept m s).sales awards)
 
 -- ---- how often a user is shown a campaign beside awards
 
@@ -68,32 +69,32 @@ own_sale : (b to late : Bool) → to ≡ true → late ≡ true → pick (((b &&
 own_sale true to late e f = ap (λ t. pick (t && late) 1 0) e ∙ ap (λ t. pick t 1 0) f
 own_sale false to late e f = refl
 
-times_sold : (ttl m : ℕ) (r : BidRequest) (n : ℕ) (user : List ℕ) (seconds : ℕ) → user_of r ≡ Some user → 1 ≤ seconds → (awards : List Award) → sum_by (shows n user seconds m) (sales_of ttl m r awards) ≡ sum_by (has n) awards
-times_sold ttl m r n user seconds to some [] = refl
-times_sold ttl m r n user seconds to some (a ∷ awards) =
+times_sold : (settings : Settings) (m : ℕ) (r : BidRequest) (n : ℕ) (user : List ℕ) (seconds : ℕ) → user_of r ≡ Some user → 1 ≤ seconds → (awards : List Award) → sum_by (shows n user seconds m) (sales_of settings m r awards) ≡ sum_by (has n) awards
+times_sold settings m r n user seconds to some [] = refl
+times_sold settings m r n user seconds to some (a ∷ awards) =
     let same : is_to user (user_of r) ≡ true = ap (is_to user) to ∙ (bytes_eq-Decides user user).1 refl in
     let late : nat_lt m (m + 1000 * seconds) ≡ true = le-leb (suc m) (m + 1000 * seconds) (omega (arith, some)) in
-    let one : shows n user seconds m (sale_of ttl m r a) ≡ has n a = own_sale (eqb a.1.campaign n) (is_to user (user_of r)) (nat_lt m (m + 1000 * seconds)) same late in
-    omega (arith, one, sum_by-cons (shows n user seconds m) (sale_of ttl m r a) (sales_of ttl m r awards), sum_by-cons (has n) a awards, times_sold ttl m r n user seconds to some awards)
+    let one : shows n user seconds m (sale_of settings m r a) ≡ has n a = own_sale (eqb a.1.campaign n) (is_to user (user_of r)) (nat_lt m (m + 1000 * seconds)) same late in
+    omega (arith, one, sum_by-cons (shows n user seconds m) (sale_of settings m r a) (sales_of settings m r awards), sum_by-cons (has n) a awards, times_sold settings m r n user seconds to some awards)
 
-times_shown : (ttl m : ℕ) (r : BidRequest) (n : ℕ) (user : List ℕ) (seconds : ℕ) (sales : List SaleRow) (awards : List Award) → user_of r ≡ Some user → 1 ≤ seconds
-    → shown_of n user seconds m (sales ++ sales_of ttl m r awards) ≡ shown_of n user seconds m sales + times n awards
-times_shown ttl m r n user seconds sales awards to some = omega (arith, sum_by-append (shows n user seconds m) sales (sales_of ttl m r awards), times_sold ttl m r n user seconds to some awards)
+times_shown : (settings : Settings) (m : ℕ) (r : BidRequest) (n : ℕ) (user : List ℕ) (seconds : ℕ) (sales : List SaleRow) (awards : List Award) → user_of r ≡ Some user → 1 ≤ seconds
+    → shown_of n user seconds m (sales ++ sales_of settings m r awards) ≡ shown_of n user seconds m sales + times n awards
+times_shown settings m r n user seconds sales awards to some = omega (arith, sum_by-append (shows n user seconds m) sales (sales_of settings m r awards), times_sold settings m r n user seconds to some awards)
 
 -- what a cap counts beside the awards
 abbrev counts : ℕ → ℕ → List ℕ → State → List Award → CapTerms → ℕ
 counts m n user s awards cap = shown_of n user cap.seconds m (swept m s).sales + times n awards
 
-by_cap : (ttl m : ℕ) (r : BidRequest) (n : ℕ) (user : List ℕ) (s : State) (awards : List Award) → user_of r ≡ Some user → (cap : Option CapTerms) → IfSome cap (λ (t : CapTerms). 1 ≤ t.seconds)
-    → option_map_or (counts m n user s awards) cap 0 ≡ option_map_or (λ (t : CapTerms). shown_of n user t.seconds m (beside ttl m r s awards).sales) cap 0
-by_cap ttl m r n user s awards to None some = refl
-by_cap ttl m r n user s awards to (Some t) some = sym (times_shown ttl m r n user t.seconds (swept m s).sales awards to some)
+by_cap : (settings : Settings) (m : ℕ) (r : BidRequest) (n : ℕ) (user : List ℕ) (s : State) (awards : List Award) → user_of r ≡ Some user → (cap : Option CapTerms) → IfSome cap (λ (t : CapTerms). 1 ≤ t.seconds)
+    → option_map_or (counts m n user s awards) cap 0 ≡ option_map_or (λ (t : CapTerms). shown_of n user t.seconds m (beside settings m r s awards).sales) cap 0
+by_cap settings m r n user s awards to None some = refl
+by_cap settings m r n user s awards to (Some t) some = sym (times_shown settings m r n user t.seconds (swept m s).sales awards to some)
 
-pub shown_counted : (ttl m : ℕ) (r : BidRequest) (n : ℕ) (user : List ℕ) (s : State) (awards : List Award) (c : Campaign) (cap : Option CapTerms) → user_of r ≡ Some user → IfSome cap (λ (t : CapTerms). 1 ≤ t.seconds) → c.facts.cap ≡ cap
-    → option_map_or (counts m n user s awards) cap 0 ≡ shown_to (beside ttl m r s awards) m n c user
-shown_counted ttl m r n user s awards c cap to some e =
-    by_cap ttl m r n user s awards to cap some
-    ∙ ap (λ o. option_map_or (λ (t : CapTerms). shown_of n user t.seconds m (beside ttl m r s awards).sales) o 0) (sym e)
+pub shown_counted : (settings : Settings) (m : ℕ) (r : BidRequest) (n : ℕ) (user : List ℕ) (s : State) (awards : List Award) (c : Campaign) (cap : Option CapTerms) → user_of r ≡ Some user → IfSome cap (λ (t : CapTerms). 1 ≤ t.seconds) → c.facts.cap ≡ cap
+    → option_map_or (counts m n user s awards) cap 0 ≡ shown_to (beside settings m r s awards) m n c user
+shown_counted settings m r n user s awards c cap to some e =
+    by_cap settings m r n user s awards to cap some
+    ∙ ap (λ o. option_map_or (λ (t : CapTerms). shown_of n user t.seconds m (beside settings m r s awards).sales) o 0) (sym e)
 
 pub opportunity_is : (t : State) (r : BidRequest) (imp : Imp) (m n : ℕ) (c : Campaign) (facts : FactParts) (left : ℕ) (shown : Option ℕ) → facts ≡ c.facts → left ≡ free t n c → shown ≡ option_map (shown_to t m n c) (user_of r)
     → opportunity_of r imp facts left shown ≡ opportunity t r imp m n c

@@ -1,12 +1,13 @@
 -- A command makes one edit at most.
 use Rattle.std.proofs.Common.{ℕ, ◌+◌, ◌≤◌, ◌&&◌, cond, List, [], ◌∷◌, length, map, arith, Option, Some, None}
-use Rattle.std.specs.Prelude.{nat_le, nat_lt, option_map}
+use Rattle.std.specs.Prelude.{◌==◌, nat_le, nat_lt, option_map}
 use Rattle.std.specs.Option.{option_or}
 use Rattle.budget_book.specs.declared.sales.SaleRow.{SaleRow}
 use Rattle.budget_book.specs.declared.sales.SaleState.{SaleState}
 use Rattle.budget_book.specs.declared.sales.SaleState.TheVariants as state
 use Rattle.campaign.specs.declared.parts.FactParts.{FactParts}
 use Rattle.deal_rules.specs.Terms.{user_of}
+use Rattle.plain_exchange.specs.declared.settings.Settings.{Settings}
 use Rattle.plain_exchange.specs.declared.changes.Change.{Change}
 use Rattle.plain_exchange.specs.declared.changes.Change.TheVariants as change
 use Rattle.plain_exchange.specs.declared.changes.Effect.{Effect}
@@ -16,8 +17,8 @@ use Rattle.plain_exchange.specs.declared.commands.Command.TheVariants as command
 use Rattle.plain_exchange.specs.declared.commands.Reply.TheVariants as reply
 use Rattle.plain_exchange.specs.Auction.{Award, awards_of}
 use Rattle.plain_exchange.specs.Effects.{edits_in}
-use Rattle.plain_exchange.specs.State.{Campaign, State, campaign_at, committed, forgotten, is_any_due, limit_passed, most_sales, sale_numbered, swept, with_campaign, with_campaigns}
-use Rattle.plain_exchange.specs.Step.{Transition, at_campaign, at_sale, auction, billed_by, change_campaign, change_of, changing, effect_of, item_of, lost_by, new_campaign, pause_campaign, resume_campaign, sold_change, step, unchanged, with_record, within_limits}
+use Rattle.plain_exchange.specs.State.{Campaign, State, campaign_at, committed, forgotten, is_any_due, limit_passed, limit_of, sale_numbered, swept, with_campaign, with_campaigns}
+use Rattle.plain_exchange.specs.Step.{Transition, at_campaign, at_sale, auction, billed_by, change_campaign, change_of, changing, effect_of, item_of, lost_by, new_campaign, pause_campaign, resume_campaign, sold_change, step, trim, unchanged, with_record, within_limits}
 use Rattle.plain_exchange.proofs.Cases.{by_option, by_test}
 use Rattle.plain_exchange.proofs.Each.{At}
 use Rattle.rtb_types.specs.declared.request.BidRequest.{BidRequest}
@@ -30,11 +31,11 @@ sold_few : (user : Option (List ℕ)) (items : List SoldItem) → edits_in (sold
 sold_few None items = omega arith
 sold_few (Some user) items = omega arith
 
-auction_few : (ttl m : ℕ) (r : BidRequest) (s : State) (awards : List Award) → MakesFew (auction ttl m r s awards)
-auction_few ttl m r s [] = tt
-auction_few ttl m r s (a ∷ awards) = by_test MakesFew (nat_lt most_sales (length s.sales + length (a ∷ awards))) _ _
+auction_few : (settings : Settings) (m : ℕ) (r : BidRequest) (s : State) (awards : List Award) → MakesFew (auction settings m r s awards)
+auction_few settings m r s [] = tt
+auction_few settings m r s (a ∷ awards) = by_test MakesFew (nat_lt (limit_of settings) (length s.sales + length (a ∷ awards))) _ _
     (λ e. tt)
-    (λ e. sold_few (user_of r) (map (item_of ttl m) (a ∷ awards)))
+    (λ e. sold_few (user_of r) (map (item_of settings m) (a ∷ awards)))
 
 limits_few : (s : State) (t : Transition) → MakesFew t → MakesFew (within_limits s t)
 limits_few s t h = by_option MakesFew (λ limit. unchanged s (reply.Full limit)) (limit_passed t.after) t (λ e. h) (λ limit e. tt)
@@ -70,16 +71,20 @@ lose_few n s sale state.Billed = tt
 lose_few n s sale state.Lost = tt
 lose_few n s sale state.Expired = tt
 
-step_few : (ttl m : ℕ) (s : State) (c : Command) → MakesFew (step ttl m s c)
-step_few ttl m s (command.Auction r) = auction_few ttl m r (swept m s) (awards_of ttl m r (swept m s))
-step_few ttl m s (command.Add facts expr) = limits_few (swept m s)
+trim_few : (n : ℕ) (s : State) → MakesFew (trim n s)
+trim_few n s = by_test MakesFew (n == 0) _ _ (λ e. tt) (λ e. omega arith)
+
+step_few : (settings : Settings) (m : ℕ) (s : State) (c : Command) → MakesFew (step settings m s c)
+step_few settings m s (command.Auction r) = auction_few settings m r (swept m s) (awards_of settings m r (swept m s))
+step_few settings m s (command.Add facts expr) = limits_few (swept m s)
     (changing (with_campaigns (swept m s) (new_campaign facts expr ∷ [])) (reply.Added (length (swept m s).campaigns + 1)) (change.Added facts expr)) (omega arith)
-step_few ttl m s (command.Change n facts expr) = at_campaign_few n (swept m s) _ (change_few facts expr n (swept m s))
-step_few ttl m s (command.Pause n) = at_campaign_few n (swept m s) _ (pause_few n (swept m s))
-step_few ttl m s (command.Resume n) = at_campaign_few n (swept m s) _ (resume_few n (swept m s))
-step_few ttl m s (command.Report n) = at_campaign_few n (swept m s) _ (λ c. tt)
-step_few ttl m s (command.Bill n) = at_sale_few n (swept m s) _ (λ sale. bill_few n (swept m s) sale sale.state)
-step_few ttl m s (command.Lose n) = at_sale_few n (swept m s) _ (λ sale. lose_few n (swept m s) sale sale.state)
+step_few settings m s (command.Change n facts expr) = at_campaign_few n (swept m s) _ (change_few facts expr n (swept m s))
+step_few settings m s (command.Pause n) = at_campaign_few n (swept m s) _ (pause_few n (swept m s))
+step_few settings m s (command.Resume n) = at_campaign_few n (swept m s) _ (resume_few n (swept m s))
+step_few settings m s (command.Report n) = at_campaign_few n (swept m s) _ (λ c. tt)
+step_few settings m s (command.Bill n) = at_sale_few n (swept m s) _ (λ sale. bill_few n (swept m s) sale sale.state)
+step_few settings m s (command.Lose n) = at_sale_few n (swept m s) _ (λ sale. lose_few n (swept m s) sale sale.state)
+step_few settings m s (command.Forget keep) = trim_few _ (swept m s)
 
 swept_few : (m : ℕ) (s : State) (o : Option Change) → At (λ (c : Change). edits_in c ≤ 1) o → At (λ (c : Change). edits_in c ≤ 1) (option_or o (cond (is_any_due m s) (Some change.Swept) None))
 swept_few m s (Some c) h = h
@@ -89,5 +94,5 @@ effect_few : (m : ℕ) (o : Option Change) → At (λ (c : Change). edits_in c �
 effect_few m None h = tt
 effect_few m (Some c) h = h
 
-pub one_edit : (ttl m : ℕ) (s : State) (c : Command) → At (λ (e : Effect). edits_in e.change ≤ 1) (effect_of ttl m s c)
-one_edit ttl m s c = effect_few m (change_of ttl m s c) (swept_few m s (step ttl m s c).change (step_few ttl m s c))
+pub one_edit : (settings : Settings) (m : ℕ) (s : State) (c : Command) → At (λ (e : Effect). edits_in e.change ≤ 1) (effect_of settings m s c)
+one_edit settings m s c = effect_few m (change_of settings m s c) (swept_few m s (step settings m s c).change (step_few settings m s c))

@@ -29,25 +29,25 @@ use Rattle.rtb_types.specs.declared.request.BidRequest.{BidRequest}
 abbrev cost_for : ℕ → Award → ℕ
 cost_for n a = cond (a.1.campaign == n) a.1.price 0
 
-less_free : (core : CoreState) (r : BidRequest) (m n : ℕ) (c : Campaign) (awards more : List Award) → free (beside core.ttl m r core.state (awards ++ more)) n c ≤ free (beside core.ttl m r core.state awards) n c
+less_free : (core : CoreState) (r : BidRequest) (m n : ℕ) (c : Campaign) (awards more : List Award) → free (beside core.settings m r core.state (awards ++ more)) n c ≤ free (beside core.settings m r core.state awards) n c
 less_free core r m n c awards more =
     let all : awards_cost n (awards ++ more) ≡ awards_cost n awards + awards_cost n more = sum_by-append (cost_for n) awards more in
-    omega (arith, free_drawn core.ttl m r n core.state c (awards ++ more), free_drawn core.ttl m r n core.state c awards, all)
+    omega (arith, free_drawn core.settings m r n core.state c (awards ++ more), free_drawn core.settings m r n core.state c awards, all)
 
 abbrev shows : ℕ → List ℕ → ℕ → ℕ → SaleRow → ℕ
 shows n user seconds m s = cond (is_shown n user seconds m s) 1 0
 
 more_shown : (core : CoreState) (r : BidRequest) (m n seconds : ℕ) (user : List ℕ) (awards more : List Award)
-    → shown_of n user seconds m (beside core.ttl m r core.state awards).sales ≤ shown_of n user seconds m (beside core.ttl m r core.state (awards ++ more)).sales
+    → shown_of n user seconds m (beside core.settings m r core.state awards).sales ≤ shown_of n user seconds m (beside core.settings m r core.state (awards ++ more)).sales
 more_shown core r m n seconds user awards more =
     let test = shows n user seconds m in
     let before = (swept m core.state).sales in
     omega (
       arith,
-      sum_by-append test before (sales_of core.ttl m r awards),
-      sum_by-append test before (sales_of core.ttl m r (awards ++ more)),
-      ap (sum_by test) (map-append (sale_of core.ttl m r) awards more),
-      sum_by-append test (sales_of core.ttl m r awards) (sales_of core.ttl m r more),
+      sum_by-append test before (sales_of core.settings m r awards),
+      sum_by-append test before (sales_of core.settings m r (awards ++ more)),
+      ap (sum_by test) (map-append (sale_of core.settings m r) awards more),
+      sum_by-append test (sales_of core.settings m r awards) (sales_of core.settings m r more),
     )
 
 -- ---- a cap that leaves a sale beside more awards leaves one beside fewer
@@ -60,11 +60,11 @@ abbrev is_over_in : State → ℕ → ℕ → Option (List ℕ) → Option CapTe
 is_over_in t m n user cap = option_map_or (is_over (option_map (λ (u : List ℕ). option_map_or (λ (k : CapTerms). shown_of n u k.seconds m t.sales) cap 0) user)) cap false
 
 cap_falls : (core : CoreState) (r : BidRequest) (m n : ℕ) (awards more : List Award) (user : Option (List ℕ)) (cap : Option CapTerms)
-    → is_over_in (beside core.ttl m r core.state (awards ++ more)) m n user cap ≡ false → is_over_in (beside core.ttl m r core.state awards) m n user cap ≡ false
+    → is_over_in (beside core.settings m r core.state (awards ++ more)) m n user cap ≡ false → is_over_in (beside core.settings m r core.state awards) m n user cap ≡ false
 cap_falls core r m n awards more user None h = refl
 cap_falls core r m n awards more None (Some k) h = h
 cap_falls core r m n awards more (Some u) (Some k) h =
-    under (shown_of n u k.seconds m (beside core.ttl m r core.state awards).sales) (shown_of n u k.seconds m (beside core.ttl m r core.state (awards ++ more)).sales) k.count (more_shown core r m n k.seconds u awards more) h
+    under (shown_of n u k.seconds m (beside core.settings m r core.state awards).sales) (shown_of n u k.seconds m (beside core.settings m r core.state (awards ++ more)).sales) k.count (more_shown core r m n k.seconds u awards more) h
 
 -- ---- who may pay
 
@@ -79,16 +79,16 @@ pays_with bid least left over fewer le caps h =
     ap (λ (b : Bool). b && not fewer) (le-leb bid left (omega (arith, low, le))) ∙ ap not (caps (not_true over parts.1))
 
 campaign_falls : (core : CoreState) (r : BidRequest) (m n : ℕ) (c : Campaign) (awards more : List Award)
-    → pays_as (beside core.ttl m r core.state (awards ++ more)) r m n c ≡ true → pays_as (beside core.ttl m r core.state awards) r m n c ≡ true
+    → pays_as (beside core.settings m r core.state (awards ++ more)) r m n c ≡ true → pays_as (beside core.settings m r core.state awards) r m n c ≡ true
 unfolding may_pay
 campaign_falls core r m n c awards more h =
-    let t = beside core.ttl m r core.state awards in
-    let u = beside core.ttl m r core.state (awards ++ more) in
+    let t = beside core.settings m r core.state awards in
+    let u = beside core.settings m r core.state (awards ++ more) in
     pays_with c.facts.bid (free u n c) (free t n c) (is_over_in u m n (user_of r) c.facts.cap) (is_over_in t m n (user_of r) c.facts.cap)
     (less_free core r m n c awards more) (cap_falls core r m n awards more (user_of r) c.facts.cap) h
 
 there_falls : (core : CoreState) (r : BidRequest) (m n : ℕ) (awards more : List Award) (c : Option Campaign)
-    → option_map_or (pays_as (beside core.ttl m r core.state (awards ++ more)) r m n) c false ≡ true → option_map_or (pays_as (beside core.ttl m r core.state awards) r m n) c false ≡ true
+    → option_map_or (pays_as (beside core.settings m r core.state (awards ++ more)) r m n) c false ≡ true → option_map_or (pays_as (beside core.settings m r core.state awards) r m n) c false ≡ true
 there_falls core r m n awards more None h = h
 there_falls core r m n awards more (Some c) h = campaign_falls core r m n c awards more h
 

@@ -8,10 +8,10 @@ use Rattle.std.proofs.lemmas.List.Sums.{sum_by-append, sum_by-cons}
 use Rattle.auction_core.specs.Applying.{items_cost, with_sold}
 use Rattle.budget_book.specs.declared.sales.Gone.{Gone}
 use Rattle.budget_book.specs.declared.sales.SaleRow.{SaleRow}
-use Rattle.budget_book.specs.Sales.{committed_of, expired_at, is_billed_of, is_held_of}
+use Rattle.budget_book.specs.Sales.{are_settled, committed_of, expired_at, is_billed_of, is_held_of, most_forgotten}
 use Rattle.plain_exchange.specs.declared.changes.SoldItem.{SoldItem}
-use Rattle.plain_exchange.specs.Effects.{can_pay, has_room, only_if, sale_by, with_items}
-use Rattle.plain_exchange.specs.State.{Campaign, State, campaign_at, free, most_sales, swept, with_sales}
+use Rattle.plain_exchange.specs.Effects.{can_pay, has_room, only_if, sale_by, with_forgotten, with_items}
+use Rattle.plain_exchange.specs.State.{Campaign, State, campaign_at, forget_first, forgotten, free, most_sales, swept, with_sales}
 use Rattle.plain_exchange.proofs.Each.{none_some, some_same}
 use Rattle.plain_exchange.proofs.Keeping.{chosen}
 
@@ -119,6 +119,14 @@ mapped_same k None y e = absurd (none_some y e)
 mapped_same k (Some x) y e = (sym (some_same k y e), refl)
 
 -- ---- all items, one after the other
+
+pub some_if : (b : Bool) (s : State) → is_some (only_if b s) ≡ b
+some_if true s = refl
+some_if false s = refl
+
+-- what an effect of a forgetting that fits takes is settled
+pub trimmed_fits : (n : ℕ) (s : State) → is_some (with_forgotten n s) ≡ true → (nat_le n most_forgotten ≡ true) × (are_settled (n - forgotten s) s.sales ≡ true)
+trimmed_fits n s h = and_parts (nat_le n most_forgotten) (are_settled (n - forgotten s) s.sales) (sym (some_if (nat_le n most_forgotten && are_settled (n - forgotten s) s.sales) (forget_first (n - forgotten s) s)) ∙ h)
 
 pub some_of : {A : Type 0} (o : Option A) → is_some o ≡ true → (x : A) × (o ≡ Some x)
 some_of None e = absurd (false≢true e)

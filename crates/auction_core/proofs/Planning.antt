@@ -1,6 +1,7 @@
 -- What each command is prepared to do.
-use Rattle.std.proofs.Common.{◌≡◌, ℕ, ◌-◌, ◌&&◌, cond, Bool, true, false, List, map, refl, sym, ◌∙◌, ap, subst, Option, Some, None}
-use Rattle.std.specs.Prelude.{nat_le, option_map, slice_get}
+use Rattle.std.proofs.Common.{◌≡◌, ℕ, ◌+◌, ◌-◌, ◌&&◌, cond, Bool, true, false, List, map, refl, sym, ◌∙◌, ap, subst, length, Option, Some, None}
+use Rattle.std.proofs.lemmas.Bool.{eq-eqb, ne_eqb}
+use Rattle.std.specs.Prelude.{◌≢◌, nat_le, option_map, slice_get}
 use Rattle.std.specs.Option.{option_map_or}
 use Rattle.std.proofs.lemmas.Option.{slice_get-map}
 use Rattle.auction_core.specs.Outcomes.{IsOutcome, does, told_alone}
@@ -14,8 +15,8 @@ use Rattle.plain_exchange.specs.declared.changes.Change.{Change}
 use Rattle.plain_exchange.specs.declared.changes.Change.TheVariants as change
 use Rattle.plain_exchange.specs.declared.commands.Reply.{Reply}
 use Rattle.plain_exchange.specs.declared.commands.Reply.TheVariants as reply
-use Rattle.plain_exchange.specs.State.{Campaign, State, campaign_at, forgotten, sale_numbered, swept, with_campaign}
-use Rattle.plain_exchange.specs.Step.{Transition, at_campaign, at_sale, bill_sale, billed_by, changing, lose_sale, lost_by, pause_campaign, report_campaign, resume_campaign, unchanged, with_live}
+use Rattle.plain_exchange.specs.State.{Campaign, State, campaign_at, forget_first, forgotten, sale_numbered, swept, with_campaign}
+use Rattle.plain_exchange.specs.Step.{Transition, at_campaign, at_sale, bill_sale, billed_by, changing, lose_sale, lost_by, pause_campaign, report_campaign, resume_campaign, trim, trimmed, unchanged, with_live}
 use Rattle.plain_exchange.proofs.Each.{none_some, some_same}
 
 pub told_is : (s : State) (r : Reply) → IsOutcome (unchanged s r) (told_alone r)
@@ -159,3 +160,17 @@ lose_by m s n st e =
     same_outcome (at_sale (swept m s) n (lose_sale n (swept m s))) (lost_by st n (swept m s) sale) (lose_outcome n st)
     (at_listed_sale (swept m s) n (lose_sale n (swept m s)) sale there ∙ ap (λ t. lost_by t n (swept m s) sale) is)
     (lost_as (swept m s) n sale st there is)
+
+-- ---- the oldest sales are forgotten
+
+pub trim_none : (s : State) (n sales gone : ℕ) → n ≡ 0 → sales ≡ length s.sales - n → gone ≡ forgotten s + n → IsOutcome (trim n s) (told_alone (reply.Trimmed sales gone))
+trim_none s n sales gone none left all =
+    same_outcome (trim n s) (unchanged s (trimmed n s)) (told_alone (reply.Trimmed sales gone))
+    (ap (λ b. cond b (unchanged s (trimmed n s)) (changing (forget_first n s) (trimmed n s) (change.Forgot (forgotten s + n)))) (eq-eqb n 0 none))
+    (record { reply = ap (λ k. reply.Trimmed k gone) left ∙ ap (reply.Trimmed (length s.sales - n)) all; change = refl })
+
+pub trim_some : (s : State) (n sales gone : ℕ) → n ≢ 0 → sales ≡ length s.sales - n → gone ≡ forgotten s + n → IsOutcome (trim n s) (does (reply.Trimmed sales gone) (change.Forgot gone))
+trim_some s n sales gone some left all =
+    same_outcome (trim n s) (changing (forget_first n s) (trimmed n s) (change.Forgot (forgotten s + n))) (does (reply.Trimmed sales gone) (change.Forgot gone))
+    (ap (λ b. cond b (unchanged s (trimmed n s)) (changing (forget_first n s) (trimmed n s) (change.Forgot (forgotten s + n)))) (ne_eqb n 0 some))
+    (record { reply = ap (λ k. reply.Trimmed k gone) left ∙ ap (reply.Trimmed (length s.sales - n)) all; change = ap (λ k. Some (change.Forgot k)) all })

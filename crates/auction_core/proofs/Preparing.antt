@@ -6,6 +6,7 @@ use Rattle.auction_core.specs.Auctions.{award_outcome}
 use Rattle.auction_core.specs.Draft.{is_simple}
 use Rattle.auction_core.specs.Outcomes.{IsOutcome}
 use Rattle.auction_core.specs.declared.outcome.Outcome.{Outcome}
+use Rattle.plain_exchange.specs.declared.settings.Settings.{Settings}
 use Rattle.plain_exchange.specs.Auction.{Award, awards_of}
 use Rattle.plain_exchange.specs.declared.changes.Change.{Change}
 use Rattle.plain_exchange.specs.declared.changes.Change.TheVariants as change
@@ -18,10 +19,10 @@ use Rattle.rtb_types.specs.declared.request.BidRequest.{BidRequest}
 use Rattle.auction_core.proofs.Payable.{awarded_is}
 
 -- where memory suffices, what comes of the awards is what the auction does
-pub awarded_result : {E : Type 0} → (ttl m : ℕ) (r : BidRequest) (s : State) (awards : List Award) (res : Result Outcome E) → awards ≡ awards_of ttl m r (swept m s) → IfOk res (λ o. o ≡ award_outcome ttl m r s awards)
-    → IfOk res (λ o. IsOutcome (auction ttl m r (swept m s) (awards_of ttl m r (swept m s))) o)
-awarded_result ttl m r s awards (Ok o) e is = awarded_is ttl m r s awards o e is
-awarded_result ttl m r s awards (Err x) e is = tt
+pub awarded_result : {E : Type 0} → (settings : Settings) (m : ℕ) (r : BidRequest) (s : State) (awards : List Award) (res : Result Outcome E) → awards ≡ awards_of settings m r (swept m s) → IfOk res (λ o. o ≡ award_outcome settings m r s awards)
+    → IfOk res (λ o. IsOutcome (auction settings m r (swept m s) (awards_of settings m r (swept m s))) o)
+awarded_result settings m r s awards (Ok o) e is = awarded_is settings m r s awards o e is
+awarded_result settings m r s awards (Err x) e is = tt
 
 -- a command that is no auction
 pub other_simple : (c : Command) → ((r : BidRequest) → c ≡ command.Auction r → ⊥) → is_simple c ≡ true
@@ -33,6 +34,7 @@ other_simple (command.Resume n) other = refl
 other_simple (command.Report n) other = refl
 other_simple (command.Bill n) other = refl
 other_simple (command.Lose n) other = refl
+other_simple (command.Forget keep) other = refl
 
 -- what takes effect where a command has this change of its own
 abbrev pub effect_with : ℕ → Bool → Option Change → Option Effect

@@ -9,7 +9,7 @@ use Rattle.std.proofs.lemmas.List.Sums.{sum_by-cons}
 use Rattle.std.proofs.lemmas.Option.{get_or_from_slice_get, slice_get-map}
 use Rattle.auction_core.specs.Core.{IsCore, IsStateOf, campaigns_of, funds, funds_for, listed, listed_as}
 use Rattle.auction_core.specs.Putting.{can_change, changed_at, settled}
-use Rattle.budget_book.specs.Book.{Funds, forgotten_of}
+use Rattle.budget_book.specs.Book.{Funds, forgotten_in, forgotten_of}
 use Rattle.budget_book.specs.declared.sales.Gone.{Gone}
 use Rattle.budget_book.specs.declared.sales.SaleRow.{SaleRow}
 use Rattle.budget_book.specs.declared.sales.SaleState.{SaleState}
@@ -20,7 +20,7 @@ use Rattle.campaign_store.specs.Limits.{passed_limit}
 use Rattle.campaign_store.specs.Table as tabled
 use Rattle.plain_exchange.specs.Consistent.{IsConsistent}
 use Rattle.plain_exchange.specs.Effects.{is_within_limits}
-use Rattle.plain_exchange.specs.State.{Campaign, State, campaign_at, committed, forget, forgotten, free, limit_passed, record_of, swept, with_campaign, with_campaigns, with_gone}
+use Rattle.plain_exchange.specs.State.{Campaign, State, campaign_at, committed, forget, forget_first, forgotten, free, limit_passed, record_of, swept, with_campaign, with_campaigns, with_gone}
 use Rattle.plain_exchange.specs.Step.{new_campaign, with_live, with_record}
 use Rattle.plain_exchange.proofs.Cases.{by_option, by_test}
 use Rattle.plain_exchange.proofs.Keeping.{campaign_added, campaign_changed, live_kept, settled_kept, swept_kept, there_known}
@@ -194,8 +194,14 @@ forgotten_book keep s book e =
     ∙ ap (λ f. book_without (forgettable keep f s.sales) (funds s) s.sales) (forgotten_same s)
     ∙ gone_funds (take (forgettable keep (forgotten s) s.sales) s.sales) 1 s.campaigns
 
+pub first_book : (d : ℕ) (s : State) (book : List Funds) → book ≡ funds s → forgotten_in (take d s.sales) book ≡ funds (forget_first d s)
+first_book d s book e = ap (forgotten_in (take d s.sales)) e ∙ gone_funds (take d s.sales) 1 s.campaigns
+
+pub first_table : (d : ℕ) (s : State) → listed (forget_first d s) ≡ listed s
+first_table d s = gone_listed (take d s.sales) 1 s.campaigns
+
 pub forgotten_table : (keep : ℕ) (s : State) → listed (forget keep s) ≡ listed s
-forgotten_table keep s = gone_listed (take (forgettable keep (forgotten s) s.sales) s.sales) 1 s.campaigns
+forgotten_table keep s = first_table (forgettable keep (forgotten s) s.sales) s
 
 -- the table has another record, live, and the book its budget
 pub core_added : (table table2 : List Listed) (book book2 : List Funds) (sales : List SaleRow) (entry : Record) → IsCore table book sales → is_within_limits (with_campaigns (here table book sales) (new_campaign entry.facts entry.expr ∷ [])) ≡ true

@@ -133,13 +133,13 @@ number_in s n low high = ap (λ (b : Bool). b && nat_le n (length s.campaigns)) 
 -- ---- the offers of the state, by records and by numbers
 
 abbrev pay_of : CoreState → BidRequest → ℕ → List Award → LiveRecord → Bool
-pay_of core r m awards c = option_map_or (pays_as (beside core.ttl m r core.state awards) r m c.number) (campaign_at core.state c.number) false
+pay_of core r m awards c = option_map_or (pays_as (beside core.settings m r core.state awards) r m c.number) (campaign_at core.state c.number) false
 
 offers_alike : (core : CoreState) (r : BidRequest) (i : Imp) (m : ℕ) (awards : List Award) (ps : List (ℕ × Campaign)) → Each (IsThere core.state) ps
-    → flat_map (offers_where (pay_of core r m awards) (candidates_by r i)) (map record_at ps) ≡ flat_map (offering (beside core.ttl m r core.state awards) r i m) ps
+    → flat_map (offers_where (pay_of core r m awards) (candidates_by r i)) (map record_at ps) ≡ flat_map (offering (beside core.settings m r core.state awards) r i m) ps
 offers_alike core r i m awards [] h = refl
 offers_alike core r i m awards (p ∷ ps) h =
-    let t = beside core.ttl m r core.state awards in
+    let t = beside core.settings m r core.state awards in
     let rest = flat_map (offers_where (pay_of core r m awards) (candidates_by r i)) (map record_at ps) in
     ap (λ (c : Option Campaign). cond (option_map_or (pays_as t r m p.0) c false) (candidates_of p.0 r i p.1.facts) [] ++ rest) h.0
     ∙ ap (λ (l : List Offer). l ++ rest) (sym (offers_stand p.0 r i p.1.facts (free t p.0 p.1) (option_map (shown_to t m p.0 p.1) (user_of r))))
@@ -161,16 +161,16 @@ filter_mapped f test [] = refl
 filter_mapped {A} {B} f test (x ∷ xs) =
     ap (λ (l : List B). cond (test (f x)) (f x ∷ l) l) (filter_mapped f test xs) ∙ cond_map f (test (f x)) x (filter (λ y. test (f y)) xs)
 
-pub all_offers : (core : CoreState) (r : BidRequest) (i : Imp) (m : ℕ) (awards : List Award) → flat_map (offers_at (beside core.ttl m r core.state awards) r i m) (found_for core.state r i) ≡ offers (beside core.ttl m r core.state awards) r i m
+pub all_offers : (core : CoreState) (r : BidRequest) (i : Imp) (m : ℕ) (awards : List Award) → flat_map (offers_at (beside core.settings m r core.state awards) r i m) (found_for core.state r i) ≡ offers (beside core.settings m r core.state awards) r i m
 all_offers core r i m awards =
-    let t = beside core.ttl m r core.state awards in
+    let t = beside core.settings m r core.state awards in
     by_number core.state t r i m (reached core.state r i) refl (all_there core.state r i) ∙ sym (found_offers t r i m)
 
 touched_offers : (core : CoreState) (touched : List ℕ) (r : BidRequest) (i : Imp) (m : ℕ) (awards : List Award)
     → flat_map (offers_where (pay_of core r m awards) (candidates_by r i)) (filter (λ (c : LiveRecord). is_touched touched c.number) (map record_at (reached core.state r i))) ≡ offers_touched core touched r i m awards
 touched_offers core touched r i m awards =
     let s = core.state in
-    let t = beside core.ttl m r s awards in
+    let t = beside core.settings m r s awards in
     let test : ℕ × Campaign → Bool = λ (p : ℕ × Campaign). is_touched touched p.0 in
     let kept = each_filter (IsThere s) test (reached s r i) (all_there s r i) in
     ap (flat_map (offers_where (pay_of core r m awards) (candidates_by r i))) (filter_mapped record_at (λ (c : LiveRecord). is_touched touched c.number) (reached s r i))
@@ -190,15 +190,15 @@ same_reached s touched live r i differ c f = (
 asks : (core : CoreState) (touched : List ℕ) (r : BidRequest) (i : Imp) (m : ℕ) (awards : List Award) (c : LiveRecord) (o : Offer) → Contains (candidates_by r i c) o
     → may_be_sold core touched r m awards o ≡ (not (is_touched touched c.number) && pay_of core r m awards c)
 asks core touched r i m awards c o has =
-    let t = beside core.ttl m r core.state awards in
+    let t = beside core.settings m r core.state awards in
     let number = (of_record r i c o has).0 in
     ap (λ (n : ℕ). not (is_touched touched n) && option_map_or (pays_as t r m n) (campaign_at core.state n) false) number
 
 pub sold_over : (core : CoreState) (touched : List ℕ) (r : BidRequest) (i : Imp) (m : ℕ) (awards : List Award) (live : List LiveRecord) (cs : List Offer) → DifferAtMostIn touched live core.state → AreCandidates live r i cs
-    → outcome (filter (may_be_sold core touched r m awards) cs ++ offers_touched core touched r i m awards) (terms_of r i) ≡ win (beside core.ttl m r core.state awards) r i m
+    → outcome (filter (may_be_sold core touched r m awards) cs ++ offers_touched core touched r i m awards) (terms_of r i) ≡ win (beside core.settings m r core.state awards) r i m
 sold_over core touched r i m awards live cs differ are =
     let s = core.state in
-    let t = beside core.ttl m r s awards in
+    let t = beside core.settings m r s awards in
     let now = filter (is_true_of r i) (live_records (listed s)) in
     let before = filter (is_true_of r i) live in
     let cands = candidates_by r i in

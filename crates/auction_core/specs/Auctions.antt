@@ -8,18 +8,19 @@ use Rattle.auction_core.specs.declared.outcome.Outcome.{Outcome}
 use Rattle.campaign_store.specs.declared.limit.Limit.TheVariants.{Sales}
 use Rattle.clearing.specs.declared.Offer.{Offer}
 use Rattle.deal_rules.specs.Offers.{offers_of}
+use Rattle.plain_exchange.specs.declared.settings.Settings.{Settings}
 use Rattle.plain_exchange.specs.declared.changes.SoldItem.{SoldItem}
 use Rattle.deal_rules.specs.Terms.{user_of}
 use Rattle.plain_exchange.specs.declared.commands.Reply.TheVariants as reply
 use Rattle.plain_exchange.specs.Auction.{Award, opportunity, sales_of}
-use Rattle.plain_exchange.specs.State.{Campaign, State, campaign_at, most_sales, swept, with_sales}
+use Rattle.plain_exchange.specs.State.{Campaign, State, campaign_at, limit_of, swept, with_sales}
 use Rattle.plain_exchange.specs.Step.{all_sold_as, item_of, sold_change}
 use Rattle.rtb_types.specs.declared.request.BidRequest.{BidRequest}
 use Rattle.rtb_types.specs.declared.request.Imp.{Imp}
 
 -- the state in which these awards are sold
-abbrev pub beside : ℕ → ℕ → BidRequest → State → List Award → State
-beside ttl moment r s awards = with_sales (swept moment s) (sales_of ttl moment r awards)
+abbrev pub beside : Settings → ℕ → BidRequest → State → List Award → State
+beside settings moment r s awards = with_sales (swept moment s) (sales_of settings moment r awards)
 
 -- what they take of the budget of campaign n
 abbrev pub awards_cost : ℕ → List Award → ℕ
@@ -50,10 +51,10 @@ abbrev pub item_due : ℕ → Award → SoldItem
 item_due due a = record { campaign = a.1.campaign; price = a.1.price; due = due }
 
 -- all awards are sold
-abbrev pub selling : ℕ → ℕ → BidRequest → State → List Award → Outcome
-selling ttl moment r s awards = does (reply.Sold (all_sold_as s r awards)) (sold_change (user_of r) (map (item_of ttl moment) awards))
+abbrev pub selling : Settings → ℕ → BidRequest → State → List Award → Outcome
+selling settings moment r s awards = does (reply.Sold (all_sold_as s r awards)) (sold_change (user_of r) (map (item_of settings moment) awards))
 
 -- what comes of the awards
-abbrev pub award_outcome : ℕ → ℕ → BidRequest → State → List Award → Outcome
-award_outcome ttl moment r s awards = if length awards == 0 then told_alone reply.NoBid
-    else (if nat_lt most_sales (length s.sales + length awards) then told_alone (reply.Full Sales) else selling ttl moment r s awards)
+abbrev pub award_outcome : Settings → ℕ → BidRequest → State → List Award → Outcome
+award_outcome settings moment r s awards = if length awards == 0 then told_alone reply.NoBid
+    else (if nat_lt (limit_of settings) (length s.sales + length awards) then told_alone (reply.Full Sales) else selling settings moment r s awards)

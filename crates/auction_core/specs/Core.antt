@@ -5,13 +5,14 @@ use Rattle.budget_book.specs.Book.{Funds}
 use Rattle.budget_book.specs.declared.sales.SaleRow.{SaleRow}
 use Rattle.campaign_store.specs.declared.listed.Listed.{Listed}
 use Rattle.plain_exchange.specs.Consistent.{IsConsistent}
+use Rattle.plain_exchange.specs.declared.settings.Settings.{Settings}
 use Rattle.plain_exchange.specs.State.{Campaign, State, record_of}
 
 -- the state, how long a sale is held, how many edits made the table, and for how many more sales and
 -- campaigns there is room
 pub record CoreState : Type 0 where
   pub state : State
-  pub ttl : ℕ
+  pub settings : Settings
   pub edits : ℕ
   pub sale_room : ℕ
   pub campaign_room : ℕ

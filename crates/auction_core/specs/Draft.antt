@@ -8,6 +8,7 @@ use Rattle.auction_core.specs.declared.draft.Answer.{Answer}
 use Rattle.auction_core.specs.declared.draft.Answer.TheVariants as answer
 use Rattle.auction_core.specs.declared.draft.Draft.{Draft}
 use Rattle.auction_core.specs.declared.draft.Memory.{Memory}
+use Rattle.plain_exchange.specs.declared.settings.Settings.{Settings}
 use Rattle.plain_exchange.specs.declared.commands.Command.{Command}
 use Rattle.plain_exchange.specs.declared.commands.Command.TheVariants as command
 use Rattle.plain_exchange.specs.declared.commands.Reply.{Reply}
@@ -41,6 +42,7 @@ found_of s (command.Resume n) = []
 found_of s (command.Report n) = []
 found_of s (command.Bill n) = []
 found_of s (command.Lose n) = []
+found_of s (command.Forget keep) = []
 
 -- the command is no auction
 abbrev pub is_simple : Command → Bool
@@ -52,6 +54,7 @@ is_simple (command.Resume n) = true
 is_simple (command.Report n) = true
 is_simple (command.Bill n) = true
 is_simple (command.Lose n) = true
+is_simple (command.Forget keep) = true
 
 -- the request of an auction is valid
 abbrev pub is_valid_command : Command → Bool
@@ -63,6 +66,7 @@ is_valid_command (command.Resume n) = true
 is_valid_command (command.Report n) = true
 is_valid_command (command.Bill n) = true
 is_valid_command (command.Lose n) = true
+is_valid_command (command.Forget keep) = true
 
 -- ---- what a draft answers and changes
 
@@ -89,7 +93,7 @@ abbrev pub IsReady : Draft → CoreState → Type 0
 IsReady d core = IfSome d.effect (λ e. CanPut e d.memory core)
 
 -- the draft is that of the command at the moment
-pub record IsDraftOf (ttl : ℕ) (s : State) (command : Command) (moment : ℕ) (d : Draft) : Type 0 where
-  pub reply : answered d.answer (step ttl moment s command).after ≡ (step ttl moment s command).reply
-  pub effect : d.effect ≡ effect_of ttl moment s command
+pub record IsDraftOf (settings : Settings) (s : State) (command : Command) (moment : ℕ) (d : Draft) : Type 0 where
+  pub reply : answered d.answer (step settings moment s command).after ≡ (step settings moment s command).reply
+  pub effect : d.effect ≡ effect_of settings moment s command
   pub edits_are : edits_made d ≡ effect_edits d.effect

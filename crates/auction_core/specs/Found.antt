@@ -69,7 +69,7 @@ AreTouched s touched r now = (k : ℕ) (i : Imp) → slice_get r.imps k ≡ Some
 
 -- the awards of the first k impressions
 abbrev pub awards_before : CoreState → BidRequest → ℕ → ℕ → List Award
-awards_before core r moment k = fold (award_next core.ttl moment r (swept moment core.state)) [] (take k (enumerate_from 0 r.imps))
+awards_before core r moment k = fold (award_next core.settings moment r (swept moment core.state)) [] (take k (enumerate_from 0 r.imps))
 
 -- beside these awards: a candidate of a campaign that was not touched may pay
 abbrev pub may_be_sold : CoreState → List ℕ → BidRequest → ℕ → List Award → Offer → Bool
@@ -77,7 +77,7 @@ may_be_sold core touched r moment awards o = not (is_touched touched o.campaign)
 
 -- the offers of the campaigns that were touched, by all rules
 abbrev pub offers_touched : CoreState → List ℕ → BidRequest → Imp → ℕ → List Award → List Offer
-offers_touched core touched r i moment awards = flat_map (offers_at (beside core.ttl moment r core.state awards) r i moment) (touched_for core.state touched r i)
+offers_touched core touched r i moment awards = flat_map (offers_at (beside core.settings moment r core.state awards) r i moment) (touched_for core.state touched r i)
 
 -- how many candidates are asked for the impression at a place, and for all
 abbrev pub asked_at : CoreState → List ℕ → BidRequest → ℕ → ℕ × (Imp × List Offer) → ℕ

@@ -16,4 +16,4 @@ pays_as s r moment n c = may_pay c.facts (free s n c) (option_map (shown_to s mo
 
 -- the candidate's campaign may pay beside these awards
 abbrev pub pays : CoreState → BidRequest → ℕ → List Award → Offer → Bool
-pays core r moment awards o = option_map_or (pays_as (beside core.ttl moment r core.state awards) r moment o.campaign) (campaign_at core.state o.campaign) false
+pays core r moment awards o = option_map_or (pays_as (beside core.settings moment r core.state awards) r moment o.campaign) (campaign_at core.state o.campaign) false

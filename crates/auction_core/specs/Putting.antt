@@ -30,6 +30,7 @@ memory_of (change.Paused n) = memory.Nothing
 memory_of (change.Resumed n) = memory.Nothing
 memory_of (change.Billed n) = memory.Nothing
 memory_of (change.Lost n) = memory.Nothing
+memory_of (change.Forgot n) = memory.Nothing
 memory_of (change.SoldTo user items) = memory.Keys (keys_for (Some user) items)
 memory_of (change.Kept k) = memory.Entry (record { facts = k.facts; expr = k.expr })
 memory_of (change.KeptSale sale) = memory.Sale sale sale.user
@@ -44,6 +45,7 @@ sales_in (change.Paused n) = 0
 sales_in (change.Resumed n) = 0
 sales_in (change.Billed n) = 0
 sales_in (change.Lost n) = 0
+sales_in (change.Forgot n) = 0
 sales_in (change.SoldTo user items) = length items
 sales_in (change.Kept k) = 0
 sales_in (change.KeptSale sale) = 1
@@ -57,6 +59,7 @@ campaigns_in (change.Paused n) = 0
 campaigns_in (change.Resumed n) = 0
 campaigns_in (change.Billed n) = 0
 campaigns_in (change.Lost n) = 0
+campaigns_in (change.Forgot n) = 0
 campaigns_in (change.SoldTo user items) = 0
 campaigns_in (change.Kept k) = 1
 campaigns_in (change.KeptSale sale) = 0
@@ -69,7 +72,7 @@ HasRoom c core = (sales_in c ≤ core.sale_room) × (campaigns_in c ≤ core.cam
 -- it came to that state by so many edits
 pub record Puts (after : Option State) (edits : ℕ) (old new : CoreState) : Type 0 where
   pub after_is : after ≡ Some new.state
-  pub ttl : new.ttl ≡ old.ttl
+  pub settings : new.settings ≡ old.settings
   pub edited : new.edits ≡ old.edits + edits
 
 -- the effect, or none, leads from the one state to the other

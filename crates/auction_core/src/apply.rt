@@ -15,7 +15,7 @@ impl Core {
         ensures after { OnOk result (applied effect.now self.old.state ≡ Some self.new.state) }
         ensures fault { IfErr result (Explains (applied effect.now self.old.state)) }
         ensures unchanged { OnErr result (self.new.state ≡ self.old.state) }
-        ensures ttl { self.new.ttl ≡ self.old.ttl }
+        ensures settings { self.new.settings ≡ self.old.settings }
         ensures edits { OnOk result (self.new.edits ≡ self.old.edits + edits_in effect.now.change) }
         ensures unedited { OnErr result (self.new.edits ≡ self.old.edits) }
     {

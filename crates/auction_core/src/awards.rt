@@ -31,7 +31,7 @@ impl Core {
     ) -> Result<Vec<(u32, Win)>, AllocError>
         requires few { length request.now.imps ≤ 64 }
         requires found { found.now ≡ map (found_for self.now.state request.now) request.now.imps }
-        ensures value { IfOk result (λ awards. awards.items ≡ awards_of self.now.ttl moment request.now (swept moment self.now.state)) }
+        ensures value { IfOk result (λ awards. awards.items ≡ awards_of self.now.settings moment request.now (swept moment self.now.state)) }
         ensures few { IfOk result (λ awards. length awards.items ≤ 64) }
     {
         let asked = Asked::new(alloc, request)?;
@@ -50,7 +50,7 @@ impl Core {
     ) -> Result<Vec<(u32, Win)>, AllocError>
         requires few { length asked.now.imps ≤ 64 }
         requires found { found.now ≡ map (found_for self.now.state asked.now) asked.now.imps }
-        ensures value { IfOk result (λ awards. awards.items ≡ awards_of self.now.ttl moment asked.now (swept moment self.now.state)) }
+        ensures value { IfOk result (λ awards. awards.items ≡ awards_of self.now.settings moment asked.now (swept moment self.now.state)) }
         ensures few { IfOk result (λ awards. length awards.items ≤ 64) }
     {
         let mut awards = Vec::new(alloc);
@@ -74,7 +74,7 @@ impl Core {
         requires imp { imp < length asked.now.imps }
         requires few { length awards.now ≤ 64 }
         requires found { (i : Impression) → slice_get asked.now.imps imp ≡ Some i → found.now ≡ found_for self.now.state asked.now i }
-        ensures { (i : Impression) → slice_get asked.now.imps imp ≡ Some i → IfOk result (λ w. w ≡ win (beside self.now.ttl moment asked.now self.now.state awards.now) asked.now i moment) }
+        ensures { (i : Impression) → slice_get asked.now.imps imp ≡ Some i → IfOk result (λ w. w ≡ win (beside self.now.settings moment asked.now self.now.state awards.now) asked.now i moment) }
     {
         let offers = self.offers(alloc, asked, imp, moment, found.as_slice(), awards)?;
         Ok(clear(offers.as_slice(), asked.terms_at(imp)))
@@ -93,7 +93,7 @@ impl Core {
         requires imp { imp < length asked.now.imps }
         requires few { length awards.now ≤ 64 }
         requires there { IsTrue (list_all (is_number_in self.now.state) numbers.now) }
-        ensures { (i : Impression) → slice_get asked.now.imps imp ≡ Some i → IfOk result (λ os. os.items ≡ flat_map (offers_at (beside self.now.ttl moment asked.now self.now.state awards.now) asked.now i moment) numbers.now) }
+        ensures { (i : Impression) → slice_get asked.now.imps imp ≡ Some i → IfOk result (λ os. os.items ≡ flat_map (offers_at (beside self.now.settings moment asked.now self.now.state awards.now) asked.now i moment) numbers.now) }
     {
         let mut all = Vec::new(alloc);
         for number in numbers {
@@ -115,7 +115,7 @@ impl Core {
         requires imp { imp < length asked.now.imps }
         requires few { length awards.now ≤ 64 }
         requires there { (1 ≤ n) × (n ≤ length self.now.state.campaigns) }
-        ensures { (i : Impression) → slice_get asked.now.imps imp ≡ Some i → OnOk result (all.new.items ≡ all.old.items ++ offers_at (beside self.now.ttl moment asked.now self.now.state awards.now) asked.now i moment n) }
+        ensures { (i : Impression) → slice_get asked.now.imps imp ≡ Some i → OnOk result (all.new.items ≡ all.old.items ++ offers_at (beside self.now.settings moment asked.now self.now.state awards.now) asked.now i moment n) }
     {
         let facts = &self.entry(n).record().facts;
         if bids_below(&asked.imps()[imp], facts) {
@@ -148,7 +148,7 @@ impl Core {
         awards: &[(u32, Win)],
     ) -> Option<u64>
         requires few { length awards.now ≤ 64 }
-        ensures { (c : Campaign) → c.facts.cap ≡ cap → result ≡ option_map (shown_to (beside self.now.ttl moment request.now self.now.state awards.now) moment n c) (user_of request.now) }
+        ensures { (c : Campaign) → c.facts.cap ≡ cap → result ≡ option_map (shown_to (beside self.now.settings moment request.now self.now.state awards.now) moment n c) (user_of request.now) }
     {
         let user = user_of(request)?;
         Some(self.times_shown(n, cap, user.as_bytes(), moment, awards))
@@ -175,7 +175,7 @@ impl Core {
 
     fn count_shown(&self, n: u32, user: &[u8], seconds: u32, moment: u64) -> u64
         ensures value { result ≡ shown_of n user.now seconds moment (swept moment self.now.state).sales }
-        ensures few { result ≤ 4194304 }
+        ensures few { result ≤ 67108864 }
     {
         self.book.shown(n, user, seconds, moment)
     }

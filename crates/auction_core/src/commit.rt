@@ -18,9 +18,9 @@ impl Core {
     pub fn commit(&mut self, draft: Draft) -> Reply
         requires ready { IsReady draft self.old }
         requires few { self.old.edits < 2 ^ 63 }
-        ensures reply { (command : Command) (moment : ℕ) → IsDraftOf self.old.ttl self.old.state command moment draft → result ≡ (step self.old.ttl moment self.old.state command).reply }
-        ensures state { (command : Command) (moment : ℕ) → IsDraftOf self.old.ttl self.old.state command moment draft → self.new.state ≡ (step self.old.ttl moment self.old.state command).after }
-        ensures ttl { self.new.ttl ≡ self.old.ttl }
+        ensures reply { (command : Command) (moment : ℕ) → IsDraftOf self.old.settings self.old.state command moment draft → result ≡ (step self.old.settings moment self.old.state command).reply }
+        ensures state { (command : Command) (moment : ℕ) → IsDraftOf self.old.settings self.old.state command moment draft → self.new.state ≡ (step self.old.settings moment self.old.state command).after }
+        ensures settings { self.new.settings ≡ self.old.settings }
         ensures edits { self.new.edits ≡ self.old.edits + edits_made draft }
     {
         let memory = draft.memory;
@@ -34,7 +34,7 @@ impl Core {
         requires ready { IfSome (option_copied effect) (λ e. CanPut e memory self.old) }
         requires few { self.old.edits < 2 ^ 63 }
         ensures state { Leads (option_copied effect.entry) self.old.state self.new.state }
-        ensures ttl { self.new.ttl ≡ self.old.ttl }
+        ensures settings { self.new.settings ≡ self.old.settings }
         ensures edits { self.new.edits ≡ self.old.edits + effect_edits (option_copied effect.entry) }
     {
         match effect {

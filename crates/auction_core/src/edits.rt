@@ -1,12 +1,12 @@
 //! Single changes of the state. None takes memory.
 ghost use Rattle.std.proofs.Common.{get_or, set};
-ghost use Rattle.std.specs.Prelude.{◌≡◌, ◌-◌, length, ◌+◌, ◌<◌, ◌≤◌, ◌^◌, [], ◌∷◌, false, true, IsTrue, not};
+ghost use Rattle.std.specs.Prelude.{◌≡◌, ◌-◌, length, ◌+◌, ◌<◌, ◌≤◌, ◌^◌, [], ◌∷◌, false, true, IsTrue, not, Some, is_some};
 ghost use Rattle.auction_core.specs.Putting.{IsAt, can_change, changed_at, settled};
 ghost use Rattle.auction_core.specs.Frames.{OnlyState};
 ghost use Rattle.budget_book.specs.Book.{Funds};
 ghost use Rattle.budget_book.specs.declared.sales.SaleState.{SaleState};
 ghost use Rattle.budget_book.specs.Sales.{committed_of};
-ghost use Rattle.plain_exchange.specs.Effects.{can_pay, has_room, is_within_limits, sale_by};
+ghost use Rattle.plain_exchange.specs.Effects.{can_pay, has_room, is_within_limits, sale_by, with_forgotten};
 ghost use Rattle.plain_exchange.specs.State.{forget, swept, with_campaigns, with_sales};
 ghost use Rattle.plain_exchange.specs.Step.{new_campaign, with_live, with_record};
 
@@ -95,11 +95,21 @@ impl Core {
         let _answer = self.book.lose(sale);
     }
 
+    // The oldest sales are forgotten, until so many are. None of them is held.
+    pub(crate) fn forget_to(&mut self, forgotten: u64)
+        requires { IsTrue (is_some (with_forgotten forgotten self.old.state)) }
+        ensures state { with_forgotten forgotten self.old.state ≡ Some self.new.state }
+        ensures rest { OnlyState 0 0 0 self.old self.new }
+    {
+        let more = forgotten.saturating_sub(self.forgotten());
+        self.book.forget_first(more);
+    }
+
     /// The oldest sales are forgotten, up to the first that is held, and so that at least `keep` are left.
     /// It takes no memory.
     pub fn forget(&mut self, keep: u64)
         ensures state { self.new.state ≡ forget keep self.old.state }
-        ensures ttl { self.new.ttl ≡ self.old.ttl }
+        ensures settings { self.new.settings ≡ self.old.settings }
         ensures edits { self.new.edits ≡ self.old.edits }
         ensures sale_room { self.old.sale_room ≤ self.new.sale_room }
         ensures campaign_room { self.old.campaign_room ≤ self.new.campaign_room }

@@ -5,18 +5,19 @@ ghost use Rattle.plain_exchange.specs.State.{empty};
 
 use budget_book::Book;
 use campaign_store::Table;
+use plain_exchange::Settings;
 use std::alloc::Global;
 use std::marker::Model;
 
 /// An exchange of one thread: campaigns, and the sales that their budgets are spent on.
 ///
-/// Contracts see its state, how long a sale is held (`ttl`, in milliseconds), how many edits made its table,
-/// and for how many more sales and campaigns there is room.
+/// Contracts see its state, its settings (for how long a sale is held, and how many its list is to have), how many edits
+/// made its table, and for how many more sales and campaigns there is room.
 #[derive(Drop)]
 pub struct Core {
     pub(crate) table: Table,
     pub(crate) book: Book,
-    pub(crate) ttl: u64,
+    pub(crate) settings: Settings,
 }
 
 impl Model for Core {
@@ -25,28 +26,29 @@ impl Model for Core {
 
     ghost Value = { CoreState };
 
-    ghost view = { λ c. record { state = record { campaigns = campaigns_of c.table.campaigns c.book.campaigns; sales = c.book.sales }; ttl = c.ttl; edits = c.table.edits; sale_room = c.book.sale_room; campaign_room = min c.table.spare c.book.campaign_room } };
+    ghost view = { λ c. record { state = record { campaigns = campaigns_of c.table.campaigns c.book.campaigns; sales = c.book.sales }; settings = c.settings; edits = c.table.edits; sale_room = c.book.sale_room; campaign_room = min c.table.spare c.book.campaign_room } };
 
     ghost invariant = { λ c. IsCore c.table.campaigns c.book.campaigns c.book.sales };
 }
 
 impl Core {
-    /// The exchange without campaigns, where a sale is held for `ttl` milliseconds. It takes no memory.
-    pub fn new(alloc: Global, ttl: u64) -> Core
-        ensures { result ≡ record { state = empty; ttl = ttl; edits = 0; sale_room = 0; campaign_room = 0 } }
+    /// The exchange without campaigns, where a sale is held for `ttl` milliseconds and auctions bring the list of sales to
+    /// `limit` at most. It takes no memory.
+    pub fn new(alloc: Global, ttl: u64, limit: u64) -> Core
+        ensures { result ≡ record { state = empty; settings = record { ttl = ttl; limit = limit }; edits = 0; sale_room = 0; campaign_room = 0 } }
     {
         Core {
             table: Table::new(alloc),
             book: Book::new(alloc),
-            ttl,
+            settings: Settings { ttl, limit },
         }
     }
 
-    /// From now on a sale is held for `ttl` milliseconds.
-    pub fn hold_for(&mut self, ttl: u64)
-        ensures { self.new ≡ record self.old { ttl = ttl } }
+    /// From now on a sale is held for `ttl` milliseconds, and auctions bring the list of sales to `limit` at most.
+    pub fn hold_for(&mut self, ttl: u64, limit: u64)
+        ensures { self.new ≡ record self.old { settings = record { ttl = ttl; limit = limit } } }
     {
-        self.ttl = ttl;
+        self.settings = Settings { ttl, limit };
     }
 
     /// The table of its campaigns.

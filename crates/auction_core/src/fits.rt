@@ -5,11 +5,11 @@ ghost use Rattle.auction_core.specs.Applying.{User, items_cost, with_sold};
 ghost use Rattle.auction_core.specs.Putting.{can_change, sales_in};
 ghost use Rattle.budget_book.specs.declared.sales.SaleRow.{SaleRow};
 ghost use Rattle.budget_book.specs.Sales.{is_held};
-ghost use Rattle.plain_exchange.specs.Effects.{can_pay, change_applied, fits, has_room, with_items};
+ghost use Rattle.plain_exchange.specs.Effects.{can_pay, change_applied, fits, has_room, with_forgotten, with_items};
 ghost use Rattle.plain_exchange.specs.State.{Campaign, campaign_at, free, sale_numbered, swept};
 
 use crate::exchange::Core;
-use budget_book::{MOST_SALES, SaleState};
+use budget_book::{MOST_FORGOTTEN, MOST_SALES, SaleState};
 use campaign::Facts;
 use plain_exchange::{Change, Effect, SoldItem};
 use target_expr::Expr;
@@ -18,7 +18,7 @@ impl Core {
     // Whether the effect fits the state.
     pub(crate) fn fits(&self, effect: &Effect) -> bool
         ensures value { result ≡ fits effect.now self.now.state }
-        ensures few { IsTrue result → sales_in effect.now.change ≤ 4194304 }
+        ensures few { IsTrue result → sales_in effect.now.change ≤ 67108864 }
     {
         self.fits_change(&effect.change, effect.moment)
     }
@@ -26,7 +26,7 @@ impl Core {
     // The same, by the change and its moment.
     fn fits_change(&self, change: &Change, moment: u64) -> bool
         ensures value { result ≡ is_some (change_applied change.now moment self.now.state) }
-        ensures few { IsTrue result → sales_in change.now ≤ 4194304 }
+        ensures few { IsTrue result → sales_in change.now ≤ 67108864 }
     {
         match change {
             Change::Swept => self.is_any_due(moment),
@@ -38,6 +38,7 @@ impl Core {
             Change::Billed(sale) => self.can_settle(*sale, moment),
             Change::Lost(sale) => self.can_settle(*sale, moment),
             Change::SoldTo(_, items) => self.can_sell(items.as_slice(), moment),
+            Change::Forgot(forgotten) => self.can_forget(*forgotten, moment),
             Change::Kept(kept) => moment == 0 && self.can_keep(kept),
             Change::KeptSale(row) => moment == 0 && self.can_keep_sale(row),
         }
@@ -92,10 +93,20 @@ impl Core {
         }
     }
 
+    // Whether so many sales can be forgotten in all at the moment.
+    #[tactic(auto, using(crate::proofs::Fitting::some_if))]
+    fn can_forget(&self, forgotten: u64, moment: u64) -> bool
+        ensures { result ≡ is_some (with_forgotten forgotten (swept moment self.now.state)) }
+    {
+        let more = forgotten.saturating_sub(self.forgotten());
+        let settled = self.book.are_settled_at(more, moment);
+        forgotten <= MOST_FORGOTTEN && settled
+    }
+
     // Whether the items can be sold at the moment, one after the other.
     pub(crate) fn can_sell(&self, items: &[SoldItem], moment: u64) -> bool
         ensures value { (user : User) → result ≡ is_some (with_items moment user items.now (swept moment self.now.state)) }
-        ensures few { IsTrue result → length items.now ≤ 4194304 }
+        ensures few { IsTrue result → length items.now ≤ 67108864 }
     {
         for place in 0..items.len() {
             if !self.can_sell_next(&items[..place], &items[place], moment) {

@@ -1,7 +1,7 @@
 //! What the exchange tells of its state, as it is or as it would be once held sales that are due have expired.
 ghost use Rattle.std.specs.Prelude.{◌≡◌, ◌-◌, ◌≤◌, Some, length, option_map};
 ghost use Rattle.budget_book.specs.declared.sales.SaleRow.{SaleRow};
-ghost use Rattle.budget_book.specs.Sales.{state_at};
+ghost use Rattle.budget_book.specs.Sales.{forgettable_at_once, state_at};
 ghost use Rattle.plain_exchange.specs.State.{Campaign, campaign_at, committed, forgotten, free, is_any_due, record_of, sale_numbered, swept, totals};
 
 use crate::exchange::Core;
@@ -79,7 +79,7 @@ impl Core {
     // How many sales are in the list.
     pub(crate) fn sales(&self) -> u64
         ensures value { result ≡ length self.now.state.sales }
-        ensures few { result ≤ 4194304 }
+        ensures few { result ≤ 67108864 }
     {
         self.book.sales()
     }
@@ -89,6 +89,14 @@ impl Core {
         ensures { result ≡ forgotten self.now.state }
     {
         self.book.forgotten()
+    }
+
+    // How many sales are forgotten at once at the moment, so that so many are left.
+    pub(crate) fn forgettable_at(&self, keep: u64, moment: u64) -> u64
+        ensures value { result ≡ forgettable_at_once keep (forgotten self.now.state) (swept moment self.now.state).sales }
+        ensures there { result ≤ length self.now.state.sales }
+    {
+        self.book.forgettable_at(keep, moment)
     }
 
     // Whether a held sale is due by the moment.

@@ -26,7 +26,7 @@ impl Core {
         requires few { length awards.now ≤ 64 }
         requires there { (1 ≤ n) × (n ≤ length self.now.state.campaigns) }
         requires bid { (c : Campaign) → campaign_at self.now.state n ≡ Some c → bid ≡ c.facts.bid }
-        ensures { (c : Campaign) → campaign_at self.now.state n ≡ Some c → result ≡ pays_as (beside self.now.ttl moment request.now self.now.state awards.now) request.now moment n c }
+        ensures { (c : Campaign) → campaign_at self.now.state n ≡ Some c → result ≡ pays_as (beside self.now.settings moment request.now self.now.state awards.now) request.now moment n c }
     {
         let free = self.free_beside(n, moment, awards);
         if free < Nanos::from(bid) {

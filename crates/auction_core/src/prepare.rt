@@ -4,6 +4,7 @@ ghost use Rattle.std.specs.Option.{option_copied, option_or};
 ghost use Rattle.auction_core.specs.Draft.{CanPut, IsDraftOf, IsReady, found_of, is_simple, is_valid_command};
 ghost use Rattle.auction_core.specs.Frames.{OnlyRooms};
 ghost use Rattle.auction_core.specs.Outcomes.{IsOutcome};
+ghost use Rattle.plain_exchange.specs.declared.settings.Settings.{Settings};
 ghost use Rattle.plain_exchange.specs.declared.changes.Change.{Change as AChange};
 ghost use Rattle.plain_exchange.specs.declared.changes.Change.TheVariants.{Swept};
 ghost use Rattle.plain_exchange.specs.declared.commands.Command.{Command as ACommand};
@@ -32,10 +33,10 @@ impl Core {
     ) -> Result<Draft, AllocError>
         requires valid { IsTrue (is_valid_command command.now) }
         requires found { found.now ≡ found_of self.old.state command.now }
-        ensures draft { IfOk result (λ d. IsDraftOf self.old.ttl self.old.state command.now moment d) }
+        ensures draft { IfOk result (λ d. IsDraftOf self.old.settings self.old.state command.now moment d) }
         ensures ready { IfOk result (λ d. IsReady d self.new) }
         ensures state { self.new.state ≡ self.old.state }
-        ensures ttl { self.new.ttl ≡ self.old.ttl }
+        ensures settings { self.new.settings ≡ self.old.settings }
         ensures edits { self.new.edits ≡ self.old.edits }
         ensures sale_room { self.old.sale_room ≤ self.new.sale_room }
         ensures campaign_room { self.old.campaign_room ≤ self.new.campaign_room }
@@ -54,10 +55,10 @@ impl Core {
         moment: u64,
     ) -> Result<Draft, AllocError>
         requires simple { IsTrue (is_simple command.now) }
-        ensures draft { IfOk result (λ d. IsDraftOf self.old.ttl self.old.state command.now moment d) }
+        ensures draft { IfOk result (λ d. IsDraftOf self.old.settings self.old.state command.now moment d) }
         ensures ready { IfOk result (λ d. IsReady d self.new) }
         ensures state { self.new.state ≡ self.old.state }
-        ensures ttl { self.new.ttl ≡ self.old.ttl }
+        ensures settings { self.new.settings ≡ self.old.settings }
         ensures edits { self.new.edits ≡ self.old.edits }
         ensures sale_room { self.old.sale_room ≤ self.new.sale_room }
         ensures campaign_room { self.old.campaign_room ≤ self.new.campaign_room }
@@ -69,7 +70,7 @@ impl Core {
     // What the command does to the state in which nothing is due.
     fn outcome(&self, command: &Command, moment: u64) -> Result<Outcome, AllocError>
         requires simple { IsTrue (is_simple command.now) }
-        ensures { IfOk result (λ o. IsOutcome (step self.now.ttl moment self.now.state command.now) o) }
+        ensures { IfOk result (λ o. IsOutcome (step self.now.settings moment self.now.state command.now) o) }
     {
         match command {
             Command::Auction(_) => unreachable!(),
@@ -80,6 +81,7 @@ impl Core {
             Command::Report(n) => Ok(self.report_outcome(*n)),
             Command::Bill(sale) => Ok(self.bill_outcome(*sale, moment)),
             Command::Lose(sale) => Ok(self.lose_outcome(*sale, moment)),
+            Command::Forget(keep) => Ok(self.forget_outcome(*keep, moment)),
         }
     }
 
@@ -90,8 +92,8 @@ impl Core {
         outcome: Outcome,
         moment: u64,
     ) -> Result<Draft, AllocError>
-        requires outcome { (ttl : ℕ) × (command : ACommand) × IsOutcome (step ttl moment self.old.state command) outcome }
-        ensures draft { (ttl : ℕ) (command : ACommand) → IsOutcome (step ttl moment self.old.state command) outcome → IfOk result (λ d. IsDraftOf ttl self.old.state command moment d) }
+        requires outcome { (settings : Settings) × (command : ACommand) × IsOutcome (step settings moment self.old.state command) outcome }
+        ensures draft { (settings : Settings) (command : ACommand) → IsOutcome (step settings moment self.old.state command) outcome → IfOk result (λ d. IsDraftOf settings self.old.state command moment d) }
         ensures ready { IfOk result (λ d. IsReady d self.new) }
         ensures rooms { OnlyRooms self.old self.new }
     {

@@ -5,7 +5,7 @@ ghost use Rattle.auction_core.specs.Draft.{IsDraftOf, IsReady, found_for};
 ghost use Rattle.auction_core.specs.Frames.{OnlyRooms};
 ghost use Rattle.auction_core.specs.Outcomes.{IsOutcome};
 ghost use Rattle.plain_exchange.specs.declared.commands.Command.TheVariants as command;
-ghost use Rattle.plain_exchange.specs.State.{most_sales};
+ghost use Rattle.plain_exchange.specs.State.{limit_of};
 ghost use Rattle.plain_exchange.specs.Step.{step};
 ghost use Rattle.rtb_types.specs.Valid.{is_valid};
 
@@ -32,7 +32,7 @@ impl Core {
     ) -> Result<Draft, AllocError>
         requires valid { IsTrue (is_valid request.now) }
         requires found { found.now ≡ map (found_for self.old.state request.now) request.now.imps }
-        ensures draft { IfOk result (λ d. IsDraftOf self.old.ttl self.old.state (command.Auction request.now) moment d) }
+        ensures draft { IfOk result (λ d. IsDraftOf self.old.settings self.old.state (command.Auction request.now) moment d) }
         ensures ready { IfOk result (λ d. IsReady d self.new) }
         ensures rooms { OnlyRooms self.old self.new }
     {
@@ -50,7 +50,7 @@ impl Core {
     ) -> Result<Outcome, AllocError>
         requires valid { IsTrue (is_valid request.now) }
         requires found { found.now ≡ map (found_for self.now.state request.now) request.now.imps }
-        ensures { IfOk result (λ o. IsOutcome (step self.now.ttl moment self.now.state (command.Auction request.now)) o) }
+        ensures { IfOk result (λ o. IsOutcome (step self.now.settings moment self.now.state (command.Auction request.now)) o) }
     {
         let awards = self.awards(alloc, request, moment, found)?;
         self.award_outcome(alloc, request, moment, awards.as_slice())
@@ -65,7 +65,7 @@ impl Core {
         awards: &[(u32, Win)],
     ) -> Result<Outcome, AllocError>
         requires few { length awards.now ≤ 64 }
-        ensures { IfOk result (λ o. o ≡ award_outcome self.now.ttl moment request.now self.now.state awards.now) }
+        ensures { IfOk result (λ o. o ≡ award_outcome self.now.settings moment request.now self.now.state awards.now) }
     {
         if awards.is_empty() {
             return Ok(reply_alone(Reply::NoBid));
@@ -81,9 +81,9 @@ impl Core {
     // Whether the list has no room for so many sales more.
     fn is_too_many(&self, count: usize) -> bool
         requires few { count ≤ 64 }
-        ensures { result ≡ nat_lt most_sales (length self.now.state.sales + count) }
+        ensures { result ≡ nat_lt (limit_of self.now.settings) (length self.now.state.sales + count) }
     {
-        self.sales() + count as u64 > MOST_SALES
+        self.sales() + count as u64 > self.settings.limit.min(MOST_SALES)
     }
 
     // Sells the awards.
@@ -95,9 +95,9 @@ impl Core {
         awards: &[(u32, Win)],
     ) -> Result<Outcome, AllocError>
         requires few { length awards.now ≤ 64 }
-        ensures { IfOk result (λ o. o ≡ selling self.now.ttl moment request.now self.now.state awards.now) }
+        ensures { IfOk result (λ o. o ≡ selling self.now.settings moment request.now self.now.state awards.now) }
     {
-        let due = moment.saturating_add(self.ttl);
+        let due = moment.saturating_add(self.settings.ttl);
         let user = user_of(request);
         let sold = self.list_sales(alloc, request, awards)?;
         let change = sale_change(alloc, awards, due, user)?;

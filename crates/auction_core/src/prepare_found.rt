@@ -58,10 +58,10 @@ impl Core {
         requires rising { IsStrictlyIncreasing touched.now }
         requires may_sell { MaySell self.old.state touched.now asked.now found.now }
         requires now { AreTouched self.old.state touched.now asked.now now.now }
-        ensures draft { IfOk result (λ d. IsDraftOf self.old.ttl self.old.state (command.Auction asked.now) moment d) }
+        ensures draft { IfOk result (λ d. IsDraftOf self.old.settings self.old.state (command.Auction asked.now) moment d) }
         ensures ready { IfOk result (λ d. IsReady d self.new) }
         ensures state { self.new.state ≡ self.old.state }
-        ensures ttl { self.new.ttl ≡ self.old.ttl }
+        ensures settings { self.new.settings ≡ self.old.settings }
         ensures edits { self.new.edits ≡ self.old.edits }
         ensures sale_room { self.old.sale_room ≤ self.new.sale_room }
         ensures campaign_room { self.old.campaign_room ≤ self.new.campaign_room }
@@ -89,7 +89,7 @@ impl Core {
         requires valid { IsTrue (is_valid findings.now.asked.now) }
         requires may_sell { MaySell self.now.state findings.now.touched.now findings.now.asked.now findings.now.candidates.now }
         requires now { AreTouched self.now.state findings.now.touched.now findings.now.asked.now findings.now.numbers.now }
-        ensures value { IfOk result (λ o. IsOutcome (step self.now.ttl moment self.now.state (command.Auction findings.now.asked.now)) o) }
+        ensures value { IfOk result (λ o. IsOutcome (step self.now.settings moment self.now.state (command.Auction findings.now.asked.now)) o) }
         ensures cost { steps.new ≤ steps.old + sold_cost self.now findings.now.touched.now findings.now.asked.now moment findings.now.candidates.now }
     {
         let awards = self.awards_found(alloc, findings, moment, steps)?;
@@ -107,7 +107,7 @@ impl Core {
         requires few { length findings.now.asked.now.imps ≤ 64 }
         requires may_sell { MaySell self.now.state findings.now.touched.now findings.now.asked.now findings.now.candidates.now }
         requires now { AreTouched self.now.state findings.now.touched.now findings.now.asked.now findings.now.numbers.now }
-        ensures value { IfOk result (λ awards. awards.items ≡ awards_of self.now.ttl moment findings.now.asked.now (swept moment self.now.state)) }
+        ensures value { IfOk result (λ awards. awards.items ≡ awards_of self.now.settings moment findings.now.asked.now (swept moment self.now.state)) }
         ensures few { IfOk result (λ awards. length awards.items ≤ 64) }
         ensures cost { steps.new ≤ steps.old + sold_cost self.now findings.now.touched.now findings.now.asked.now moment findings.now.candidates.now }
     {
@@ -147,7 +147,7 @@ impl Core {
         requires may_sell { MaySell self.now.state findings.now.touched.now findings.now.asked.now findings.now.candidates.now }
         requires now { AreTouched self.now.state findings.now.touched.now findings.now.asked.now findings.now.numbers.now }
         requires refused { (cs : AList AnOffer) → slice_get findings.now.candidates.now imp ≡ Some cs → IsRefused (may_be_sold self.now findings.now.touched.now findings.now.asked.now moment awards.now) cs refused.old }
-        ensures sale { (i : Impression) → slice_get findings.now.asked.now.imps imp ≡ Some i → IfOk result (λ w. w ≡ win (beside self.now.ttl moment findings.now.asked.now self.now.state awards.now) findings.now.asked.now i moment) }
+        ensures sale { (i : Impression) → slice_get findings.now.asked.now.imps imp ≡ Some i → IfOk result (λ w. w ≡ win (beside self.now.settings moment findings.now.asked.now self.now.state awards.now) findings.now.asked.now i moment) }
         ensures refused { (cs : AList AnOffer) → slice_get findings.now.candidates.now imp ≡ Some cs → IsRefused (may_be_sold self.now findings.now.touched.now findings.now.asked.now moment awards.now) cs refused.new }
         ensures cost { (i : Impression) (cs : AList AnOffer) → slice_get findings.now.asked.now.imps imp ≡ Some i → slice_get findings.now.candidates.now imp ≡ Some cs → steps.new ≤ steps.old + asked (may_be_sold self.now findings.now.touched.now findings.now.asked.now moment awards.now) (offers_touched self.now findings.now.touched.now findings.now.asked.now i moment awards.now) cs }
     {

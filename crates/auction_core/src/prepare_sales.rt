@@ -3,7 +3,7 @@ ghost use Rattle.std.specs.Prelude.{◌≡◌, ◌&&◌, None, nat_le, if◌then
 ghost use Rattle.auction_core.specs.Outcomes.{IsOutcome};
 ghost use Rattle.plain_exchange.specs.declared.commands.Reply.TheVariants as reply;
 ghost use Rattle.plain_exchange.specs.State.{forgotten, swept};
-ghost use Rattle.plain_exchange.specs.Step.{at_sale, bill_sale, lose_sale};
+ghost use Rattle.plain_exchange.specs.Step.{at_sale, bill_sale, forget_sales, lose_sale};
 
 use crate::exchange::Core;
 use crate::outcome::{Outcome, reply_alone, reply_to};
@@ -35,6 +35,22 @@ impl Core {
             Some(SaleState::Lost) => reply_alone(Reply::Lost { sale }),
             Some(SaleState::Expired) => reply_alone(Reply::WasExpired),
         }
+    }
+
+    // Forgets the oldest sales that are not held at the moment, so that so many are left.
+    pub(crate) fn forget_outcome(&self, keep: u64, moment: u64) -> Outcome
+        ensures { IsOutcome (forget_sales keep (swept moment self.now.state)) result }
+    {
+        let count = self.forgettable_at(keep, moment);
+        let sales = self.sales() - count;
+        let forgotten = self.forgotten() + count;
+        if count == 0 {
+            return reply_alone(Reply::Trimmed { sales, forgotten });
+        }
+        reply_to(
+            Change::Forgot(forgotten),
+            Reply::Trimmed { sales, forgotten },
+        )
     }
 
     // Why there is no sale of that number in the list.

@@ -6,7 +6,7 @@ ghost use Rattle.auction_core.specs.declared.draft.Memory.TheVariants as held;
 ghost use Rattle.budget_book.specs.declared.sales.SaleRow.{SaleRow as ASaleRow};
 ghost use Rattle.budget_book.specs.declared.sales.SaleState.{SaleState};
 ghost use Rattle.campaign_store.specs.declared.record.Record.{Record};
-ghost use Rattle.plain_exchange.specs.Effects.{applied, change_applied, edits_in, fits, on_campaign, on_sale, only_if, with_added, with_changed, with_items, with_paused, with_resumed, with_settled};
+ghost use Rattle.plain_exchange.specs.Effects.{applied, change_applied, edits_in, fits, on_campaign, on_sale, only_if, with_added, with_changed, with_forgotten, with_items, with_paused, with_resumed, with_settled};
 ghost use Rattle.plain_exchange.specs.State.{is_any_due, swept};
 
 use crate::draft::Memory;
@@ -58,6 +58,10 @@ impl Core {
             Change::Lost(sale) => {
                 drop(memory);
                 self.put_loss(*sale, moment)
+            }
+            Change::Forgot(forgotten) => {
+                drop(memory);
+                self.put_forgetting(*forgotten, moment)
             }
             Change::SoldTo(user, items) => {
                 self.put_sales(Some(user), items.as_slice(), moment, keys_in(memory))
@@ -132,6 +136,15 @@ impl Core {
     {
         self.sweep(moment);
         self.lose(sale);
+    }
+
+    // The oldest sales are forgotten, until so many are.
+    fn put_forgetting(&mut self, forgotten: u64, moment: u64)
+        requires { IsTrue (is_some (with_forgotten forgotten (swept moment self.old.state))) }
+        ensures { Puts (with_forgotten forgotten (swept moment self.old.state)) 0 self.old self.new }
+    {
+        self.sweep(moment);
+        self.forget_to(forgotten);
     }
 
     // The items are sold, all of them.

@@ -24,7 +24,7 @@ impl Core {
         alloc: Global,
         change: &Change,
     ) -> Result<Memory, AllocError>
-        requires few { sales_in change.now ≤ 4194304 }
+        requires few { sales_in change.now ≤ 67108864 }
         ensures memory { IfOk result (λ m. m ≡ memory_of change.now) }
         ensures room { OnOk result (HasRoom change.now self.new) }
         ensures rooms { OnlyRooms self.old self.new }
@@ -35,7 +35,7 @@ impl Core {
 
     // Room for the sales and campaigns that it adds.
     fn reserve(&mut self, change: &Change) -> Result<(), AllocError>
-        requires few { sales_in change.now ≤ 4194304 }
+        requires few { sales_in change.now ≤ 67108864 }
         ensures room { OnOk result (HasRoom change.now self.new) }
         ensures rooms { OnlyRooms self.old self.new }
     {
@@ -46,7 +46,7 @@ impl Core {
             Change::Added(_, _) | Change::Kept(_) => self.reserve_campaign(),
             Change::Swept | Change::Changed(_, _, _) => Ok(()),
             Change::Paused(_) | Change::Resumed(_) => Ok(()),
-            Change::Billed(_) | Change::Lost(_) => Ok(()),
+            Change::Billed(_) | Change::Lost(_) | Change::Forgot(_) => Ok(()),
         }
     }
 
@@ -79,7 +79,7 @@ fn memory_for(alloc: Global, change: &Change) -> Result<Memory, AllocError>
         Change::Kept(kept) => entry_of(alloc, &kept.facts, &kept.expr),
         Change::KeptSale(row) => sale_of(alloc, row),
         Change::Swept | Change::Paused(_) | Change::Resumed(_) => Ok(Memory::Nothing),
-        Change::Billed(_) | Change::Lost(_) => Ok(Memory::Nothing),
+        Change::Billed(_) | Change::Lost(_) | Change::Forgot(_) => Ok(Memory::Nothing),
     }
 }
 

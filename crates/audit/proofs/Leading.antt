@@ -2,7 +2,7 @@
 use Rattle.std.proofs.Common.{◌≡◌, ℕ, Bool, true, false, ◌||◌, Some, None, Option, refl, ap, sym, subst, ◌∙◌}
 use Rattle.std.specs.Prelude.{Result, Ok, Err, IfOk, IsTrue, if◌then◌else◌}
 use Rattle.auction_core.specs.Draft.{is_valid_command}
-use Rattle.audit.specs.Accounts.{LeadsTo, account, answer_at, request_of, state_behind, tells, tells_failure}
+use Rattle.audit.specs.Accounts.{LeadsTo, account, answer_at, request_of, state_behind, tells, tells_failure, settings_of}
 use Rattle.command_read.specs.Commands.{IsCommandOf}
 use Rattle.http_wire.specs.Answers.{memory_answer}
 use Rattle.http_wire.specs.declared.answer.Answer.{Answer}
@@ -16,6 +16,7 @@ use Rattle.plain_exchange.specs.declared.commands.Command.{Command}
 use Rattle.plain_exchange.specs.declared.commands.Command.TheVariants as command
 use Rattle.rtb_types.specs.declared.request.BidRequest.{BidRequest}
 use Rattle.rtb_types.specs.Valid.{is_valid}
+use Rattle.plain_exchange.specs.declared.settings.Settings.{Settings}
 
 -- a command that was read is one that can be prepared
 pub valid_as_read : {E : Type 0} (c : Command) → ((r : BidRequest) → ◌≡◌ {A = Result Command E} (Ok c) (Ok (command.Auction r)) → IsTrue (is_valid r)) → IsTrue (is_valid_command c)
@@ -27,12 +28,13 @@ valid_as_read (command.Resume n) h = refl
 valid_as_read (command.Report n) h = refl
 valid_as_read (command.Bill n) h = refl
 valid_as_read (command.Lose n) h = refl
+valid_as_read (command.Forget keep) h = refl
 
 -- what the state behind a command, and what it says, make of an entry
-pub accounts_so : (h : Header) (ttl moment : ℕ) (s after : State) (e : Entry) (c : Command) (r : Bool) (reply : Reply) → ttl ≡ h.ttl → moment ≡ e.moment → reply ≡ (step ttl moment s c).reply → after ≡ (step ttl moment s c).after
+pub accounts_so : (h : Header) (settings : Settings) (moment : ℕ) (s after : State) (e : Entry) (c : Command) (r : Bool) (reply : Reply) → settings ≡ settings_of h → moment ≡ e.moment → reply ≡ (step settings moment s c).reply → after ≡ (step settings moment s c).after
     → r ≡ (tells_failure e || tells e (answer_of (request_of c) (Some h.public) reply)) → account h s e (Ok c) ≡ (if r then Some after else None)
 unfolding answer_at state_behind
-accounts_so h ttl moment s after e c r reply same now says is told =
+accounts_so h settings moment s after e c r reply same now says is told =
     rw (told, says, is, same, now) refl
 
 -- an entry that is read leads so

@@ -9,6 +9,7 @@ use Rattle.plain_exchange.specs.State.{State}
 use Rattle.plain_exchange.specs.Step.{step}
 use Rattle.plain_exchange.specs.declared.commands.Command.{Command}
 use Rattle.plain_exchange.specs.declared.commands.Command.TheVariants as command
+use Rattle.plain_exchange.specs.declared.settings.Settings.{Settings}
 use Rattle.rtb_response.specs.Replies.{answer_of}
 use Rattle.rtb_types.specs.declared.request.BidRequest.{BidRequest}
 use Rattle.trace.specs.declared.entry.Entry.{Entry}
@@ -24,6 +25,7 @@ request_of (command.Resume n) = None
 request_of (command.Report n) = None
 request_of (command.Bill n) = None
 request_of (command.Lose n) = None
+request_of (command.Forget keep) = None
 
 -- the entry tells this answer: its status and its body
 abbrev pub tells : Entry → Answer → Bool
@@ -37,12 +39,16 @@ tells_failure e = tells e store_failed_answer || tells e (memory_answer true)
 abbrev pub passes : Entry → Bool
 passes e = tells e (memory_answer false) || tells_failure e
 
+-- the trace has the time for which a sale is held, and the list of sales its greatest length of old
+abbrev pub settings_of : Header → Settings
+settings_of h = record { ttl = h.ttl; limit = 4194304 }
+
 -- the answer of an exchange of one thread to the command
 unfoldable pub answer_at : Header → State → ℕ → Command → Answer
-answer_at h s moment c = answer_of (request_of c) (Some h.public) (step h.ttl moment s c).reply
+answer_at h s moment c = answer_of (request_of c) (Some h.public) (step (settings_of h) moment s c).reply
 
 unfoldable pub state_behind : Header → State → ℕ → Command → State
-state_behind h s moment c = (step h.ttl moment s c).after
+state_behind h s moment c = (step (settings_of h) moment s c).after
 
 -- The state behind an entry whose message is this command, or is refused so; none where the entry does not account for
 -- its answer.

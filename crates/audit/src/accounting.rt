@@ -3,7 +3,7 @@ ghost use Rattle.std.specs.Prelude.{◌≡◌, ◌==◌, ◌&&◌, ◌||◌, ◌
 ghost use Rattle.std.specs.Option.{option_copied};
 ghost use Rattle.std.specs.Str.{bytes_eq};
 ghost use Rattle.auction_core.specs.Draft.{found_of, is_valid_command};
-ghost use Rattle.audit.specs.Accounts.{LeadsTo, account as accounted, passes, request_of, tells, tells_failure};
+ghost use Rattle.audit.specs.Accounts.{LeadsTo, account as accounted, passes, request_of, settings_of, tells, tells_failure};
 ghost use Rattle.http_wire.specs.Answers.{memory_answer};
 ghost use Rattle.plain_exchange.specs.Step.{step};
 ghost use Rattle.rtb_response.specs.Replies.{answer_of};
@@ -28,9 +28,9 @@ pub fn account(
     header: &Header,
     entry: &Entry,
 ) -> Result<bool, AllocError>
-    requires ttl { core.old.ttl ≡ header.now.ttl }
+    requires settings { core.old.settings ≡ settings_of header.now }
     ensures leads { IfOk result (λ accounts. LeadsTo header.now core.old.state entry.now (if accounts then Some core.new.state else None)) }
-    ensures ttl { core.new.ttl ≡ core.old.ttl }
+    ensures settings { core.new.settings ≡ core.old.settings }
 {
     if tells_memory(entry) {
         return Ok(true);
@@ -61,9 +61,9 @@ fn account_command(
     command: &Command,
 ) -> Result<bool, AllocError>
     requires valid { IsTrue (is_valid_command command.now) }
-    requires ttl { core.old.ttl ≡ header.now.ttl }
+    requires settings { core.old.settings ≡ settings_of header.now }
     ensures leads { IfOk result (λ accounts. accounted header.now core.old.state entry.now (Ok command.now) ≡ (if accounts then Some core.new.state else None)) }
-    ensures ttl { core.new.ttl ≡ core.old.ttl }
+    ensures settings { core.new.settings ≡ core.old.settings }
 {
     let found = find_for(alloc, core, command)?;
     let accounts = account_found(alloc, core, header, entry, command, found.as_slice());
@@ -84,9 +84,9 @@ pub fn account_found(
 ) -> Result<bool, AllocError>
     requires valid { IsTrue (is_valid_command command.now) }
     requires found { found.now ≡ found_of core.old.state command.now }
-    requires ttl { core.old.ttl ≡ header.now.ttl }
+    requires settings { core.old.settings ≡ settings_of header.now }
     ensures leads { IfOk result (λ accounts. accounted header.now core.old.state entry.now (Ok command.now) ≡ (if accounts then Some core.new.state else None)) }
-    ensures ttl { core.new.ttl ≡ core.old.ttl }
+    ensures settings { core.new.settings ≡ core.old.settings }
 {
     let reply = carry_out(alloc, core, command, found, entry.moment)?;
     let accounts = tells_so(alloc, header, entry, command, &reply);
@@ -104,9 +104,9 @@ fn carry_out(
 ) -> Result<Reply, AllocError>
     requires valid { IsTrue (is_valid_command command.now) }
     requires found { found.now ≡ found_of core.old.state command.now }
-    ensures reply { IfOk result (λ r. r ≡ (step core.old.ttl moment core.old.state command.now).reply) }
-    ensures state { OnOk result (core.new.state ≡ (step core.old.ttl moment core.old.state command.now).after) }
-    ensures ttl { core.new.ttl ≡ core.old.ttl }
+    ensures reply { IfOk result (λ r. r ≡ (step core.old.settings moment core.old.state command.now).reply) }
+    ensures state { OnOk result (core.new.state ≡ (step core.old.settings moment core.old.state command.now).after) }
+    ensures settings { core.new.settings ≡ core.old.settings }
 {
     if core.table().edits() >= MOST_EDITS {
         return Err(AllocError);

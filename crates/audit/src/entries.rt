@@ -1,5 +1,6 @@
 //! The entries of a trace, one after the other.
 ghost use Rattle.std.specs.Prelude.{◌≡◌, ◌≢◌, ◌+◌, ◌<◌, ◌≤◌, ◌^◌, ℕ, List, None, Ok, Err, IfOk, Option, Some, if◌then◌else◌, length};
+ghost use Rattle.audit.specs.Accounts.{settings_of};
 ghost use Rattle.audit.specs.Standing.{Goes, IsBefore, IsStanding, Said};
 ghost use Rattle.plain_exchange.specs.State.{State};
 ghost use Rattle.rtb_base.specs.Faults.{RisesOnlyWhere};
@@ -49,7 +50,7 @@ impl Audit {
         alloc: Global,
         source: &mut S,
     ) -> Result<Verdict, AuditFault>
-        requires ttl { self.old.core.ttl ≡ self.old.header.ttl }
+        requires settings { self.old.core.settings ≡ settings_of self.old.header }
         requires few { self.old.entries ≤ 2 ^ 32 }
         requires passed { self.old.passed ≤ self.old.entries }
         ensures says { (s : State) (left : Option (List ℕ)) → IsStanding s left (S.left source.old) self.old → Said s left (S.left source.new) result }
@@ -69,11 +70,11 @@ impl Audit {
         alloc: Global,
         source: &mut S,
     ) -> Result<Option<Verdict>, AuditFault>
-        requires ttl { self.old.core.ttl ≡ self.old.header.ttl }
+        requires settings { self.old.core.settings ≡ settings_of self.old.header }
         requires few { self.old.entries < 2 ^ 32 }
         requires passed { self.old.passed ≤ self.old.entries }
         ensures counted { result ≡ Ok None → self.new.entries ≡ self.old.entries + 1 }
-        ensures ttl { self.new.core.ttl ≡ self.new.header.ttl }
+        ensures settings { self.new.core.settings ≡ settings_of self.new.header }
         ensures passed { self.new.passed ≤ self.new.entries }
         ensures says { (s : State) (left : Option (List ℕ)) → IsStanding s left (S.left source.old) self.old → Goes s left (S.left source.new) self.new result }
         ensures cause { RisesOnlyWhere (result ≡ Err AuditFault.SourceFailed) (S.faults source.old) (S.faults source.new) }
@@ -96,13 +97,13 @@ impl Audit {
         entry: &Entry,
         size: usize,
     ) -> Result<Option<Verdict>, AuditFault>
-        requires ttl { self.old.core.ttl ≡ self.old.header.ttl }
+        requires settings { self.old.core.settings ≡ settings_of self.old.header }
         requires few { self.old.entries < 2 ^ 32 }
         requires passed { self.old.passed ≤ self.old.entries }
         requires entry { IsEntry entry.now }
         requires size { size ≡ length (entry_bytes entry.now) }
         ensures counted { result ≡ Ok None → self.new.entries ≡ self.old.entries + 1 }
-        ensures ttl { self.new.core.ttl ≡ self.new.header.ttl }
+        ensures settings { self.new.core.settings ≡ settings_of self.new.header }
         ensures passed { self.new.passed ≤ self.new.entries }
         ensures no_source { result ≢ Err AuditFault.SourceFailed }
         ensures says { (s : State) (left left' : Option (List ℕ)) → IsBefore s left left' entry.now self.old → Goes s left left' self.new result }

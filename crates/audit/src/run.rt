@@ -21,6 +21,9 @@ use rtb_num::Source;
 use std::alloc::Global;
 use trace::{Header, Headers};
 
+// How many sales the exchange of a trace had in its list at most.
+const MOST_SALES: u64 = 4_194_304;
+
 /// Reads the journal on the disk and then the trace, and says whether the trace accounts for itself from the journal's
 /// state on.
 ///
@@ -61,7 +64,7 @@ fn read_from<D: Disk>(alloc: Global, reading: Reading<D>) -> (D, Result<Core, Jo
     ensures cause { HasNotFailed reading → RisesOnlyWhere (result.1 ≡ Err disk_failed) (faults_read reading) (D.faults result.0) }
 {
     let mut reading = reading;
-    let read = replay(alloc, &mut reading, 1);
+    let read = replay(alloc, &mut reading, 1, MOST_SALES);
     (reading.into_disk(), read)
 }
 
@@ -125,7 +128,7 @@ fn judge_entries<I: Source>(
     ensures cause { RisesOnlyWhere (result ≡ Err AuditFault.SourceFailed) (I.faults source.old) (I.faults source.new) }
 {
     let mut core = core;
-    core.hold_for(header.ttl);
+    core.hold_for(header.ttl, MOST_SALES);
     let mut audit = Audit::new(core, header, size as u64, input);
     let said = audit.run(alloc, source);
     drop(audit);

@@ -13,7 +13,7 @@ use Rattle.budget_book.specs.Book.{AreKnown}
 use Rattle.budget_book.specs.Dues.{IsDueOf, AreDues, due_cmp}
 use Rattle.budget_book.specs.Expiry.{IsExpiry}
 use Rattle.budget_book.specs.Sales.{is_held, is_due, in_state}
-use Rattle.budget_book.specs.Users.{pair_of, pairs_of}
+use Rattle.budget_book.specs.Users.{sale_place, places_of}
 use Rattle.budget_book.proofs.Waiting.{dues_moved, dues_popped, expired_moved, due_count_moved, sale_in, sale_forgotten}
 
 pub held_state : (st : SaleState) → is_held st ≡ true → st ≡ Held
@@ -23,23 +23,23 @@ held_state Lost h = absurd (false≢true h)
 held_state Expired h = absurd (false≢true h)
 
 pub expiry_none : (m : ℕ) (rows : List SaleRow) → IsExpiry m rows rows 0
-expiry_none m rows = record { same = refl; counted = omega arith; pairs = refl; many = refl; known = λ n h. h }
+expiry_none m rows = record { same = refl; counted = omega arith; places = refl; many = refl; known = λ n h. h }
 
 pub expiry_then : (m : ℕ) (a b c : List SaleRow) (n k : ℕ) → IsExpiry m a b n → IsExpiry m b c k → IsExpiry m a c (n + k)
 expiry_then m a b c n k p q = record {
   same = q.same ∙ p.same;
   counted = omega (arith, p.counted, q.counted);
-  pairs = q.pairs ∙ p.pairs;
+  places = q.places ∙ p.places;
   many = q.many ∙ p.many;
   known = λ j h. q.known j (p.known j h);
 }
 
--- a change of states alone keeps the pairs
-pub same_pairs : (rows : List SaleRow) (i : ℕ) (x : SaleRow) (to : SaleState) → i < length rows → get_or rows i x ≡ x → pairs_of (set rows i (in_state to x)) ≡ pairs_of rows
-same_pairs rows i x to l at =
-    map-set pair_of rows i (in_state to x)
-    ∙ ap (set (pairs_of rows) i) (ap pair_of (sym at) ∙ sym (get_or-map pair_of rows i x (pair_of x) l))
-    ∙ set-get_or (pairs_of rows) i (pair_of x)
+-- a change of states alone keeps the places
+pub same_places : (rows : List SaleRow) (i : ℕ) (x : SaleRow) (to : SaleState) → i < length rows → get_or rows i x ≡ x → places_of (set rows i (in_state to x)) ≡ places_of rows
+same_places rows i x to l at =
+    map-set sale_place rows i (in_state to x)
+    ∙ ap (set (places_of rows) i) (ap sale_place (sym at) ∙ sym (get_or-map sale_place rows i x (sale_place x) l))
+    ∙ set-get_or (places_of rows) i (sale_place x)
 
 pub same_known : (n : ℕ) (rows : List SaleRow) (i : ℕ) (x : SaleRow) (to : SaleState) → i < length rows → get_or rows i x ≡ x → AreKnown n rows → AreKnown n (set rows i (in_state to x))
 same_known n rows i x to l at h k d w =
@@ -60,7 +60,7 @@ pub expiry_one : (m : ℕ) (rows : List SaleRow) (i : ℕ) (x : SaleRow) → i <
 expiry_one m rows i x l at due = record {
   same = expired_moved m rows i x l at due;
   counted = omega (arith, due_count_moved m rows i x l at due);
-  pairs = same_pairs rows i x Expired l at;
+  places = same_places rows i x Expired l at;
   many = length-set rows i (in_state Expired x);
   known = λ n h. same_known n rows i x Expired l at h;
 }

@@ -12,9 +12,9 @@ use Rattle.budget_book.specs.declared.sales.SaleState.{SaleState}
 use Rattle.budget_book.specs.Accounts.{AreAccounts, IsAccount, fresh, with_budget}
 use Rattle.budget_book.specs.Book.{AreKnown, Funds, IsBook, forgotten_of, funds_of, funds_of_all}
 use Rattle.budget_book.specs.Dues.{AreDues, weight_at}
-use Rattle.budget_book.specs.LastSales.{Lists, number_of}
+use Rattle.budget_book.specs.LastSales.{last_at}
 use Rattle.budget_book.specs.Sales.{gone_count, is_billed, is_expired, is_held, is_lost, none_gone}
-use Rattle.budget_book.specs.Users.{AreChains, pairs_of}
+use Rattle.budget_book.specs.Users.{AreChains, places_of}
 use Rattle.budget_book.proofs.Moving.{share}
 use Rattle.budget_book.proofs.Standing.{many_campaigns}
 use Rattle.budget_book.proofs.Waiting.{sale_forgotten, sum_none_at, weight_forgotten}
@@ -54,9 +54,9 @@ forgotten_joined : (accounts : List Account) (a : Account) → forgotten_of (fun
 forgotten_joined accounts a = ap forgotten_of (map-append funds_of accounts (a ∷ [])) ∙ sum_by_push (λ (p : Funds). gone_count p.gone) (funds_of_all accounts) (funds_of a)
 
 -- one more campaign, of which so much is gone
-pub book_joined : (f : ℕ) (accounts : List Account) (rows : List SaleRow) (links : List ℕ) (dues : List Due) (lasts : Lists) (b : ℕ) (g : Gone)
+pub book_joined : (f : ℕ) (accounts : List Account) (rows : List SaleRow) (links : List ℕ) (dues : List Due) (lasts : List ℕ) (b : ℕ) (g : Gone)
     → IsBook f accounts rows links dues lasts → g.spent ≤ b → b ≤ 10 ^ 15 → f + gone_count g ≤ 2 ^ 62
-    → AreDues (f + gone_count g) rows dues → AreChains (f + gone_count g) (pairs_of rows) links lasts
+    → AreDues (f + gone_count g) rows dues → AreChains (f + gone_count g) (places_of rows) links lasts
     → IsBook (f + gone_count g) (accounts ++ fresh b g ∷ []) rows links dues lasts
 book_joined f accounts rows links dues lasts b g h low high few awaited chains = record {
   few = h.few;
@@ -69,13 +69,13 @@ book_joined f accounts rows links dues lasts b g h low high few awaited chains =
 }
 
 -- a new campaign
-pub book_new_campaign : (f : ℕ) (accounts : List Account) (rows : List SaleRow) (links : List ℕ) (dues : List Due) (lasts : Lists) (b : ℕ)
+pub book_new_campaign : (f : ℕ) (accounts : List Account) (rows : List SaleRow) (links : List ℕ) (dues : List Due) (lasts : List ℕ) (b : ℕ)
     → IsBook f accounts rows links dues lasts → b ≤ 10 ^ 15 → IsBook f (accounts ++ fresh b none_gone ∷ []) rows links dues lasts
 book_new_campaign f accounts rows links dues lasts b h high =
     let e : f + gone_count none_gone ≡ f = omega arith in
     subst (λ n. IsBook n (accounts ++ fresh b none_gone ∷ []) rows links dues lasts) e
     (book_joined f accounts rows links dues lasts b none_gone h (omega arith) high (omega (arith, h.few_forgotten))
-    (subst (λ n. AreDues n rows dues) (sym e) h.awaited) (subst (λ n. AreChains n (pairs_of rows) links lasts) (sym e) h.chains))
+    (subst (λ n. AreDues n rows dues) (sym e) h.awaited) (subst (λ n. AreChains n (places_of rows) links lasts) (sym e) h.chains))
 
 no_sales_forgotten : (f n : ℕ) (dues : List Due) → AreDues f [] dues → AreDues (f + n) [] dues
 no_sales_forgotten f n dues h = record {
@@ -89,20 +89,20 @@ no_sales_forgotten f n dues h = record {
   each_held = λ w. sum_none_at (λ (e : Due). weight_at w (f + n) [] e.number) dues (λ k d l. let (some, few, is) = h.of_sales k d l in weight_forgotten w (f + n) [] (get_or dues k d).number (omega (arith, few)));
 }
 
-no_sales_chained : (f n : ℕ) (links : List ℕ) (lasts : Lists) → AreChains f [] links lasts → AreChains (f + n) [] links lasts
+no_sales_chained : (f n : ℕ) (links : List ℕ) (lasts : List ℕ) → AreChains f [] links lasts → AreChains (f + n) [] links lasts
 no_sales_chained f n links lasts h = record {
   linked = h.linked;
   each_link = λ k p l is. absurd (omega (arith, l));
-  each_last = λ p. let was : number_of p lasts - f ≡ 0 = h.each_last p in omega (arith, was);
+  each_last = λ p. let was : last_at p lasts - f ≡ 0 = h.each_last p in omega (arith, was);
 }
 
 -- a campaign of whose sales so much is gone, before there is any sale
-pub book_kept : (f : ℕ) (accounts : List Account) (rows : List SaleRow) (links : List ℕ) (dues : List Due) (lasts : Lists) (b : ℕ) (g : Gone)
+pub book_kept : (f : ℕ) (accounts : List Account) (rows : List SaleRow) (links : List ℕ) (dues : List Due) (lasts : List ℕ) (b : ℕ) (g : Gone)
     → IsBook f accounts rows links dues lasts → rows ≡ [] → g.spent ≤ b → b ≤ 10 ^ 15 → f + gone_count g ≤ 2 ^ 62
     → IsBook (f + gone_count g) (accounts ++ fresh b g ∷ []) rows links dues lasts
 book_kept f accounts rows links dues lasts b g h none low high few =
     let dues_stay = subst (λ rs. AreDues (f + gone_count g) rs dues) (sym none) (no_sales_forgotten f (gone_count g) dues (subst (λ rs. AreDues f rs dues) none h.awaited)) in
-    let chains_stay = subst (λ rs. AreChains (f + gone_count g) (pairs_of rs) links lasts) (sym none) (no_sales_chained f (gone_count g) links lasts (subst (λ rs. AreChains f (pairs_of rs) links lasts) none h.chains)) in
+    let chains_stay = subst (λ rs. AreChains (f + gone_count g) (places_of rs) links lasts) (sym none) (no_sales_chained f (gone_count g) links lasts (subst (λ rs. AreChains f (places_of rs) links lasts) none h.chains)) in
     book_joined f accounts rows links dues lasts b g h low high few dues_stay chains_stay
 
 -- ---- another budget
@@ -127,7 +127,7 @@ budget_forgotten accounts k b d l =
     let moved = sum_by-set (λ (p : Funds). gone_count p.gone) (funds_of_all accounts) k (funds_of a2) (funds_of d) (omega (arith, l, many_campaigns accounts)) in
     omega (arith, new, was, moved)
 
-pub book_budget : (f : ℕ) (accounts : List Account) (rows : List SaleRow) (links : List ℕ) (dues : List Due) (lasts : Lists) (k b : ℕ) (d : Account)
+pub book_budget : (f : ℕ) (accounts : List Account) (rows : List SaleRow) (links : List ℕ) (dues : List Due) (lasts : List ℕ) (k b : ℕ) (d : Account)
     → IsBook f accounts rows links dues lasts → k < length accounts → (get_or accounts k d).reserved + (get_or accounts k d).spent ≤ b → b ≤ 10 ^ 15
     → IsBook f (set accounts k (with_budget b (get_or accounts k d))) rows links dues lasts
 book_budget f accounts rows links dues lasts k b d h there low high =

@@ -5,8 +5,6 @@ pub mod Joining
 pub mod Looking
 pub mod Moving
 pub mod Oldest
-pub mod Ordered
-pub mod Placed
-pub mod Spread
+pub mod Settled
 pub mod Standing
 pub mod Waiting

@@ -230,7 +230,7 @@ gone_few_at accounts k d l h =
     let same : get_or (funds_of_all accounts) k (funds_of d) ≡ funds_of (get_or accounts k d) = get_or-map funds_of accounts k d (funds_of d) l in
     subst (λ (p : Funds). gone_count p.gone ≤ 2 ^ 62) same few
 
-pub counts_fit : (rows : List SaleRow) (accounts : List Account) (k : ℕ) (d : Account) → k < length accounts → length rows ≤ 4194304 → AreAccounts rows accounts → AreGoneFew (funds_of_all accounts)
+pub counts_fit : (rows : List SaleRow) (accounts : List Account) (k : ℕ) (d : Account) → k < length accounts → length rows ≤ 67108864 → AreAccounts rows accounts → AreGoneFew (funds_of_all accounts)
     → ((get_or accounts k d).billed + 1 < 2 ^ 64) × ((get_or accounts k d).lost + 1 < 2 ^ 64) × ((get_or accounts k d).expired + 1 < 2 ^ 64) × ((get_or accounts k d).held + 1 < 2 ^ 64)
 counts_fit rows accounts k d l short h g =
     let few = gone_few_at accounts k d l g in

@@ -14,8 +14,7 @@ use Rattle.budget_book.specs.Book.{AreForgotten, AreKnown, Funds, IsBook, NoneHe
 use Rattle.budget_book.specs.declared.sales.Gone.{Gone}
 use Rattle.budget_book.specs.declared.sales.SaleState.{SaleState}
 use Rattle.budget_book.specs.declared.sales.SaleState.TheVariants.{Held, Billed, Lost, Expired}
-use Rattle.budget_book.specs.LastSales.{Lists}
-use Rattle.budget_book.specs.Users.{AreChains, pair_of, pairs_of}
+use Rattle.budget_book.specs.Users.{AreChains, sale_place, places_of}
 use Rattle.budget_book.proofs.Chained.{chains_dropped}
 use Rattle.budget_book.proofs.Moving.{share, share_is, sum_added}
 use Rattle.budget_book.proofs.Standing.{many_campaigns}
@@ -241,15 +240,15 @@ campaigns_more old accounts rows i k y b e l at number there out is h =
 
 -- ---- the book
 
-dropped_pairs : (d : ℕ) (rows : List SaleRow) → pairs_of (drop d rows) ≡ drop d (pairs_of rows)
-dropped_pairs zero rows = refl
-dropped_pairs (suc d) [] = refl
-dropped_pairs (suc d) (s ∷ rows) = dropped_pairs d rows
+dropped_places : (d : ℕ) (rows : List SaleRow) → places_of (drop d rows) ≡ drop d (places_of rows)
+dropped_places zero rows = refl
+dropped_places (suc d) [] = refl
+dropped_places (suc d) (s ∷ rows) = dropped_places d rows
 
 known_dropped : (n d : ℕ) (rows : List SaleRow) → AreKnown n rows → AreKnown n (drop d rows)
 known_dropped n d rows h k e w = subst (λ (s : SaleRow). (0 < s.campaign) × (s.campaign ≤ n)) (sym (get_or-drop d rows k e)) (h (d + k) e (omega (arith, w, length-drop d rows)))
 
-pub book_forgotten : (f d : ℕ) (accounts accounts2 : List Account) (rows : List SaleRow) (links : List ℕ) (dues : List Due) (lasts : Lists) (x : SaleRow)
+pub book_forgotten : (f d : ℕ) (accounts accounts2 : List Account) (rows : List SaleRow) (links : List ℕ) (dues : List Due) (lasts : List ℕ) (x : SaleRow)
     → IsBook f accounts rows links dues lasts → d ≤ length rows → f + d ≤ 2 ^ 62 → NoneHeld d rows → AreAccounts (drop d rows) accounts2
     → forgotten_of (funds_of_all accounts2) ≡ forgotten_of (funds_of_all accounts) + d → AreForgotten (take d rows) (funds_of_all accounts) (funds_of_all accounts2)
     → IsBook (f + d) accounts2 (drop d rows) (drop d links) dues lasts
@@ -261,7 +260,7 @@ book_forgotten f d accounts accounts2 rows links dues lasts x h short few none s
       known = subst (λ n. AreKnown n (drop d rows)) (sym many) (known_dropped (length accounts) d rows h.known);
       summed = summed;
       awaited = dues_forgotten f d rows dues x short none h.awaited;
-      chains = subst (λ pairs. AreChains (f + d) pairs (drop d links) lasts) (sym (dropped_pairs d rows)) (chains_dropped f d (pairs_of rows) links lasts (omega (arith, short, length-map rows pair_of)) h.chains);
+      chains = subst (λ pairs. AreChains (f + d) pairs (drop d links) lasts) (sym (dropped_places d rows)) (chains_dropped f d (places_of rows) links lasts (omega (arith, short, length-map rows sale_place)) h.chains);
     }
 
 -- the campaigns as one list

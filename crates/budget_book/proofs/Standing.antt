@@ -11,7 +11,7 @@ use Rattle.budget_book.specs.declared.sales.SaleState.{SaleState}
 use Rattle.budget_book.specs.declared.sales.SaleState.TheVariants.{Held, Billed, Lost, Expired}
 use Rattle.budget_book.specs.Sales.{committed_of, totals_of, sale_at, sale_fault, settled_in, state_in, gone_count, in_state, is_billed, is_billed_of, is_held, is_held_of, none_gone, prices}
 use Rattle.budget_book.proofs.Chained.{chains_added, chains_plain}
-use Rattle.budget_book.proofs.Expiring.{same_pairs, same_known}
+use Rattle.budget_book.proofs.Expiring.{same_places, same_known}
 use Rattle.budget_book.proofs.Moving.{all_added, same_campaigns, with_sale_funds}
 use Rattle.budget_book.proofs.Waiting.{dues_moved, pick}
 use Rattle.budget_book.specs.declared.account.Account.{Account}
@@ -21,8 +21,8 @@ use Rattle.budget_book.specs.Accounts.{AreAccounts, IsAccount, charge, fresh, wi
 use Rattle.budget_book.specs.Book.{IsBook, AreGoneFew, AreKnown, Funds, funds_of_all, funds_of, forgotten_of}
 use Rattle.budget_book.specs.Dues.{AreDues}
 use Rattle.budget_book.specs.Expiry.{IsExpiry}
-use Rattle.budget_book.specs.LastSales.{Lists, Pair, is_pair, number_of}
-use Rattle.budget_book.specs.Users.{AreChains, IsLinked, pair_of, pairs_of}
+use Rattle.budget_book.specs.LastSales.{distance, last_at}
+use Rattle.budget_book.specs.Users.{AreChains, IsLinked, sale_place, places_of}
 
 -- what stands in a vector after all its elements were lent
 pub lent_back : {X : Type 0} (xs ys : List X) (n : ℕ) → length ys ≡ n → take n (ys ++ drop (length ys) xs) ≡ ys
@@ -31,7 +31,7 @@ lent_back xs ys n e = take-append-le n ys (drop (length ys) xs) (omega arith) �
 pub many_campaigns : (accounts : List Account) → length (funds_of_all accounts) ≡ length accounts
 many_campaigns accounts = length-map accounts funds_of
 
-pub book_swept : (m n f : ℕ) (accounts accounts2 : List Account) (rows rows2 : List SaleRow) (links : List ℕ) (dues dues2 : List Due) (lasts : Lists)
+pub book_swept : (m n f : ℕ) (accounts accounts2 : List Account) (rows rows2 : List SaleRow) (links : List ℕ) (dues dues2 : List Due) (lasts : List ℕ)
     → IsBook f accounts rows links dues lasts → IsExpiry m rows rows2 n → AreAccounts rows2 accounts2 → funds_of_all accounts2 ≡ funds_of_all accounts → AreDues f rows2 dues2
     → IsBook f accounts2 rows2 links dues2 lasts
 book_swept m n f accounts accounts2 rows rows2 links dues dues2 lasts b e h same d =
@@ -42,10 +42,10 @@ book_swept m n f accounts accounts2 rows rows2 links dues dues2 lasts b e h same
       known = subst (λ k. AreKnown k rows2) (sym many) (e.known (length accounts) b.known);
       summed = h;
       awaited = d;
-      chains = subst (λ pairs. AreChains f pairs links lasts) (sym e.pairs) b.chains;
+      chains = subst (λ pairs. AreChains f pairs links lasts) (sym e.places) b.chains;
     }
 
-pub book_gone_few : (f : ℕ) (accounts : List Account) (rows : List SaleRow) (links : List ℕ) (dues : List Due) (lasts : Lists) → IsBook f accounts rows links dues lasts → AreGoneFew (funds_of_all accounts)
+pub book_gone_few : (f : ℕ) (accounts : List Account) (rows : List SaleRow) (links : List ℕ) (dues : List Due) (lasts : List ℕ) → IsBook f accounts rows links dues lasts → AreGoneFew (funds_of_all accounts)
 book_gone_few f accounts rows links dues lasts b k d l =
     let one : gone_count (get_or (funds_of_all accounts) k d).gone ≤ forgotten_of (funds_of_all accounts) = get_or-le-sum_by (λ (p : Funds). gone_count p.gone) (funds_of_all accounts) k d l in
     omega (arith, one, b.counted, b.few_forgotten)
@@ -57,28 +57,29 @@ all_pushed P [] y h p (suc k) d w = absurd (omega arith)
 all_pushed P (x ∷ xs) y h p zero d w = h zero d (omega arith)
 all_pushed P (x ∷ xs) y h p (suc k) d w = all_pushed P xs y (λ j e v. h (suc j) e (omega arith)) p k d (omega arith)
 
-chains_linked : (f : ℕ) (rows : List SaleRow) (links : List ℕ) (lasts lasts2 : Lists) (y : SaleRow) (number before : ℕ) → number ≡ f + length rows + 1 → (o : Option Pair) → pair_of y ≡ o → IsLinked lasts lasts2 o number before
-    → AreChains f (pairs_of rows) links lasts → AreChains f (pairs_of (rows ++ y ∷ [])) (links ++ before ∷ []) lasts2
-chains_linked f rows links lasts lasts2 y number before is None group linked h =
-    let all : pairs_of (rows ++ y ∷ []) ≡ pairs_of rows ++ None ∷ [] = map-append pair_of rows (y ∷ []) ∙ ap (λ o. pairs_of rows ++ o ∷ []) group in
+chains_linked : (f : ℕ) (rows : List SaleRow) (links : List ℕ) (lasts lasts2 : List ℕ) (y : SaleRow) (number back : ℕ) → number ≡ f + length rows + 1 → length rows < 67108864 → (o : Option ℕ) → sale_place y ≡ o → IsLinked lasts lasts2 o number back
+    → AreChains f (places_of rows) links lasts → AreChains f (places_of (rows ++ y ∷ [])) (links ++ back ∷ []) lasts2
+chains_linked f rows links lasts lasts2 y number back is few None group linked h =
+    let all : places_of (rows ++ y ∷ []) ≡ places_of rows ++ None ∷ [] = map-append sale_place rows (y ∷ []) ∙ ap (λ o. places_of rows ++ o ∷ []) group in
     let same : lasts2 ≡ lasts = linked in
-    subst (λ pairs. AreChains f pairs (links ++ before ∷ []) lasts2) (sym all)
-    (subst (λ hs. AreChains f (pairs_of rows ++ None ∷ []) (links ++ before ∷ []) hs) (sym same) (chains_plain f (pairs_of rows) links lasts before h))
-chains_linked f rows links lasts lasts2 y number before is (Some g) group (was, new) h =
-    let all : pairs_of (rows ++ y ∷ []) ≡ pairs_of rows ++ Some g ∷ [] = map-append pair_of rows (y ∷ []) ∙ ap (λ o. pairs_of rows ++ o ∷ []) group in
-    let n : number ≡ f + length (pairs_of rows) + 1 = omega (arith, is, length-map rows pair_of) in
-    subst (λ pairs. AreChains f pairs (links ++ before ∷ []) lasts2) (sym all)
-    (chains_added f (pairs_of rows) links lasts lasts2 g before was (λ q. new q ∙ ap (λ k. cond (is_pair q g) k (number_of q lasts)) n) h)
+    subst (λ pairs. AreChains f pairs (links ++ back ∷ []) lasts2) (sym all)
+    (subst (λ hs. AreChains f (places_of rows ++ None ∷ []) (links ++ back ∷ []) hs) (sym same) (chains_plain f (places_of rows) links lasts back h))
+chains_linked f rows links lasts lasts2 y number back is few (Some g) group (was, new) h =
+    let all : places_of (rows ++ y ∷ []) ≡ places_of rows ++ Some g ∷ [] = map-append sale_place rows (y ∷ []) ∙ ap (λ o. places_of rows ++ o ∷ []) group in
+    let n : number ≡ f + length (places_of rows) + 1 = omega (arith, is, length-map rows sale_place) in
+    let far : back ≡ distance (f + length (places_of rows) + 1) (last_at g lasts) = was ∙ ap (λ k. distance k (last_at g lasts)) n in
+    subst (λ pairs. AreChains f pairs (links ++ back ∷ []) lasts2) (sym all)
+    (chains_added f (places_of rows) links lasts lasts2 g back (omega (arith, few, length-map rows sale_place)) far (λ q. new q ∙ ap (λ k. cond (eqb q g) k (last_at q lasts)) n) h)
 
 -- one more sale
-pub book_added : (f : ℕ) (accounts : List Account) (b e : Account) (rows : List SaleRow) (y : SaleRow) (links : List ℕ) (dues dues2 : List Due) (lasts lasts2 : Lists) (before k : ℕ)
-    → IsBook f accounts rows links dues lasts → length rows < 4194304 → y.campaign ≡ k + 1 → k < length accounts
+pub book_added : (f : ℕ) (accounts : List Account) (b e : Account) (rows : List SaleRow) (y : SaleRow) (links : List ℕ) (dues dues2 : List Due) (lasts lasts2 : List ℕ) (back k : ℕ)
+    → IsBook f accounts rows links dues lasts → length rows < 67108864 → y.campaign ≡ k + 1 → k < length accounts
     → (get_or accounts k e).reserved + (get_or accounts k e).spent + charge y.state y.price ≤ (get_or accounts k e).budget
     → b ≡ with_sale y.state y.price (get_or accounts k e)
     → AreDues f (rows ++ y ∷ []) dues2
-    → IsLinked lasts lasts2 (pair_of y) (f + length rows + 1) before
-    → IsBook f (set accounts k b) (rows ++ y ∷ []) (links ++ before ∷ []) dues2 lasts2
-book_added f accounts b e rows y links dues dues2 lasts lasts2 before k h room number there pays is awaited linked =
+    → IsLinked lasts lasts2 (sale_place y) (f + length rows + 1) back
+    → IsBook f (set accounts k b) (rows ++ y ∷ []) (links ++ back ∷ []) dues2 lasts2
+book_added f accounts b e rows y links dues dues2 lasts lasts2 back k h room number there pays is awaited linked =
     let purse : funds_of b ≡ funds_of (get_or accounts k e) = ap funds_of is ∙ with_sale_funds y.state y.price (get_or accounts k e) in
     let campaigns : funds_of_all (set accounts k b) ≡ funds_of_all accounts = same_campaigns accounts k b e there purse in record {
       few = omega (arith, room, length_push rows y);
@@ -88,11 +89,11 @@ book_added f accounts b e rows y links dues dues2 lasts lasts2 before k h room n
           (all_pushed (λ (s : SaleRow). (0 < s.campaign) × (s.campaign ≤ length accounts)) rows y h.known (omega (arith, number), omega (arith, number, there)));
       summed = all_added rows accounts k y b e h.summed number there pays is;
       awaited = awaited;
-      chains = chains_linked f rows links lasts lasts2 y (f + length rows + 1) before refl (pair_of y) refl linked h.chains;
+      chains = chains_linked f rows links lasts lasts2 y (f + length rows + 1) back refl room (sale_place y) refl linked h.chains;
     }
 
 -- a held sale changes to another state, in place
-pub book_settled : (f : ℕ) (accounts accounts2 : List Account) (rows : List SaleRow) (i : ℕ) (x : SaleRow) (to : SaleState) (links : List ℕ) (dues : List Due) (lasts : Lists)
+pub book_settled : (f : ℕ) (accounts accounts2 : List Account) (rows : List SaleRow) (i : ℕ) (x : SaleRow) (to : SaleState) (links : List ℕ) (dues : List Due) (lasts : List ℕ)
     → IsBook f accounts rows links dues lasts → i < length rows → get_or rows i x ≡ x → is_held to ≡ false → AreAccounts (set rows i (in_state to x)) accounts2 → funds_of_all accounts2 ≡ funds_of_all accounts
     → IsBook f accounts2 (set rows i (in_state to x)) links dues lasts
 book_settled f accounts accounts2 rows i x to links dues lasts h l at other sums same =
@@ -103,7 +104,7 @@ book_settled f accounts accounts2 rows i x to links dues lasts h l at other sums
       known = subst (λ k. AreKnown k (set rows i (in_state to x))) (sym many) (same_known (length accounts) rows i x to l at h.known);
       summed = sums;
       awaited = dues_moved f rows dues i (in_state to x) x l other (sym (ap (λ (s : SaleRow). s.due) at)) h.awaited;
-      chains = subst (λ pairs. AreChains f pairs links lasts) (sym (same_pairs rows i x to l at)) h.chains;
+      chains = subst (λ pairs. AreChains f pairs links lasts) (sym (same_places rows i x to l at)) h.chains;
     }
 
 -- ---- sums, as the accounts have them

@@ -1,17 +1,7 @@
--- The number of the last sale to each user, campaign by campaign.
+-- The number of the last sale at each place that hashes of campaigns and users pick.
 -- Only private clauses cite this file.
-use Rattle.std.specs.Prelude.{◌≡◌, ℕ, ◌+◌, ◌*◌, ◌/◌, ◌%◌, ◌^◌, Bool, true, ◌==◌, ◌&&◌, List, [], get_or, fold}
-use Rattle.std.specs.FinMap.Entries.{is_sorted}
-use Rattle.std.specs.Str.{bytes_eq}
-use Rattle.budget_book.specs.Tree.{Key, key_cmp, number_at}
-
--- a campaign and a user
-pub record Pair : Type 0 where
-  pub campaign : ℕ
-  pub user : List ℕ
-
-abbrev pub is_pair : Pair → Pair → Bool
-is_pair p q = (p.campaign == q.campaign) && bytes_eq p.user q.user
+use Rattle.std.specs.Prelude.{◌≡◌, ℕ, ◌+◌, ◌-◌, ◌*◌, ◌/◌, ◌%◌, ◌^◌, List, fold, min}
+use Rattle.std.proofs.Common.{get_or}
 
 -- ---- hashes, in 64 bits
 
@@ -28,33 +18,25 @@ user_hash user = fold with_byte 0 user
 unfoldable pub mixed : ℕ → ℕ → ℕ
 mixed campaign hash = wrapped (wrapped (wrapped (campaign * 14029467366897019727) + hash) * 11400714819323198485)
 
-abbrev pub pair_hash : Pair → ℕ
-pair_hash p = mixed p.campaign (user_hash p.user)
+-- ---- the places, 1,048,576 of them
 
--- ---- the numbers, in 262,144 lists
-
--- in which list a pair of that hash stands, and by which word of its hash
 unfoldable pub place_in : ℕ → ℕ
-place_in hash = hash / 2 ^ 46
+place_in hash = hash / 2 ^ 44
 
-unfoldable pub word_in : ℕ → ℕ
-word_in hash = hash / 2 ^ 30 % 2 ^ 16
+-- the place of a campaign and a user of that hash
+abbrev pub place_by : ℕ → ℕ → ℕ
+place_by campaign hash = place_in (mixed campaign hash)
 
-abbrev pub place_of : Pair → ℕ
-place_of p = place_in (pair_hash p)
+abbrev pub place_of : ℕ → List ℕ → ℕ
+place_of campaign user = place_by campaign (user_hash user)
 
-abbrev pub key_of : Pair → Key
-key_of p = record { word = word_in (pair_hash p); campaign = p.campaign; user = p.user }
+-- the number of the last sale at the place, or 0 where there is none
+abbrev pub last_at : ℕ → List ℕ → ℕ
+last_at place lasts = get_or lasts place 0
 
-abbrev pub Lists : Type 0
-Lists = List (List (Key × ℕ))
+abbrev pub AreNone : List ℕ → Type 0
+AreNone lasts = (place : ℕ) → last_at place lasts ≡ 0
 
--- the number of the last sale of the pair, or 0 where there is none
-abbrev pub number_of : Pair → Lists → ℕ
-number_of p lasts = number_at (key_of p) (get_or lasts (place_of p) [])
-
-abbrev pub AreSorted : Lists → Type 0
-AreSorted lasts = (k : ℕ) → is_sorted key_cmp (get_or lasts k []) ≡ true
-
-abbrev pub AreEmpty : Lists → Type 0
-AreEmpty lasts = (k : ℕ) → get_or lasts k [] ≡ []
+-- how far before a number another one stands, in 32 bits
+abbrev pub distance : ℕ → ℕ → ℕ
+distance number before = min (number - before) 4294967295

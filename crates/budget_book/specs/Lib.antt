@@ -4,5 +4,4 @@ pub mod Dues
 pub mod Expiry
 pub mod LastSales
 pub mod Sales
-pub mod Tree
 pub mod Users

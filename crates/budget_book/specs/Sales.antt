@@ -115,6 +115,18 @@ most_forgotten = 2 ^ 62
 abbrev pub forgettable : ℕ → ℕ → List SaleRow → ℕ
 forgettable keep forgotten sales = min (prefix_len (λ (s : SaleRow). not (is_held s.state)) sales) (min (length sales - keep) (most_forgotten - forgotten))
 
+-- the most that are forgotten at once while others are served
+abbrev pub most_at_once : ℕ
+most_at_once = 16384
+
+-- how many are forgotten at once
+abbrev pub forgettable_at_once : ℕ → ℕ → List SaleRow → ℕ
+forgettable_at_once keep forgotten sales = min (forgettable keep forgotten sales) most_at_once
+
+-- whether the first n are there and none of them is held
+abbrev pub are_settled : ℕ → List SaleRow → Bool
+are_settled n sales = nat_le n (prefix_len (λ (s : SaleRow). not (is_held s.state)) sales)
+
 -- what is gone of a campaign once these sales are forgotten too
 abbrev pub gone_with : ℕ → Gone → List SaleRow → Gone
 gone_with c gone sales = record {

@@ -1,38 +1,35 @@
--- Chains of the sales to a user. Each sale to a user has the number of the last sale before it of the
--- same campaign to the same user.
+-- Chains of the sales to users. Each sale to a user says how far before it the last one stands at the same place of the
+-- hashes of campaigns and users.
 -- Only private clauses cite this file.
-use Rattle.std.specs.Prelude.{◌≡◌, ℕ, zero, suc, ◌-◌, ◌<◌, if◌then◌else◌, List, length, map, Bool, false, Option, Some, None, option_map}
+use Rattle.std.specs.Prelude.{◌≡◌, ℕ, zero, suc, ◌+◌, ◌-◌, ◌==◌, ◌<◌, if◌then◌else◌, List, length, map, Bool, false, Option, Some, None, option_map}
 use Rattle.std.proofs.Common.{get_or}
 use Rattle.budget_book.specs.declared.sales.SaleRow.{SaleRow}
-use Rattle.budget_book.specs.LastSales.{Lists, Pair, is_pair, number_of}
+use Rattle.budget_book.specs.LastSales.{distance, last_at, place_of}
 
-abbrev pub pair_with : ℕ → List ℕ → Pair
-pair_with c user = record { campaign = c; user = user }
+-- the place of a sale, where it has a user
+abbrev pub sale_place : SaleRow → Option ℕ
+sale_place s = option_map (place_of s.campaign) s.user
 
--- the pair of a sale, where it has a user
-abbrev pub pair_of : SaleRow → Option Pair
-pair_of s = option_map (pair_with s.campaign) s.user
+abbrev pub places_of : List SaleRow → List (Option ℕ)
+places_of rows = map sale_place rows
 
-abbrev pub pairs_of : List SaleRow → List (Option Pair)
-pairs_of rows = map pair_of rows
+abbrev pub is_at : ℕ → Option ℕ → Bool
+is_at b None = false
+is_at b (Some q) = q == b
 
-abbrev pub is_with : Pair → Option Pair → Bool
-is_with p None = false
-is_with p (Some q) = is_pair p q
+-- which of the first k sales is the last at the place, counted from 1, or 0 where none is
+abbrev pub last_below : ℕ → List (Option ℕ) → ℕ → ℕ
+last_below b places zero = 0
+last_below b places (suc k) = if is_at b (get_or places k None) then suc k else last_below b places k
 
--- the place, counted from 1, of the last sale of the pair among the first k, or 0 where there is none
-abbrev pub last_below : Pair → List (Option Pair) → ℕ → ℕ
-last_below p pairs zero = 0
-last_below p pairs (suc k) = if is_with p (get_or pairs k None) then suc k else last_below p pairs k
+-- links has for each sale how far before it the last one at its place stands, which may be forgotten or none, and lasts
+-- has for each place the number of the last of all, where one that is forgotten stands for none
+pub record AreChains (forgotten : ℕ) (places : List (Option ℕ)) (links : List ℕ) (lasts : List ℕ) : Type 0 where
+  pub linked : length links ≡ length places
+  pub each_link : (k : ℕ) (b : ℕ) → k < length places → get_or places k None ≡ Some b → k + 1 - get_or links k 0 ≡ last_below b places k
+  pub each_last : (b : ℕ) → last_at b lasts - forgotten ≡ last_below b places (length places)
 
--- links has for each sale, and lasts for all sales, the number of the last sale of a pair before; a
--- number that is forgotten stands for none
-pub record AreChains (forgotten : ℕ) (pairs : List (Option Pair)) (links : List ℕ) (lasts : Lists) : Type 0 where
-  pub linked : length links ≡ length pairs
-  pub each_link : (k : ℕ) (p : Pair) → k < length pairs → get_or pairs k None ≡ Some p → get_or links k 0 - forgotten ≡ last_below p pairs k
-  pub each_last : (p : Pair) → number_of p lasts - forgotten ≡ last_below p pairs (length pairs)
-
--- the sale of that number is the last of its pair, where it has one, and the number before is there
-abbrev pub IsLinked : Lists → Lists → Option Pair → ℕ → ℕ → Type 0
-IsLinked old new None number before = new ≡ old
-IsLinked old new (Some p) number before = (before ≡ number_of p old) × ((q : Pair) → number_of q new ≡ if is_pair q p then number else number_of q old)
+-- the sale of that number is the last at its place, where it has one, and so far before it was the one that was
+abbrev pub IsLinked : List ℕ → List ℕ → Option ℕ → ℕ → ℕ → Type 0
+IsLinked old new None number back = new ≡ old
+IsLinked old new (Some b) number back = (back ≡ distance number (last_at b old)) × ((q : ℕ) → last_at q new ≡ if q == b then number else last_at q old)

@@ -10,27 +10,33 @@ ghost use Rattle.budget_book.specs.Sales.{committed_of, due_count, expired, is_h
 
 use crate::dues::Due;
 use crate::sales::{SaleRow, row_at};
-use std::collections::BinaryHeap;
+use std::collections::{BinaryHeap, VecDeque};
 
 // How many sales would expire.
 pub(crate) fn count_due(
     dues: &BinaryHeap<Due>,
-    rows: &[SaleRow],
+    rows: &VecDeque<SaleRow>,
     forgotten: u64,
     moment: u64,
 ) -> u64
-    requires dues { AreDues forgotten rows.now (heap_items dues.now) }
-    requires few { length rows.now ≤ 4194304 }
-    ensures { result ≡ due_count moment rows.now }
+    requires dues { AreDues forgotten rows.now.items (heap_items dues.now) }
+    requires few { length rows.now.items ≤ 67108864 }
+    ensures { result ≡ due_count moment rows.now.items }
 {
     count_below(dues.as_slice(), 0, rows, forgotten, moment)
 }
 
 // How many sales would expire of the entry at the place and of those below it.
-fn count_below(dues: &[Due], place: usize, rows: &[SaleRow], forgotten: u64, moment: u64) -> u64
-    requires dues { AreDues forgotten rows.now dues.now }
-    requires few { sum_below (entry_weight (due_weight moment) forgotten rows.now) dues.now place ≤ 4194304 }
-    ensures { result ≡ sum_below (entry_weight (due_weight moment) forgotten rows.now) dues.now place }
+fn count_below(
+    dues: &[Due],
+    place: usize,
+    rows: &VecDeque<SaleRow>,
+    forgotten: u64,
+    moment: u64,
+) -> u64
+    requires dues { AreDues forgotten rows.now.items dues.now }
+    requires few { sum_below (entry_weight (due_weight moment) forgotten rows.now.items) dues.now place ≤ 67108864 }
+    ensures { result ≡ sum_below (entry_weight (due_weight moment) forgotten rows.now.items) dues.now place }
 {
     let Some(entry) = due_at(dues, place, moment) else {
         return 0;
@@ -43,14 +49,14 @@ fn count_below(dues: &[Due], place: usize, rows: &[SaleRow], forgotten: u64, mom
 // What would no longer be reserved for the campaign.
 pub(crate) fn release(
     dues: &BinaryHeap<Due>,
-    rows: &[SaleRow],
+    rows: &VecDeque<SaleRow>,
     forgotten: u64,
     campaign: u32,
     moment: u64,
 ) -> u64
-    requires dues { AreDues forgotten rows.now (heap_items dues.now) }
-    requires range { prices (is_held_of campaign) rows.now ≤ 10 ^ 15 }
-    ensures { (gone : Gone) → result + committed_of campaign gone (expired moment rows.now) ≡ committed_of campaign gone rows.now }
+    requires dues { AreDues forgotten rows.now.items (heap_items dues.now) }
+    requires range { prices (is_held_of campaign) rows.now.items ≤ 10 ^ 15 }
+    ensures { (gone : Gone) → result + committed_of campaign gone (expired moment rows.now.items) ≡ committed_of campaign gone rows.now.items }
 {
     release_below(dues.as_slice(), 0, rows, forgotten, campaign, moment)
 }
@@ -59,14 +65,14 @@ pub(crate) fn release(
 fn release_below(
     dues: &[Due],
     place: usize,
-    rows: &[SaleRow],
+    rows: &VecDeque<SaleRow>,
     forgotten: u64,
     campaign: u32,
     moment: u64,
 ) -> u64
-    requires dues { AreDues forgotten rows.now dues.now }
-    requires range { sum_below (entry_weight (release_weight campaign moment) forgotten rows.now) dues.now place ≤ 10 ^ 15 }
-    ensures { result ≡ sum_below (entry_weight (release_weight campaign moment) forgotten rows.now) dues.now place }
+    requires dues { AreDues forgotten rows.now.items dues.now }
+    requires range { sum_below (entry_weight (release_weight campaign moment) forgotten rows.now.items) dues.now place ≤ 10 ^ 15 }
+    ensures { result ≡ sum_below (entry_weight (release_weight campaign moment) forgotten rows.now.items) dues.now place }
 {
     let Some(entry) = due_at(dues, place, moment) else {
         return 0;
@@ -88,8 +94,8 @@ fn due_at(dues: &[Due], place: usize, moment: u64) -> Option<Due>
 }
 
 // One, where the sale of that number is in the list, held, and due by the moment.
-fn count_one(rows: &[SaleRow], forgotten: u64, number: u64, moment: u64) -> u64
-    ensures { result ≡ weight_at (due_weight moment) forgotten rows.now number }
+fn count_one(rows: &VecDeque<SaleRow>, forgotten: u64, number: u64, moment: u64) -> u64
+    ensures { result ≡ weight_at (due_weight moment) forgotten rows.now.items number }
 {
     match row_at(rows, forgotten, number) {
         None => 0,
@@ -99,8 +105,14 @@ fn count_one(rows: &[SaleRow], forgotten: u64, number: u64, moment: u64) -> u64
 
 // The price of the sale of that number, where it is in the list, of the campaign, held, and due by the
 // moment.
-fn release_one(rows: &[SaleRow], forgotten: u64, number: u64, campaign: u32, moment: u64) -> u64
-    ensures { result ≡ weight_at (release_weight campaign moment) forgotten rows.now number }
+fn release_one(
+    rows: &VecDeque<SaleRow>,
+    forgotten: u64,
+    number: u64,
+    campaign: u32,
+    moment: u64,
+) -> u64
+    ensures { result ≡ weight_at (release_weight campaign moment) forgotten rows.now.items number }
 {
     match row_at(rows, forgotten, number) {
         None => 0,

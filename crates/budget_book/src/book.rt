@@ -1,11 +1,11 @@
 //! Budgets and sales: the book, with the room that it keeps for what comes.
-ghost use Rattle.std.specs.Prelude.{◌≡◌, Option, ℕ, ◌+◌, ◌-◌, ◌<◌, ◌≤◌, [], length, map, take, drop, min, OnOk, option_map};
+ghost use Rattle.std.specs.Prelude.{◌≡◌, Option, ℕ, ◌+◌, ◌-◌, ◌<◌, ◌≤◌, ◌^◌, [], length, map, take, drop, min, IsTrue, OnOk, option_map};
 ghost use Rattle.std.specs.List.{enumerate_from};
 ghost use Rattle.std.proofs.Common.{get_or};
 ghost use Rattle.budget_book.specs.declared.sales.SaleRow.{SaleRow};
 ghost use Rattle.budget_book.specs.Accounts.{IsAccount};
-ghost use Rattle.budget_book.specs.Book.{Funds, BookState, IsBook, forgotten_of, funds_of};
-ghost use Rattle.budget_book.specs.Sales.{committed_of, due_count, expired, forgettable, gone_with, sale_at};
+ghost use Rattle.budget_book.specs.Book.{Funds, BookState, IsBook, forgotten_in, forgotten_of, funds_of};
+ghost use Rattle.budget_book.specs.Sales.{are_settled, committed_of, due_count, expired, forgettable, gone_with, sale_at};
 
 use crate::account::Account;
 use crate::appending::reserve_all;
@@ -14,7 +14,7 @@ use crate::forgetting::{add_gone, drop_front, forgettable};
 use crate::last_sales::LastSales;
 use crate::sales::{MOST_SALES, SaleRow, row_at};
 use std::alloc::{AllocError, Global};
-use std::collections::BinaryHeap;
+use std::collections::{BinaryHeap, VecDeque};
 use std::marker::Model;
 
 /// Budgets and sales. Contracts see the campaigns' budgets with what is gone of each, the list of sales,
@@ -23,15 +23,16 @@ use std::marker::Model;
 /// Campaigns and sales are numbered from 1 on, and keep their numbers. Moments are in milliseconds.
 ///
 /// Nobody goes over all sales: an account for each campaign has what its sales add up to, the sales that
-/// are to expire stand in a heap with the one that is due first on top, and the sales of a campaign to a user
-/// are chained, from the last one back.
+/// are to expire stand in a heap with the one that is due first on top, and the sales to users are chained, from the last
+/// one back, by hashes of the campaign and the user.
 #[derive(Drop)]
 pub struct Book {
     pub(crate) forgotten: u64,
     pub(crate) accounts: Vec<Account>,
-    pub(crate) rows: Vec<SaleRow>,
-    // For each sale to a user, the number of the one before it of the same campaign to the same user.
-    pub(crate) links: Vec<u64>,
+    // Sales come behind, and go in front. No other one moves.
+    pub(crate) rows: VecDeque<SaleRow>,
+    // For each sale to a user, how far before it the last one stands at its place of `lasts`.
+    pub(crate) links: VecDeque<u32>,
     pub(crate) dues: BinaryHeap<Due>,
     pub(crate) lasts: LastSales,
 }
@@ -56,8 +57,8 @@ impl Book {
         Book {
             forgotten: 0,
             accounts: Vec::new(alloc),
-            rows: Vec::new(alloc),
-            links: Vec::new(alloc),
+            rows: VecDeque::new(alloc),
+            links: VecDeque::new(alloc),
             dues: BinaryHeap::new(alloc),
             lasts: LastSales::new(alloc),
         }
@@ -86,7 +87,7 @@ impl Book {
     /// How many sales are in the list.
     pub fn sales(&self) -> u64
         ensures value { result ≡ length self.now.sales }
-        ensures few { result ≤ 4194304 }
+        ensures few { result ≤ 67108864 }
     {
         let few = self.rows.len() <= MOST_SALES as usize;
         prove!(few);
@@ -126,10 +127,23 @@ impl Book {
         ensures campaign_room { self.old.campaign_room ≤ self.new.campaign_room }
     {
         let count = forgettable(&self.rows, self.forgotten, keep);
-        add_gone(&mut self.accounts, &self.rows, count);
-        drop_front(&mut self.rows, count);
-        drop_front(&mut self.links, count);
-        self.forgotten += count as u64;
+        self.forget_first(count as u64);
+    }
+
+    /// So many of the oldest sales are forgotten, of which none is held. It takes no memory, and no other sale moves.
+    pub fn forget_first(&mut self, count: u64)
+        requires settled { IsTrue (are_settled count self.old.sales) }
+        requires few { forgotten_of self.old.campaigns + count ≤ 2 ^ 62 }
+        ensures sales { self.new.sales ≡ drop count self.old.sales }
+        ensures campaigns { self.new.campaigns ≡ forgotten_in (take count self.old.sales) self.old.campaigns }
+        ensures sale_room { self.old.sale_room ≤ self.new.sale_room }
+        ensures campaign_room { self.old.campaign_room ≤ self.new.campaign_room }
+    {
+        let first = count as usize;
+        add_gone(&mut self.accounts, &self.rows, first);
+        drop_front(&mut self.rows, first);
+        drop_front(&mut self.links, first);
+        self.forgotten += count;
     }
 
     /// Each campaign has committed at most its budget.

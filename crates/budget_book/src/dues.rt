@@ -13,7 +13,7 @@ use crate::account::Account;
 use crate::sales::{SaleRow, SaleState};
 use crate::settling::settle;
 use std::cmp::Reverse;
-use std::collections::BinaryHeap;
+use std::collections::{BinaryHeap, VecDeque};
 
 // A sale that is to expire. The greater of two is the one that is due first, so a heap has it on top.
 #[derive(Clone, Copy, PartialEq, Eq, PartialOrd, Ord)]
@@ -26,24 +26,25 @@ pub(crate) struct Due {
 // All held sales that are due expire. How many did.
 pub(crate) fn sweep_dues(
     dues: &mut BinaryHeap<Due>,
-    rows: &mut [SaleRow],
+    rows: &mut VecDeque<SaleRow>,
     accounts: &mut [Account],
     forgotten: u64,
     moment: u64,
 ) -> u64
-    requires few { length rows.old ≤ 4194304 }
-    requires known { AreKnown (length accounts.old) rows.old }
-    requires summed { AreAccounts rows.old accounts.old }
+    requires few { length rows.old.items ≤ 67108864 }
+    requires known { AreKnown (length accounts.old) rows.old.items }
+    requires summed { AreAccounts rows.old.items accounts.old }
     requires gone { AreGoneFew (funds_of_all accounts.old) }
-    requires dues { AreDues forgotten rows.old (heap_items dues.old) }
-    ensures expiry { IsExpiry moment rows.old rows.new result }
-    ensures rows { rows.new ≡ expired moment rows.old }
-    ensures count { result ≡ due_count moment rows.old }
-    ensures summed { AreAccounts rows.new accounts.new }
+    requires dues { AreDues forgotten rows.old.items (heap_items dues.old) }
+    ensures expiry { IsExpiry moment rows.old.items rows.new.items result }
+    ensures rows { rows.new.items ≡ expired moment rows.old.items }
+    ensures count { result ≡ due_count moment rows.old.items }
+    ensures summed { AreAccounts rows.new.items accounts.new }
     ensures campaigns { funds_of_all accounts.new ≡ funds_of_all accounts.old }
-    ensures dues { AreDues forgotten rows.new (heap_items dues.new) }
+    ensures dues { AreDues forgotten rows.new.items (heap_items dues.new) }
     ensures capacity { heap_capacity dues.new ≡ heap_capacity dues.old }
     ensures len { heap_len dues.new ≤ heap_len dues.old }
+    ensures row_room { (rows.new.cap ≡ rows.old.cap) × (rows.new.len ≡ rows.old.len) }
 {
     let mut count = 0;
     while let Some(entry) = take_due(dues, moment) {
@@ -70,23 +71,24 @@ fn take_due(dues: &mut BinaryHeap<Due>, moment: u64) -> Option<Due>
 // The sale of the entry, which is due and goes, expires, where it is in the list and held. How many
 // expired.
 fn expire(
-    rows: &mut [SaleRow],
+    rows: &mut VecDeque<SaleRow>,
     accounts: &mut [Account],
     forgotten: u64,
     entry: Due,
     moment: u64,
 ) -> u64
-    requires entry { IsDueOf forgotten rows.old entry }
+    requires entry { IsDueOf forgotten rows.old.items entry }
     requires due { entry.due.0 ≤ moment }
-    requires few { length rows.old ≤ 4194304 }
-    requires known { AreKnown (length accounts.old) rows.old }
-    requires summed { AreAccounts rows.old accounts.old }
+    requires few { length rows.old.items ≤ 67108864 }
+    requires known { AreKnown (length accounts.old) rows.old.items }
+    requires summed { AreAccounts rows.old.items accounts.old }
     requires gone { AreGoneFew (funds_of_all accounts.old) }
-    ensures expiry { IsExpiry moment rows.old rows.new result }
-    ensures summed { AreAccounts rows.new accounts.new }
+    ensures expiry { IsExpiry moment rows.old.items rows.new.items result }
+    ensures summed { AreAccounts rows.new.items accounts.new }
     ensures campaigns { funds_of_all accounts.new ≡ funds_of_all accounts.old }
-    ensures dues { (old dues : List Due) → IsPermutation old (entry ∷ dues) → IsHeap due_cmp dues → AreDues forgotten rows.old old → AreDues forgotten rows.new dues }
+    ensures dues { (old dues : List Due) → IsPermutation old (entry ∷ dues) → IsHeap due_cmp dues → AreDues forgotten rows.old.items old → AreDues forgotten rows.new.items dues }
     ensures one { result ≤ 1 }
+    ensures row_room { (rows.new.cap ≡ rows.old.cap) × (rows.new.len ≡ rows.old.len) }
 {
     if entry.number <= forgotten {
         return 0;

@@ -1,7 +1,6 @@
-//! Hashes of campaigns and users. They spread pairs over the trees; whoever picks users of one hash puts them
-//! into one tree, where they are in order all the same.
+//! Hashes of campaigns and users. They spread the sales over the places of `LastSales`.
 ghost use Rattle.std.specs.Prelude.{◌≡◌, ◌<◌, fold};
-ghost use Rattle.budget_book.specs.LastSales.{mixed, place_in, user_hash, with_byte, word_in};
+ghost use Rattle.budget_book.specs.LastSales.{mixed, place_in, user_hash, with_byte};
 
 // The factor of the hash FNV-1 in 64 bits.
 const BYTE_FACTOR: u64 = 1_099_511_628_211;
@@ -36,19 +35,11 @@ pub(crate) fn mix(campaign: u32, user_hash: u64) -> u64
         .wrapping_mul(GOLDEN)
 }
 
-// In which tree a pair of that hash stands.
+// At which place the last sale of a campaign to a user of that hash is kept.
 #[tactic(auto, unfolding(crate::specs::LastSales::place_in))]
 pub(crate) fn place_in(hash: u64) -> usize
     ensures place { result ≡ place_in hash }
-    ensures few { result < 262144 }
+    ensures few { result < 1048576 }
 {
-    (hash >> 46) as usize
-}
-
-// By which word it stands there.
-#[tactic(auto, unfolding(crate::specs::LastSales::word_in))]
-pub(crate) fn word_in(hash: u64) -> u16
-    ensures { result ≡ word_in hash }
-{
-    ((hash >> 30) % 65_536) as u16
+    (hash >> 44) as usize
 }

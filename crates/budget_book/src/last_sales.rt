@@ -1,33 +1,28 @@
-//! For each user the last sale to it, by the user's hash.
-ghost use Rattle.std.specs.Prelude.{◌≡◌, ◌≤◌, ◌<◌, [], length, map, if◌then◌else◌, OnOk, OnErr};
-ghost use Rattle.budget_book.specs.LastSales.{AreEmpty, Pair, is_pair, number_of};
-ghost use Rattle.budget_book.specs.Tree.{entries};
+//! The last sales to users, by hashes of campaigns and users.
+ghost use Rattle.std.specs.Prelude.{◌≡◌, ◌==◌, ℕ, ◌≤◌, ◌<◌, [], length, if◌then◌else◌, OnOk, OnErr};
+ghost use Rattle.budget_book.specs.LastSales.{AreNone, last_at};
 
-use crate::hash::{hash_user, mix, place_in, word_in};
-use crate::tree::{Tree, number_in, put_in};
-use crate::user_key::Spare;
 use std::alloc::{AllocError, Global};
 use std::marker::Model;
+use std::mem;
 
-const TREES: usize = 262_144;
+const PLACES: usize = 1_048_576;
 
-// The number of the last sale to each user, campaign by campaign. Each pair stands in the tree that its hash
-// picks. There are no trees before there is room for sales.
+// At each place, which the hash of a campaign and a user picks, the number of the last sale, or 0. There are no places
+// before there is room for sales.
 #[derive(Drop)]
 pub(crate) struct LastSales {
-    trees: Vec<Tree>,
+    numbers: Vec<u64>,
 }
 
 impl Model for LastSales {
-    ghost use Rattle.std.specs.Prelude.{◌≡◌, ◌⊎◌, length, map};
-    ghost use Rattle.budget_book.specs.LastSales.{AreSorted, Lists};
-    ghost use Rattle.budget_book.specs.Tree.{entries};
+    ghost use Rattle.std.specs.Prelude.{◌≡◌, ◌⊎◌, length, List, ℕ};
 
-    ghost Value = { Lists };
+    ghost Value = { List ℕ };
 
-    ghost view = { λ l. map entries l.trees.items };
+    ghost view = { λ l. l.numbers.items };
 
-    ghost invariant = { λ l. AreSorted (map entries l.trees.items) × ((length l.trees.items ≡ 0) ⊎ (length l.trees.items ≡ 262144)) };
+    ghost invariant = { λ l. (length l.numbers.items ≡ 0) ⊎ (length l.numbers.items ≡ 1048576) };
 }
 
 impl LastSales {
@@ -35,55 +30,54 @@ impl LastSales {
         ensures { result ≡ [] }
     {
         LastSales {
-            trees: Vec::new(alloc),
+            numbers: Vec::new(alloc),
         }
     }
 
-    // Makes the trees where there are none.
+    // Makes the places where there are none.
     pub fn reserve(&mut self) -> Result<(), AllocError>
-        ensures numbers { (p : Pair) → number_of p self.new ≡ number_of p self.old }
-        ensures trees { OnOk result (length self.new ≡ 262144) }
+        ensures numbers { (b : ℕ) → last_at b self.new ≡ last_at b self.old }
+        ensures places { OnOk result (length self.new ≡ 1048576) }
         ensures stay { length self.old ≤ length self.new }
     {
-        if !self.trees.is_empty() {
+        if !self.numbers.is_empty() {
             return Ok(());
         }
-        plant(&mut self.trees)
+        make_places(&mut self.numbers)
     }
 
-    // The number of the last sale of the campaign to the user, or 0 where there is none.
-    pub fn get(&self, campaign: u32, user: &[u8]) -> u64
-        ensures { result ≡ number_of (record { campaign = campaign; user = user.now }) self.now }
+    // The number of the last sale at the place, or 0 where there is none.
+    pub fn get(&self, place: usize) -> u64
+        ensures { result ≡ last_at place self.now }
     {
-        let hash = mix(campaign, hash_user(user));
-        match self.trees.get(place_in(hash)) {
+        match self.numbers.get(place) {
             None => 0,
-            Some(tree) => number_in(tree, word_in(hash), campaign, user),
+            Some(number) => *number,
         }
     }
 
-    // The pair gets the number. The number that it had, or 0.
-    pub fn put(&mut self, campaign: u32, spare: Spare, number: u64) -> u64
-        requires { 0 < length self.old }
-        ensures was { result ≡ number_of (record { campaign = campaign; user = spare }) self.old }
-        ensures numbers { (p : Pair) → number_of p self.new ≡ (if is_pair p (record { campaign = campaign; user = spare }) then number else number_of p self.old) }
-        ensures trees { length self.new ≡ length self.old }
+    // The place gets the number. The number that it had, or 0.
+    pub fn put(&mut self, place: usize, number: u64) -> u64
+        requires some { 0 < length self.old }
+        requires place { place < 1048576 }
+        ensures was { result ≡ last_at place self.old }
+        ensures numbers { (q : ℕ) → last_at q self.new ≡ (if q == place then number else last_at q self.old) }
+        ensures many { length self.new ≡ length self.old }
     {
-        let place = place_in(spare.hash(campaign));
-        put_in(&mut self.trees[place], spare.into_node(campaign, number))
+        mem::replace(&mut self.numbers[place], number)
     }
 }
 
-// Makes all trees, each of them empty.
-fn plant(trees: &mut Vec<Tree>) -> Result<(), AllocError>
-    requires { trees.old.items ≡ [] }
-    ensures trees { OnOk result (length trees.new.items ≡ 262144) }
-    ensures empty { AreEmpty (map entries trees.new.items) }
-    ensures err { OnErr result (trees.new.items ≡ []) }
+// Makes all places, each of them without a sale.
+fn make_places(numbers: &mut Vec<u64>) -> Result<(), AllocError>
+    requires { numbers.old.items ≡ [] }
+    ensures places { OnOk result (length numbers.new.items ≡ 1048576) }
+    ensures none { AreNone numbers.new.items }
+    ensures err { OnErr result (numbers.new.items ≡ []) }
 {
-    trees.reserve_exact(TREES)?;
-    for _ in 0..TREES {
-        trees.push_reserved(Tree::Empty);
+    numbers.reserve_exact(PLACES)?;
+    for _ in 0..PLACES {
+        numbers.push_reserved(0);
     }
     Ok(())
 }

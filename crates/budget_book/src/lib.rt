@@ -17,10 +17,11 @@ mod reports;
 mod sales;
 mod selling;
 mod settling;
-mod tree;
 mod user_key;
 mod users;
 
 pub use book::Book;
-pub use sales::{BelowCommitted, Gone, MOST_SALES, SaleFault, SaleRow, SaleState, Totals};
+pub use sales::{
+    BelowCommitted, Gone, MOST_FORGOTTEN, MOST_SALES, SaleFault, SaleRow, SaleState, Totals,
+};
 pub use user_key::UserKey;

@@ -5,10 +5,11 @@ ghost use Rattle.budget_book.specs.declared.sales.SaleRow.{SaleRow};
 ghost use Rattle.budget_book.specs.declared.sales.Gone.{Gone};
 ghost use Rattle.budget_book.specs.declared.sales.SaleState.{SaleState};
 ghost use Rattle.budget_book.specs.Book.{Funds, forgotten_of};
-ghost use Rattle.budget_book.specs.Sales.{committed_of, due_count, expired, sale_at, shown_of, state_at, totals_of};
+ghost use Rattle.budget_book.specs.Sales.{are_settled, committed_of, due_count, expired, forgettable_at_once, sale_at, shown_of, state_at, totals_of};
 
 use crate::ahead::{count_due, release};
 use crate::book::Book;
+use crate::forgetting::{are_settled_at, forgettable_at};
 use crate::sales::{Gone, SaleRow, SaleState, Totals, nanos};
 use crate::users::{Ask, count_shown};
 use rtb_num::Nanos;
@@ -63,6 +64,20 @@ impl Book {
         ensures { result ≡ due_count moment self.now.sales }
     {
         count_due(&self.dues, &self.rows, self.forgotten, moment)
+    }
+
+    /// How many sales `forget_first` may take at once after `sweep(moment)`, so that at least `keep` are left.
+    pub fn forgettable_at(&self, keep: u64, moment: u64) -> u64
+        ensures { result ≡ forgettable_at_once keep (forgotten_of self.now.campaigns) (expired moment self.now.sales) }
+    {
+        forgettable_at(&self.rows, self.forgotten, keep, moment)
+    }
+
+    /// Whether so many of the oldest sales are there and none of them would be held after `sweep(moment)`.
+    pub fn are_settled_at(&self, count: u64, moment: u64) -> bool
+        ensures { result ≡ are_settled count (expired moment self.now.sales) }
+    {
+        are_settled_at(&self.rows, count, moment)
     }
 
     /// The state that the sale would have after `sweep(moment)`, or none where the number is not in the

@@ -4,13 +4,17 @@ ghost use Rattle.budget_book.specs.Sales.{is_due, is_held, none_gone, sale_at, s
 
 use rtb_num::{Nanos, Txt};
 use std::alloc::AllocError;
+use std::collections::VecDeque;
 use thiserror::Error;
 
-/// The most sales that are kept in a list at once.
-pub const MOST_SALES: u64 = 4_194_304;
+/// The most sales that a list may have at all. An exchange may be told to sell no more before.
+pub const MOST_SALES: u64 = 67_108_864;
 
-// The most sales that are forgotten.
-pub(crate) const MOST_FORGOTTEN: u64 = 1 << 62;
+/// The most sales that are ever forgotten.
+pub const MOST_FORGOTTEN: u64 = 1 << 62;
+
+// The most sales that are forgotten at once while others are served.
+pub(crate) const MOST_AT_ONCE: u64 = 16_384;
 
 /// What has become of a sale.
 #[derive(Clone, Copy, PartialEq, Eq)]
@@ -65,12 +69,13 @@ pub struct BelowCommitted {
 pub struct SaleRow {
     /// The number of the campaign that it is to.
     pub campaign: u32,
+    // Beside the campaign's number it takes no room of its own.
+    pub state: SaleState,
     pub price: Nanos,
     /// When it was made.
     pub moment: u64,
     /// When it expires, unless it is billed or lost before.
     pub due: u64,
-    pub state: SaleState,
     /// To whom it is shown, where that is known: 1 to 255 bytes.
     pub user: Option<Txt>,
 }
@@ -109,8 +114,8 @@ impl SaleRow {
 }
 
 // The sale of that number, where it is in the list.
-pub(crate) fn row_at(rows: &[SaleRow], forgotten: u64, number: u64) -> Option<&SaleRow>
-    ensures { option_map (λ s. s.now) result ≡ sale_at forgotten rows.now number }
+pub(crate) fn row_at(rows: &VecDeque<SaleRow>, forgotten: u64, number: u64) -> Option<&SaleRow>
+    ensures { option_map (λ s. s.now) result ≡ sale_at forgotten rows.now.items number }
 {
     if number <= forgotten {
         return None;

@@ -2,11 +2,14 @@
 ghost use Rattle.std.specs.Prelude.{◌≡◌, ◌-◌, ◌<◌, ◌≤◌, ◌&&◌, ◌||◌, nat_lt, ◌+◌, ◌*◌, Option, length};
 ghost use Rattle.budget_book.specs.declared.sales.SaleRow.{SaleRow};
 ghost use Rattle.budget_book.specs.Sales.{expired, expired_at, is_billed, is_held, is_shown, is_to, shown_of};
-ghost use Rattle.budget_book.specs.Users.{AreChains, pairs_of, last_below};
+ghost use Rattle.budget_book.specs.LastSales.{place_of};
+ghost use Rattle.budget_book.specs.Users.{AreChains, places_of, last_below};
 
+use crate::hash::{hash_user, mix, place_in};
 use crate::last_sales::LastSales;
 use crate::sales::{SaleRow, SaleState};
 use rtb_num::Txt;
+use std::collections::VecDeque;
 
 /// What is asked of the sales to a user.
 #[derive(Drop)]
@@ -17,30 +20,39 @@ pub(crate) struct Ask<'a> {
     pub moment: u64,
 }
 
-// How many sales count, as they would be after the held ones that are due have expired. It goes along the
-// chain of the campaign and the user, and over no other sale.
+// How many sales count, as they would be after the held ones that are due have expired. It goes along the sales at the
+// place of the campaign and the user, and over no other one.
 pub(crate) fn count_shown(
-    rows: &[SaleRow],
-    links: &[u64],
+    rows: &VecDeque<SaleRow>,
+    links: &VecDeque<u32>,
     lasts: &LastSales,
     forgotten: u64,
     ask: &Ask,
 ) -> u64
-    requires chains { AreChains forgotten (pairs_of rows.now) links.now lasts.now }
-    requires few { length rows.now ≤ 4194304 }
-    ensures { result ≡ shown_of ask.now.campaign ask.now.user.now ask.now.seconds ask.now.moment (expired ask.now.moment rows.now) }
+    requires chains { AreChains forgotten (places_of rows.now.items) links.now.items lasts.now }
+    requires few { length rows.now.items ≤ 67108864 }
+    ensures { result ≡ shown_of ask.now.campaign ask.now.user.now ask.now.seconds ask.now.moment (expired ask.now.moment rows.now.items) }
 {
     let mut count = 0;
-    let mut number = lasts.get(ask.campaign, ask.user);
-    while number > forgotten {
-        let place = (number - forgotten - 1) as usize;
+    let last = lasts.get(ask.place()).saturating_sub(forgotten);
+    // Which sale of the list comes next, counted from 1.
+    let mut nth = last as usize;
+    while nth > 0 {
+        let place = nth - 1;
         count += u64::from(ask.counts(&rows[place]));
-        number = links[place];
+        nth = nth.saturating_sub(links[place] as usize);
     }
     count
 }
 
 impl<'a> Ask<'a> {
+    // The place of the campaign and the user.
+    fn place(&self) -> usize
+        ensures { result ≡ place_of self.now.campaign self.now.user.now }
+    {
+        place_in(mix(self.campaign, hash_user(self.user)))
+    }
+
     // Whether the sale is one that counts.
     fn counts(&self, sale: &SaleRow) -> bool
         ensures { result ≡ is_shown self.now.campaign self.now.user.now self.now.seconds self.now.moment (expired_at self.now.moment sale.now) }

@@ -28,6 +28,7 @@ pub record HoldsOfEach (P : Result Command Answer → Type 0) : Type 0 where
   pub resume : (n : ℕ) → P (Ok (command.Resume n))
   pub bill : (n : ℕ) → P (Ok (command.Bill n))
   pub lose : (n : ℕ) → P (Ok (command.Lose n))
+  pub forget : (keep : ℕ) → P (Ok (command.Forget keep))
 
 at_body : (P : Result Command Answer → Type 0) → HoldsOfEach P → (by : Tree → Result Command Answer) → ((t : Tree) → P (by t)) → (body : List ℕ) (found : Result Command Answer)
     → IsOfBody by body found → P found
@@ -43,6 +44,7 @@ at_route P each (route.Pause n) m body found h = subst P (sym h) (each.pause n)
 at_route P each (route.Resume n) m body found h = subst P (sym h) (each.resume n)
 at_route P each (route.Bill n) m body found h = subst P (sym h) (each.bill n)
 at_route P each (route.Lose n) m body found h = subst P (sym h) (each.lose n)
+at_route P each (route.Forget keep) m body found h = subst P (sym h) (each.forget keep)
 
 where_taken : (P : Result Command Answer → Type 0) → HoldsOfEach P → (taken : Bool) (r : Route) (m : Method) (body : List ℕ) (found : Result Command Answer) → IsWhereTaken taken r m body found → P found
 where_taken P each false r m body found h = subst P (sym h) (each.method r)

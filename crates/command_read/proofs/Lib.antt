@@ -1,4 +1,5 @@
 pub mod Cases
+pub mod Kept
 pub mod Once
 pub mod Readings
 pub mod Refused

@@ -40,6 +40,7 @@ one_route (route.Pause n) m body one a b h k = h ∙ sym k
 one_route (route.Resume n) m body one a b h k = h ∙ sym k
 one_route (route.Bill n) m body one a b h k = h ∙ sym k
 one_route (route.Lose n) m body one a b h k = h ∙ sym k
+one_route (route.Forget keep) m body one a b h k = h ∙ sym k
 
 one_taken : (taken : Bool) (r : Route) (m : Method) (body : List ℕ) → IsOneThing body → (a b : Result Command Answer) → IsWhereTaken taken r m body a → IsWhereTaken taken r m body b → a ≡ b
 one_taken false r m body one a b h k = h ∙ sym k

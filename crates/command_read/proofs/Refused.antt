@@ -46,6 +46,7 @@ of_methods (route.Pause n) = only_post
 of_methods (route.Resume n) = only_post
 of_methods (route.Bill n) = both_methods
 of_methods (route.Lose n) = both_methods
+of_methods (route.Forget keep) = only_post
 
 by_request : (faults : List ReqFault) (r : BidRequest) → Writes (request_by faults r)
 by_request [] r = tt
@@ -69,6 +70,7 @@ each_writes = record {
   resume = λ n. tt;
   bill = λ n. tt;
   lose = λ n. tt;
+  forget = λ keep. tt;
 }
 
 pub refusals_are_writable : (message : Message) (found : Result Command CommandFault) → UnlessMemory (IsCommandOf message) found → IfErr found (IfRefused IsWritable)

@@ -29,6 +29,7 @@ IsFine (Ok (command.Resume n)) = Unit {0}
 IsFine (Ok (command.Report n)) = Unit {0}
 IsFine (Ok (command.Bill n)) = Unit {0}
 IsFine (Ok (command.Lose n)) = Unit {0}
+IsFine (Ok (command.Forget keep)) = Unit {0}
 IsFine (Err a) = Unit {0}
 
 by_request : (t : Tree) (faults : List ReqFault) → request_faults t ≡ faults → IsFine (request_by faults (request_from t))
@@ -54,6 +55,7 @@ each_is_fine = record {
   resume = λ n. tt;
   bill = λ n. tt;
   lose = λ n. tt;
+  forget = λ keep. tt;
 }
 
 pub requests_are_valid : (message : Message) (found : Result Command CommandFault) → UnlessMemory (IsCommandOf message) found

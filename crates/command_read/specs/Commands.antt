@@ -76,6 +76,7 @@ IsOfRoute (route.Pause n) m body found = found ≡ Ok (command.Pause n)
 IsOfRoute (route.Resume n) m body found = found ≡ Ok (command.Resume n)
 IsOfRoute (route.Bill n) m body found = found ≡ Ok (command.Bill n)
 IsOfRoute (route.Lose n) m body found = found ≡ Ok (command.Lose n)
+IsOfRoute (route.Forget keep) m body found = found ≡ Ok (command.Forget keep)
 
 abbrev pub IsWhereTaken : Bool → Route → Method → List ℕ → Result Command Answer → Type 0
 IsWhereTaken false r m body found = found ≡ Err (not_allowed (methods_of r))

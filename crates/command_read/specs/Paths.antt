@@ -4,7 +4,7 @@ use Rattle.std.specs.Prelude.{ℕ, ◌==◌, not, if◌then◌else◌, List, Boo
 use Rattle.std.specs.List.{prefix_len}
 use Rattle.std.specs.Option.{option_or}
 use Rattle.std.specs.Str.{bytes_eq}
-use Rattle.command_read.specs.Numbers.{number_in}
+use Rattle.command_read.specs.Numbers.{number_in, number_up_to}
 use Rattle.command_read.specs.declared.paths.Route.{Route}
 use Rattle.command_read.specs.declared.paths.Route.TheVariants as route
 use Rattle.http_wire.specs.declared.answer.Allow.{Allow}
@@ -21,13 +21,18 @@ path_of target = take (prefix_len is_of_path target) target
 abbrev pub number_behind : List ℕ → List ℕ → Option ℕ
 number_behind front path = if bytes_eq (take (length front) path) front then number_in (drop (length front) path) else None
 
+-- how many sales stay where others are forgotten, behind the front
+abbrev pub keep_behind : List ℕ → List ℕ → Option ℕ
+keep_behind front path = if bytes_eq (take (length front) path) front then number_up_to 67108864 (drop (length front) path) else None
+
 abbrev pub numbered_route : List ℕ → Option Route
 numbered_route path =
     option_or (option_map route.Campaign (number_behind (codes "/campaign/") path))
     (option_or (option_map route.Pause (number_behind (codes "/pause/") path))
     (option_or (option_map route.Resume (number_behind (codes "/resume/") path))
     (option_or (option_map route.Bill (number_behind (codes "/bill/") path))
-    (option_map route.Lose (number_behind (codes "/lose/") path)))))
+    (option_or (option_map route.Lose (number_behind (codes "/lose/") path))
+    (option_map route.Forget (keep_behind (codes "/forget/") path))))))
 
 abbrev pub route_of : List ℕ → Option Route
 route_of path =
@@ -43,3 +48,4 @@ methods_of (route.Pause n) = allow.Post
 methods_of (route.Resume n) = allow.Post
 methods_of (route.Bill n) = allow.GetPost
 methods_of (route.Lose n) = allow.GetPost
+methods_of (route.Forget keep) = allow.Post

@@ -2,7 +2,7 @@
 ghost use Rattle.std.specs.Prelude.{◌≡◌, ◌-◌, ◌^◌, min};
 ghost use Rattle.std.specs.List.{list_all};
 ghost use Rattle.rtb_num.specs.Amounts.{is_digit, number_of};
-ghost use Rattle.command_read.specs.Numbers.{is_positive_decimal, number_in};
+ghost use Rattle.command_read.specs.Numbers.{is_positive_decimal, number_in, number_up_to};
 
 /// The number from 1 to 2^64 - 1 that the text is in decimal, without a zero in front.
 pub(crate) fn number_in(text: &[u8]) -> Option<u64>
@@ -12,6 +12,19 @@ pub(crate) fn number_in(text: &[u8]) -> Option<u64>
         u64::try_from(digits_value(text)).ok()
     } else {
         None
+    }
+}
+
+/// The number from 0 to the most that the text is in decimal, without a needless zero.
+pub(crate) fn number_up_to(most: u64, text: &[u8]) -> Option<u64>
+    ensures { result ≡ number_up_to most text.now }
+{
+    if text == b"0".as_slice() {
+        return Some(0);
+    }
+    match number_in(text) {
+        Some(number) if number <= most => Some(number),
+        _ => None,
     }
 }
 

@@ -1,10 +1,13 @@
 //! What a path stands for.
 ghost use Rattle.std.specs.Prelude.{◌≡◌};
 ghost use Rattle.std.specs.List.{prefix_len};
-ghost use Rattle.command_read.specs.Paths.{is_of_path, methods_of, number_behind, numbered_route, path_of, route_of};
+ghost use Rattle.command_read.specs.Paths.{is_of_path, keep_behind, methods_of, number_behind, numbered_route, path_of, route_of};
 
-use crate::numbers::number_in;
+use crate::numbers::{number_in, number_up_to};
 use http_wire::Allow;
+
+// As many sales as a list may have at all.
+const MOST_SALES: u64 = 67_108_864;
 
 /// What a path stands for. Numbers are of campaigns and of sales.
 #[derive(Clone, Copy)]
@@ -16,6 +19,8 @@ pub(crate) enum Route {
     Resume(u64),
     Bill(u64),
     Lose(u64),
+    /// How many sales stay where others are forgotten.
+    Forget(u64),
 }
 
 impl Route {
@@ -25,6 +30,7 @@ impl Route {
     {
         match self {
             Route::Auction | Route::Campaigns | Route::Pause(_) | Route::Resume(_) => Allow::Post,
+            Route::Forget(_) => Allow::Post,
             Route::Campaign(_) | Route::Bill(_) | Route::Lose(_) => Allow::GetPost,
         }
     }
@@ -75,7 +81,20 @@ fn numbered_route(path: &[u8]) -> Option<Route>
     if let Some(n) = number_behind(b"/lose/", path) {
         return Some(Route::Lose(n));
     }
-    None
+    match keep_behind(b"/forget/", path) {
+        Some(keep) => Some(Route::Forget(keep)),
+        None => None,
+    }
+}
+
+// How many sales stay where others are forgotten, which is all that stands behind the front.
+fn keep_behind(front: &[u8], path: &[u8]) -> Option<u64>
+    ensures { result ≡ keep_behind front.now path.now }
+{
+    match path.strip_prefix(front) {
+        Some(digits) => number_up_to(MOST_SALES, digits),
+        None => None,
+    }
 }
 
 // The number that is all that stands behind the front.

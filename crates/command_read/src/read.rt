@@ -24,8 +24,9 @@ use std::alloc::Global;
 /// nor `POST`, 404 for a path that is not listed, 405 for a method that the path does not take, and 400 for the
 /// first fault of the body.
 ///
-/// A number in a path is from 1 to 2^64 - 1 and has no zero in front. What stands behind the first `?` plays no
-/// part, and neither does the body of a message whose command has none.
+/// A number in a path is from 1 to 2^64 - 1 and has no zero in front; how many sales stay, where others are forgotten, is
+/// from 0 to 67,108,864. What stands behind the first `?` plays no part, and neither does the body of a message whose
+/// command has none.
 ///
 /// `read_command_in` is for who reads one message after the other.
 pub fn read_command(alloc: Global, message: &Message) -> Result<Command, CommandFault>
@@ -107,6 +108,7 @@ fn route_command(
         Route::Resume(n) => Ok(Command::Resume(n)),
         Route::Bill(n) => Ok(Command::Bill(n)),
         Route::Lose(n) => Ok(Command::Lose(n)),
+        Route::Forget(keep) => Ok(Command::Forget(keep)),
     }
 }
 

@@ -7,7 +7,7 @@ use Rattle.auction_core.specs.Core.{CoreState}
 use Rattle.budget_book.specs.declared.sales.SaleRow.{SaleRow}
 use Rattle.budget_book.specs.declared.sales.SaleState.{SaleState}
 use Rattle.budget_book.specs.declared.sales.SaleState.TheVariants as state
-use Rattle.budget_book.specs.Sales.{expired, expired_at, forgettable, in_state, is_held}
+use Rattle.budget_book.specs.Sales.{expired, expired_at, forgettable, in_state, is_held, are_settled, most_forgotten}
 use Rattle.byte_fields.specs.Encodings.{IsOptionOf}
 use Rattle.compaction.specs.Gathering.{HaveUsers, IsWritable}
 use Rattle.effects.specs.Bytes.{HasLengths, IsChange, IsEncodable, IsUser}
@@ -16,7 +16,7 @@ use Rattle.plain_exchange.specs.declared.changes.Change.TheVariants as change
 use Rattle.plain_exchange.specs.declared.changes.Effect.{Effect}
 use Rattle.plain_exchange.specs.declared.changes.SoldItem.{SoldItem}
 use Rattle.plain_exchange.specs.Effects.{kept_campaign, kept_effects, kept_sale, all_applied, applied, campaign_of, can_keep, can_keep_sale, can_pay, change_applied, has_room, is_within_limits, on_sale, sale_by, with_changed, with_items, with_kept, with_kept_sale, with_paused, with_resumed, with_settled}
-use Rattle.plain_exchange.specs.State.{Campaign, State, campaign_at, committed, empty, forget, forgotten, is_any_due, sale_numbered, swept, with_campaign, with_campaigns, with_sale, with_sales}
+use Rattle.plain_exchange.specs.State.{Campaign, State, campaign_at, committed, empty, forget, forgotten, is_any_due, sale_numbered, swept, with_campaign, with_campaigns, with_sale, with_sales, forget_first}
 use Rattle.plain_exchange.specs.Step.{new_campaign, with_live, with_record}
 use Rattle.plain_exchange.proofs.Compacting.{forgotten_kept}
 use Rattle.plain_exchange.proofs.Each.{some_same}
@@ -67,6 +67,10 @@ change_users (change.Resumed n) m s u is h e =
     moved after u (fitted (not c.live) after u k).1 (expired_users m s.sales h))
 change_users (change.Billed n) m s u is h e = settled_users state.Billed n (swept m s) u (expired_users m s.sales h) e
 change_users (change.Lost n) m s u is h e = settled_users state.Lost n (swept m s) u (expired_users m s.sales h) e
+change_users (change.Forgot n) m s u is h e =
+    let t = swept m s in
+    let after = forget_first (n - forgotten t) t in
+    moved after u (fitted (nat_le n most_forgotten && are_settled (n - forgotten t) t.sales) after u e).1 (All-drop HasUser (n - forgotten t) t.sales (expired_users m s.sales h))
 change_users (change.Kept k) m s u is h e =
     let after = with_campaigns s (campaign_of k ∷ []) in
     moved after u (fitted (can_keep s k) after u (chosen (eqb m 0) (with_kept k s) u e).1).1 h

@@ -81,7 +81,7 @@ fn read_from<D: Disk>(alloc: Global, reading: Reading<D>) -> (D, Result<Core, Jo
 {
     let mut reading = reading;
     // No sale is made, so that it is all one how long one would be held.
-    let read = replay(alloc, &mut reading, 0);
+    let read = replay(alloc, &mut reading, 0, 0);
     (reading.into_disk(), read)
 }
 

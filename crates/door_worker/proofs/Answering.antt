@@ -36,6 +36,7 @@ valid_as_read (command.Resume n) h = refl
 valid_as_read (command.Report n) h = refl
 valid_as_read (command.Bill n) h = refl
 valid_as_read (command.Lose n) h = refl
+valid_as_read (command.Forget keep) h = refl
 
 -- ---- a command
 

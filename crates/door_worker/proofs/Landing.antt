@@ -30,6 +30,7 @@ edit_simple (command.Resume n) is = refl
 edit_simple (command.Report n) is = refl
 edit_simple (command.Bill n) is = refl
 edit_simple (command.Lose n) is = refl
+edit_simple (command.Forget keep) is = refl
 
 pub edit_valid : (c : Command) → is_edit c ≡ true → IsTrue (is_valid_command c)
 edit_valid (command.Auction r) is = absurd (cc is)
@@ -40,6 +41,7 @@ edit_valid (command.Resume n) is = refl
 edit_valid (command.Report n) is = refl
 edit_valid (command.Bill n) is = refl
 edit_valid (command.Lose n) is = refl
+edit_valid (command.Forget keep) is = refl
 
 -- ---- one that was carried out
 

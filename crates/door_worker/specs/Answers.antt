@@ -31,6 +31,7 @@ request_of (command.Resume n) = None
 request_of (command.Report n) = None
 request_of (command.Bill n) = None
 request_of (command.Lose n) = None
+request_of (command.Forget keep) = None
 
 -- whether it edits the campaigns
 abbrev pub is_edit : Command → Bool
@@ -42,6 +43,7 @@ is_edit (command.Resume n) = true
 is_edit (command.Report n) = false
 is_edit (command.Bill n) = false
 is_edit (command.Lose n) = false
+is_edit (command.Forget keep) = false
 
 -- ---- one message
 

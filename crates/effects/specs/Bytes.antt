@@ -111,6 +111,7 @@ IsChange (Change.Lost n) = FitsEight n
 IsChange (Change.SoldTo user items) = IsUser user × AreItems items
 IsChange (Change.Kept k) = IsRecord k.facts k.expr × IsGone k.gone
 IsChange (Change.KeptSale row) = IsRow row
+IsChange (Change.Forgot n) = FitsEight n
 
 -- what stands behind the tag
 abbrev pub body_bytes : Change → List ℕ
@@ -125,6 +126,7 @@ body_bytes (Change.Lost n) = eight_bytes n
 body_bytes (Change.SoldTo user items) = text_bytes user ++ items_bytes items
 body_bytes (Change.Kept k) = kept_bytes k
 body_bytes (Change.KeptSale row) = row_bytes row
+body_bytes (Change.Forgot n) = eight_bytes n
 
 abbrev pub change_bytes : Change → List ℕ
 change_bytes c = byte_bytes (number_of (tag_of c)) ++ body_bytes c
@@ -142,6 +144,7 @@ is_kept (Change.Resumed n) = false
 is_kept (Change.Billed n) = false
 is_kept (Change.Lost n) = false
 is_kept (Change.SoldTo user items) = false
+is_kept (Change.Forgot n) = false
 
 -- ---- effects
 
@@ -167,6 +170,7 @@ HasLengths (Change.Lost n) = Unit {0}
 HasLengths (Change.SoldTo user items) = IsUser user × AreSome items
 HasLengths (Change.Kept k) = Unit {0}
 HasLengths (Change.KeptSale row) = IsOptionOf IsUser row.user
+HasLengths (Change.Forgot n) = Unit {0}
 
 -- ---- effects one after another
 

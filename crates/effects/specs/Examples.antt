@@ -1,4 +1,4 @@
--- Three effects and their bytes, written out.
+-- Four effects and their bytes, written out.
 use Rattle.std.specs.Prelude.{ℕ, List, [], ◌∷◌}
 use Rattle.plain_exchange.specs.declared.changes.Change.{Change}
 use Rattle.plain_exchange.specs.declared.changes.Effect.{Effect}
@@ -30,3 +30,10 @@ sale_to_user = record { moment = 1000; change = Change.SoldTo (117 ∷ 49 ∷ []
 
 abbrev pub sale_to_user_bytes : List ℕ
 sale_to_user_bytes = 0 ∷ 0 ∷ 0 ∷ 0 ∷ 0 ∷ 0 ∷ 3 ∷ 232 ∷ 8 ∷ 0 ∷ 0 ∷ 0 ∷ 2 ∷ 117 ∷ 49 ∷ sold_bytes
+
+-- one sale is forgotten in all
+abbrev pub forgot : Effect
+forgot = record { moment = 1000; change = Change.Forgot 1 }
+
+abbrev pub forgot_bytes : List ℕ
+forgot_bytes = 0 ∷ 0 ∷ 0 ∷ 0 ∷ 0 ∷ 0 ∷ 3 ∷ 232 ∷ 13 ∷ 0 ∷ 0 ∷ 0 ∷ 0 ∷ 0 ∷ 0 ∷ 0 ∷ 1 ∷ []

@@ -6,7 +6,7 @@ use Rattle.effects.specs.declared.tag.Tag.{Tag}
 use Rattle.plain_exchange.specs.declared.changes.Change.{Change}
 
 abbrev pub tags : List Tag
-tags = Tag.Swept ∷ Tag.Sold ∷ Tag.Added ∷ Tag.Changed ∷ Tag.Paused ∷ Tag.Resumed ∷ Tag.Billed ∷ Tag.Lost ∷ Tag.SoldTo ∷ Tag.CappedAdded ∷ Tag.CappedChanged ∷ Tag.Kept ∷ Tag.KeptSale ∷ []
+tags = Tag.Swept ∷ Tag.Sold ∷ Tag.Added ∷ Tag.Changed ∷ Tag.Paused ∷ Tag.Resumed ∷ Tag.Billed ∷ Tag.Lost ∷ Tag.SoldTo ∷ Tag.CappedAdded ∷ Tag.CappedChanged ∷ Tag.Kept ∷ Tag.KeptSale ∷ Tag.Forgot ∷ []
 
 abbrev pub number_of : Tag → ℕ
 number_of Tag.Swept = 0
@@ -22,6 +22,7 @@ number_of Tag.CappedAdded = 9
 number_of Tag.CappedChanged = 10
 number_of Tag.Kept = 11
 number_of Tag.KeptSale = 12
+number_of Tag.Forgot = 13
 
 abbrev pub tag_numbered : ℕ → Option Tag
 tag_numbered n = find (λ t. number_of t == n) tags
@@ -43,3 +44,4 @@ tag_of (Change.Lost n) = Tag.Lost
 tag_of (Change.SoldTo user items) = Tag.SoldTo
 tag_of (Change.Kept k) = Tag.Kept
 tag_of (Change.KeptSale row) = Tag.KeptSale
+tag_of (Change.Forgot n) = Tag.Forgot

@@ -197,3 +197,10 @@ pub(crate) fn get_lost(bytes: &[u8], place: usize) -> Option<(Change, usize)>
     let (n, next) = get_eight(bytes, place)?;
     Some((Change::Lost(n), next))
 }
+
+pub(crate) fn get_forgot(bytes: &[u8], place: usize) -> Option<(Change, usize)>
+    ensures { IsReadAt (IsTagged tag_type.Forgot) body_bytes bytes.now place result }
+{
+    let (n, next) = get_eight(bytes, place)?;
+    Some((Change::Forgot(n), next))
+}

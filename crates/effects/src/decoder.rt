@@ -7,8 +7,8 @@ ghost use Rattle.effects.specs.declared.fault.EffectFault.TheVariants.{Memory as
 ghost use Rattle.effects.specs.Bytes.{IsChange, IsDecoded, IsEncodable, body_bytes, change_bytes, effect_bytes, effects_bytes, is_kept};
 
 use crate::changes::{
-    get_added, get_billed, get_capped_added, get_capped_changed, get_changed, get_lost, get_paused,
-    get_resumed, get_sold, get_sold_to,
+    get_added, get_billed, get_capped_added, get_capped_changed, get_changed, get_forgot, get_lost,
+    get_paused, get_resumed, get_sold, get_sold_to,
 };
 use crate::fault::EffectFault;
 use crate::kept::{get_kept, get_kept_sale};
@@ -104,5 +104,6 @@ fn get_body(alloc: Global, tag: Tag, bytes: &[u8], place: usize) -> Found<Change
         Tag::CappedChanged => get_capped_changed(alloc, bytes, place),
         Tag::Kept => get_kept(alloc, bytes, place),
         Tag::KeptSale => get_kept_sale(alloc, bytes, place),
+        Tag::Forgot => Ok(get_forgot(bytes, place)),
     }
 }

@@ -57,6 +57,7 @@ fn tag_of(change: &Change) -> Tag
         Change::SoldTo(_, _) => Tag::SoldTo,
         Change::Kept(_) => Tag::Kept,
         Change::KeptSale(_) => Tag::KeptSale,
+        Change::Forgot(_) => Tag::Forgot,
     }
 }
 
@@ -82,7 +83,7 @@ fn put_body(change: &Change, out: &mut Txt) -> Result<(), AllocError>
         Change::Added(facts, expr) => put_record(facts, expr, out),
         Change::Changed(n, facts, expr) => put_changed(*n, facts, expr, out),
         Change::Paused(n) | Change::Resumed(n) => put_four(*n, out),
-        Change::Billed(n) | Change::Lost(n) => put_eight(*n, out),
+        Change::Billed(n) | Change::Lost(n) | Change::Forgot(n) => put_eight(*n, out),
         Change::SoldTo(user, items) => put_sold_to(user, items.as_slice(), out),
         Change::Kept(kept) => put_kept(kept, out),
         Change::KeptSale(row) => put_row(row, out),

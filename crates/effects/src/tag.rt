@@ -24,9 +24,10 @@ pub(crate) enum Tag {
     CappedChanged = 10,
     Kept = 11,
     KeptSale = 12,
+    Forgot = 13,
 }
 
-const TAGS: [Tag; 13] = [
+const TAGS: [Tag; 14] = [
     Tag::Swept,
     Tag::Sold,
     Tag::Added,
@@ -40,6 +41,7 @@ const TAGS: [Tag; 13] = [
     Tag::CappedChanged,
     Tag::Kept,
     Tag::KeptSale,
+    Tag::Forgot,
 ];
 
 impl Tag {

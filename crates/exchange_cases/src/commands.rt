@@ -14,10 +14,10 @@ use std::alloc::{AllocError, Global};
 /// Answers a call of this area, or tells that it is none.
 ///
 /// - `command | METHOD | TARGET | BODY`: the command that the message asks for: `auction REQUEST`, `add SEAT BID`,
-///   `change CAMPAIGN SEAT BID`, `pause N`, `resume N`, `report N`, `bill N` or `lose N`, the bid in micro-dollars;
+///   `change CAMPAIGN SEAT BID`, `pause N`, `resume N`, `report N`, `bill N`, `lose N` or `forget N`, the bid in micro-dollars;
 ///   or the refusal: its status, its methods if it has any, and its body.
 /// - `reply | NAME | NUMBER`: the answer to the reply of that name, with status and body. The number is that of a
-///   campaign or of a sale, and the committed sum in nano-dollars for `below-committed`; other replies have none.
+///   campaign or of a sale, how many sales are left where 1 is forgotten for `trimmed`, and the committed sum in nano-dollars for `below-committed`; other replies have none.
 /// - `report | STATE | AMOUNT`: the answer to the report on campaign 1, `live` or `paused`. Its bid is of so many
 ///   micro-dollars and its budget of 1000 times as many nano-dollars. Half of it was spent and a tenth is reserved,
 ///   in 3 held sales, 2 billed, 1 lost and 4 expired.
@@ -80,6 +80,7 @@ fn put_command(command: &Command, out: &mut Txt) -> Result<(), AllocError> {
         Command::Report(n) => put_number(b"report ", *n, out),
         Command::Bill(n) => put_number(b"bill ", *n, out),
         Command::Lose(n) => put_number(b"lose ", *n, out),
+        Command::Forget(keep) => put_number(b"forget ", *keep, out),
     }
 }
 
@@ -162,6 +163,12 @@ fn reply_of_sale(name: &[u8], sale: u64) -> Option<Reply> {
     }
     if name == b"lost".as_slice() {
         return Some(Reply::Lost { sale });
+    }
+    if name == b"trimmed".as_slice() {
+        return Some(Reply::Trimmed {
+            sales: sale,
+            forgotten: 1,
+        });
     }
     if name == b"no-such-sale".as_slice() {
         return Some(Reply::NoSuchSale);

@@ -7,15 +7,16 @@ use Rattle.plain_exchange.specs.declared.commands.Reply.{Reply}
 use Rattle.plain_exchange.specs.State.{State}
 use Rattle.plain_exchange.specs.Step.{step}
 use Rattle.rtb_types.specs.declared.request.BidRequest.{BidRequest}
-use Rattle.exchange_run.specs.Exchange.{line_for, opening, reply_at_opening, ttl}
+use Rattle.exchange_run.specs.Exchange.{line_for, opening, reply_at_opening, settings}
 use Rattle.exchange_run.specs.Making.{first_reply}
 use Rattle.exchange_run.specs.Words.{Campaign}
+use Rattle.plain_exchange.specs.declared.settings.Settings.{Settings}
 
 -- of an exchange that is opened so
-pub by_opening : {E : Type 0} (held : ℕ) (s : State) (command : Command) (cs : List Campaign) (r : Result Reply E) → held ≡ ttl → s ≡ opening cs
+pub by_opening : {E : Type 0} (held : Settings) (s : State) (command : Command) (cs : List Campaign) (r : Result Reply E) → held ≡ settings → s ≡ opening cs
     → IfOk r (λ x. x ≡ (step held 0 s command).reply) → IfOk r (λ x. x ≡ first_reply cs command)
 unfolding first_reply
-by_opening held s command cs (Ok x) h e is = is ∙ ap (λ (n : ℕ). (step n 0 s command).reply) h ∙ ap (λ (t : State). (step ttl 0 t command).reply) e
+by_opening held s command cs (Ok x) h e is = is ∙ ap (λ (n : Settings). (step n 0 s command).reply) h ∙ ap (λ (t : State). (step settings 0 t command).reply) e
 by_opening held s command cs (Err f) h e is = is
 
 -- of a request

@@ -7,6 +7,7 @@ use Rattle.plain_exchange.specs.declared.commands.Reply.{Reply}
 use Rattle.plain_exchange.specs.declared.commands.Reply.TheVariants as reply
 use Rattle.plain_exchange.specs.State.{State, Campaign as LiveCampaign}
 use Rattle.plain_exchange.specs.Step.{new_campaign, step}
+use Rattle.plain_exchange.specs.declared.settings.Settings.{Settings}
 use Rattle.rtb_response.specs.Response.{response_text}
 use Rattle.rtb_types.specs.declared.request.BidRequest.{BidRequest}
 use Rattle.target_expr.specs.declared.attr.Attr.TheVariants.{Domain}
@@ -50,13 +51,13 @@ opening campaigns = record { campaigns = map live_campaign (enumerate_from 1 cam
 
 -- ---- its answer
 
--- for how many milliseconds it holds a sale; no reply to one request tells
-abbrev pub ttl : ℕ
-ttl = 300000
+-- for how many milliseconds it holds a sale, and how many its list is to have; no reply to one request tells
+abbrev pub settings : Settings
+settings = record { ttl = 300000; limit = 4194304 }
 
 -- the reply to the request, which comes at moment 0
 unfoldable pub reply_at_opening : List Campaign → BidRequest → Reply
-reply_at_opening campaigns r = (step ttl 0 (opening campaigns) (Auction r)).reply
+reply_at_opening campaigns r = (step settings 0 (opening campaigns) (Auction r)).reply
 
 -- the bid response where it sold, without addresses of notices, and else `no-bid`
 abbrev pub line_for : BidRequest → Reply → List ℕ

@@ -9,7 +9,7 @@ use Rattle.plain_exchange.specs.Effects.{is_within_limits}
 use Rattle.plain_exchange.specs.State.{State, swept, with_campaigns}
 use Rattle.plain_exchange.specs.Step.{step}
 use Rattle.target_expr.specs.declared.pred.RawPred.{RawPred}
-use Rattle.exchange_run.specs.Exchange.{facts_of, live_campaign, opening, target_of, ttl}
+use Rattle.exchange_run.specs.Exchange.{facts_of, live_campaign, opening, target_of, settings}
 use Rattle.exchange_run.specs.Words.{Campaign, campaigns_of}
 
 -- the campaigns that the words name, each of which names one
@@ -40,4 +40,4 @@ has_room_for s n c = is_within_limits (with_one s n c)
 
 -- the reply of the exchange of these campaigns to its first command
 unfoldable pub first_reply : List Campaign → Command → Reply
-first_reply campaigns command = (step ttl 0 (opening campaigns) command).reply
+first_reply campaigns command = (step settings 0 (opening campaigns) command).reply

@@ -1,7 +1,7 @@
 //! What the exchange answers to a bid request.
 ghost use Rattle.std.specs.Prelude.{◌≡◌, ◌≤◌, ◌<◌, ◌^◌, false, length, IfOk, IsSome, IsTrue};
 ghost use Rattle.auction_core.specs.Draft.{found_of, is_simple, is_valid_command};
-ghost use Rattle.exchange_run.specs.Exchange.{line_for, reply_at_opening, ttl};
+ghost use Rattle.exchange_run.specs.Exchange.{line_for, reply_at_opening, settings};
 ghost use Rattle.exchange_run.specs.Making.{campaigns_named, first_reply};
 ghost use Rattle.exchange_run.specs.Words.{campaigns_of};
 ghost use Rattle.plain_exchange.specs.declared.commands.Command.TheVariants.{Auction};
@@ -21,8 +21,10 @@ use std::alloc::{AllocError, Global};
 use std::marker::Brand;
 use std::sync::ledger::{Blank, Ledger};
 
-// For how many milliseconds a sale is held.
+// For how many milliseconds a sale is held, and how many the list is to have at most.
 const TTL: u64 = 300_000;
+
+const SALES: u64 = 4_194_304;
 
 /// The bid response of the exchange with the words' campaigns to the request, or `no-bid`.
 pub(crate) fn auction_line(
@@ -81,7 +83,7 @@ fn first_reply(alloc: Global, words: &[Txt], command: &Command) -> Result<Reply,
     requires valid { IsTrue (is_valid_command command.now) }
     ensures { IfOk result (λ r. r ≡ first_reply (campaigns_named words.now) command.now) }
 {
-    let mut core = Core::new(alloc, TTL);
+    let mut core = Core::new(alloc, TTL, SALES);
     let reply = reply_with(alloc, &mut core, words, command);
     drop(core);
     reply
@@ -99,7 +101,7 @@ fn reply_with(
     requires valid { IsTrue (is_valid_command command.now) }
     requires empty { core.old.state ≡ empty }
     requires unedited { core.old.edits ≡ 0 }
-    requires held { core.old.ttl ≡ ttl }
+    requires held { core.old.settings ≡ settings }
     ensures { IfOk result (λ r. r ≡ first_reply (campaigns_named words.now) command.now) }
 {
     add_campaigns(alloc, core, words)?;
@@ -110,7 +112,7 @@ fn reply_with(
 fn reply_of(alloc: Global, core: &mut Core, command: &Command) -> Result<Reply, AllocError>
     requires valid { IsTrue (is_valid_command command.now) }
     requires few { core.old.edits < 2 ^ 63 }
-    ensures { IfOk result (λ r. r ≡ (step core.old.ttl 0 core.old.state command.now).reply) }
+    ensures { IfOk result (λ r. r ≡ (step core.old.settings 0 core.old.state command.now).reply) }
 {
     let found = find_campaigns::<Brand>(alloc, core, command, Blank::new(1))?;
     let draft = core.prepare(alloc, command, found.as_slice(), 0)?;

@@ -21,7 +21,7 @@ pub(crate) fn add_campaigns(alloc: Global, core: &mut Core, words: &[Txt]) -> Re
     requires empty { core.old.state ≡ empty }
     requires unedited { core.old.edits ≡ 0 }
     ensures state { OnOk result (core.new.state ≡ opening (campaigns_named words.now)) }
-    ensures ttl { core.new.ttl ≡ core.old.ttl }
+    ensures settings { core.new.settings ≡ core.old.settings }
     ensures edits { OnOk result (core.new.edits ≤ 64) }
 {
     let mut number = 0;
@@ -46,7 +46,7 @@ fn add(
     requires few { core.old.edits < 2 ^ 63 }
     requires room { IsTrue (has_room_for core.old.state number (record { bid = bid; domain = option_map (λ d. d.now) domain })) }
     ensures state { OnOk result (core.new.state ≡ with_one core.old.state number (record { bid = bid; domain = option_map (λ d. d.now) domain.entry })) }
-    ensures ttl { core.new.ttl ≡ core.old.ttl }
+    ensures settings { core.new.settings ≡ core.old.settings }
     ensures edits { OnOk result (core.new.edits ≡ core.old.edits + 1) }
 {
     let addition = addition(alloc, number, bid, domain)?;
@@ -60,7 +60,7 @@ fn carry_out(alloc: Global, core: &mut Core, effect: &Effect) -> Result<(), Allo
     requires fits { IsTrue (is_some (applied effect.now core.old.state)) }
     requires few { core.old.edits + edits_in effect.now.change ≤ 2 ^ 63 }
     ensures state { OnOk result (applied effect.now core.old.state ≡ Some core.new.state) }
-    ensures ttl { core.new.ttl ≡ core.old.ttl }
+    ensures settings { core.new.settings ≡ core.old.settings }
     ensures edits { OnOk result (core.new.edits ≡ core.old.edits + edits_in effect.now.change) }
 {
     match core.apply(alloc, effect) {

@@ -47,7 +47,7 @@ effects_of_call o l w command moment reply =
     let c : Call = record { worker = w; command = command; moment = moment; reply = reply } in
     let on : effects_in o (l ++ called w command moment reply ∷ []) ≡ length (effects_after o (calls l ++ c ∷ [])) = ap (λ h. length (effects_after o h)) (calls_on l (called w command moment reply ∷ [])) in
     let more : length (effects_after o (calls l ++ c ∷ [])) ≡ length (effects_after o (calls l) ++ effect_then o (calls l) c) = ap (λ (es : List Effect). length es) (effects_more o (calls l) c) in
-    let one : length (effect_then o (calls l) c) ≤ 1 = one_effect (effect_of o.ttl moment (state_after o (calls l)) command) in
+    let one : length (effect_then o (calls l) c) ≤ 1 = one_effect (effect_of o.settings moment (state_after o (calls l)) command) in
     omega (arith, on, more, length-append (effects_after o (calls l)) (effect_then o (calls l) c), one)
 
 pub waits_none : (s : Seat) → s.turn ≡ false → Waits s s

@@ -7,6 +7,7 @@ use Rattle.exchange_state.specs.Standing.{store_in}
 use Rattle.journal_file.specs.Readings.{faults_read, reads_of, store_read}
 use Rattle.journal_file.specs.declared.reading.Reading.{Reading}
 use Rattle.plain_exchange.specs.declared.changes.Effect.{Effect}
+use Rattle.plain_exchange.specs.declared.settings.Settings.{Settings}
 use Rattle.recovery.specs.Texts.{HasText}
 use Rattle.rtb_disk.specs.Stores.{Always, Store, settled}
 use Rattle.rtb_disk.specs.declared.disk.Disk.{Ghosts}
@@ -17,13 +18,13 @@ if_err_then P Q (Err e) f h = f e h
 
 module _ {D : Type 0} {G : Ghosts D} where
   -- a state stands for what it was opened with, so its effects fit
-  pub originates : (store : Store) (faults ttl : ℕ) (reading : Reading D G) (x : ExchangeState D G) (e : IsOpened ttl reading x) → (store.told ≡ true → store_read reading ≡ settled store) → (store_read reading).told ≡ store.told → faults_read reading ≡ faults
-      → IsOriginOver store faults ttl (opened_with e.effects ttl reading)
-  originates store faults ttl reading x e synced told_is same = record {
+  pub originates : (store : Store) (faults : ℕ) (settings : Settings) (reading : Reading D G) (x : ExchangeState D G) (e : IsOpened settings reading x) → (store.told ≡ true → store_read reading ≡ settled store) → (store_read reading).told ≡ store.told → faults_read reading ≡ faults
+      → IsOriginOver store faults settings (opened_with e.effects settings reading)
+  originates store faults settings reading x e synced told_is same = record {
     says = λ told. subst (λ (s : Store). HasText s.reads e.effects) (synced told) (e.says (told_is ∙ told));
     fits = e.stands.opened;
     told_is = told_is;
-    ttl_is = refl;
+    settings_is = refl;
     faults_are = same;
     moments_are = λ told. ap (λ (s : Store). length s.past) (synced told);
   }

@@ -78,7 +78,7 @@ module _ {D : Type 0} {G : Ghosts D} where
   abbrev pub Stages : TableId → Command → ℕ → Seat → Seat → Staged D G → Type 0
   Stages here command moment s t (staged.Errand e) = HasStaged here t command moment e × Gains (taken_by s e) s t
   Stages here command moment s t staged.NotAlone = Waits s t × (out t.seen ≡ None → is_behind t.seen ≡ false → stable t.seen ≡ effects_in t.origin t.seen
-      → effect_of t.origin.ttl moment (state_after t.origin (calls t.seen)) command ≡ None)
+      → effect_of t.origin.settings moment (state_after t.origin (calls t.seen)) command ≡ None)
 
   -- the seat has the turn, and may put the journal back so
   pub record MayPutBy (s : Seat) (e : Errand D G) (written : Bool) : Type 0 where

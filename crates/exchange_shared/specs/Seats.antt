@@ -113,7 +113,7 @@ abbrev pub Changes : Command → ℕ → Seat → Seat → Changed → Type 0
 Changes command moment s t (changed.Durable settled) = Lands command moment s t settled true
 Changes command moment s t (changed.StoreFailed settled) = Lands command moment s t settled false
 Changes command moment s t changed.NotAlone = Waits s t × (out t.seen ≡ None → is_behind t.seen ≡ false → stable t.seen ≡ effects_in t.origin t.seen
-    → effect_of t.origin.ttl moment (state_after t.origin (calls t.seen)) command ≡ None)
+    → effect_of t.origin.settings moment (state_after t.origin (calls t.seen)) command ≡ None)
 
 -- ---- versions
 

@@ -59,7 +59,7 @@ impl<D: Disk> Exchange<D> {
     ghost use Rattle.rtb_base.specs.Faults.{Rose};
 
     /// Opens the journal that the disk has, and puts the exchange that it says under a lock. The seat is worker 0's. A
-    /// sale is held for so many milliseconds.
+    /// sale is held for `ttl` milliseconds, and auctions bring the list of sales to `limit` at most.
     ///
     /// The disk comes back where a call of it failed, where the journal is damaged at the place, and where memory is
     /// short.
@@ -69,11 +69,12 @@ impl<D: Disk> Exchange<D> {
         alloc: Global,
         disk: D,
         ttl: u64,
+        limit: u64,
         steps: &mut Steps<L>,
     ) -> Result<(Exchange<D>, Seat<D>), (D, JournalFault)>
         ensures first { IfOk result (λ r. r.1 ≡ first_seat (lock_of r.0) r.1.origin) }
         ensures seat { IfOk result (λ r. MayCall (lock_of r.0) r.1) }
-        ensures origin { IfOk result (λ r. IsOriginOver (D.store disk) (D.faults disk) ttl r.1.origin) }
+        ensures origin { IfOk result (λ r. IsOriginOver (D.store disk) (D.faults disk) (record { ttl = ttl; limit = limit }) r.1.origin) }
         ensures damaged { (D.store disk).told ≡ true → IfErr result (λ e. IsOpenedAs (D.store disk).reads (Err e.1)) }
         // A crash at any moment of it leaves a file that says the same.
         ensures any_moment { (D.store disk).told ≡ true → (effects : List Effect) → HasText (D.store disk).reads effects → IfErr result (λ e. (D.store e.0 ≡ D.store disk) ⊎ Always (λ image. HasText image effects) (settled (D.store disk)) (D.store e.0)) }
@@ -82,7 +83,7 @@ impl<D: Disk> Exchange<D> {
         ensures quiet { IfErr result (λ e. e.1 ≢ JournalFault.DiskFailed → D.faults e.0 ≡ D.faults disk) }
         ensures cost { steps.new ≤ steps.old + most_version_cost }
     {
-        open::<D, L, Brand>(alloc, disk, ttl, steps)
+        open::<D, L, Brand>(alloc, disk, ttl, limit, steps)
     }
 }
 
@@ -91,9 +92,10 @@ fn open<D: Disk, L: Ledger, N: Opens>(
     alloc: Global,
     disk: D,
     ttl: u64,
+    limit: u64,
     steps: &mut Steps<L>,
 ) -> Result<(Exchange<D>, Seat<D>), (D, JournalFault)>
-    requires names { (o : Origin) → IsOriginOver (D.store disk) (D.faults disk) ttl o → N.opened o }
+    requires names { (o : Origin) → IsOriginOver (D.store disk) (D.faults disk) (record { ttl = ttl; limit = limit }) o → N.opened o }
     ensures first { IfOk result (λ r. r.1 ≡ first_seat (lock_of r.0) r.1.origin) }
     ensures origin { IfOk result (λ r. N.opened r.1.origin) }
     ensures damaged { (D.store disk).told ≡ true → IfErr result (λ e. IsOpenedAs (D.store disk).reads (Err e.1)) }
@@ -104,7 +106,7 @@ fn open<D: Disk, L: Ledger, N: Opens>(
     ensures cost { steps.new ≤ steps.old + most_version_cost }
 {
     match Reading::start(disk) {
-        Ok(reading) => match ExchangeState::start(alloc, reading, ttl, steps) {
+        Ok(reading) => match ExchangeState::start(alloc, reading, ttl, limit, steps) {
             Ok(state) => put_under_lock::<D, N>(alloc, state),
             Err(refused) => Err(refused),
         },

@@ -94,7 +94,7 @@ module _ {D : Type 0} {G : Ghosts D} where
       let h = idle_as x.journal (x.durable == x.placed) idle in
       (ap is_broken (same_in j h.0 (sym home ∙ h.1)) ∙ h.2, eqb-true x.durable x.placed h.3)
 
-  pub staged : (o : Origin) (l : List Entry) (command : Command) (m : ℕ) (x : ExchangeState D G) (e : Errand D G) (effect : Effect) → is_idle x ≡ true → effect_of o.ttl m (state_after o (calls l)) command ≡ Some effect → All IsEncodable (effect ∷ [])
+  pub staged : (o : Origin) (l : List Entry) (command : Command) (m : ℕ) (x : ExchangeState D G) (e : Errand D G) (effect : Effect) → is_idle x ≡ true → effect_of o.settings m (state_after o (calls l)) command ≡ Some effect → All IsEncodable (effect ∷ [])
       → x.journal ≡ Some e.journal → e ≡ record { journal = e.journal; block = effects_bytes (effect ∷ []); upto = x.placed + 1; again = false } → StandsFor o x l → IsStaged o l command m e
   staged o l command m x e effect idle has can home is s =
       let w = idle_whole x e.journal idle home in
@@ -157,17 +157,17 @@ module _ {D : Type 0} {G : Ghosts D} where
 
   -- the draft's bytes came to those that are pending, it was carried out and noted, and nothing is pending any more
   pub carried_ahead : (command : Command) (moment : ℕ) (d : Draft) (p : Placing) (old mid v new : ExchangeState D G) (s : Settled) → is_some d.effect ≡ true
-      → IsDraftOf old.core.ttl old.core.state command moment d → placed_as (length old.core.state.campaigns) d.effect p → All IsEncodable (option_to_list d.effect)
+      → IsDraftOf old.core.settings old.core.state command moment d → placed_as (length old.core.state.campaigns) d.effect p → All IsEncodable (option_to_list d.effect)
       → mid ≡ record old { pending = old.pending ++ effects_bytes (option_to_list d.effect) }
-      → (IsDraftOf mid.core.ttl mid.core.state command moment d → IsCommitted command moment mid.core v.core s.reply)
+      → (IsDraftOf mid.core.settings mid.core.state command moment d → IsCommitted command moment mid.core v.core s.reply)
       → v ≡ record (noted p mid) { core = v.core } → s.upto ≡ v.placed → s.durable ≡ v.durable → new ≡ record v { pending = []; upto = v.placed }
       → CarriesAhead command moment old new s
   carried_ahead command moment d p old mid v new s some draft placing can before commits after upto durable last =
       let effect = d.effect in
-      let is : effect ≡ effect_of old.core.ttl moment old.core.state command = draft.effect in
+      let is : effect ≡ effect_of old.core.settings moment old.core.state command = draft.effect in
       let f = some_of effect some in
       let core : mid.core ≡ old.core = ap (λ (x : ExchangeState D G). x.core) before in
-      let k = commits (same_drafts command moment old.core mid.core d (ap (λ (x : CoreState). x.ttl) core) (ap (λ (x : CoreState). x.state) core) draft) in
+      let k = commits (same_drafts command moment old.core mid.core d (ap (λ (x : CoreState). x.settings) core) (ap (λ (x : CoreState). x.state) core) draft) in
       let here = subst (λ (x : CoreState). IsCommitted command moment x v.core s.reply) core k in
       let recent : v.recent ≡ noted_in p mid.recent = ap (λ (x : ExchangeState D G). x.recent) after in
       let recent_before : mid.recent ≡ old.recent = ap (λ (x : ExchangeState D G). x.recent) before in
@@ -180,7 +180,7 @@ module _ {D : Type 0} {G : Ghosts D} where
         durable = durable;
         places = record {
           edits_are = here.edits_are;
-          ttl = here.ttl;
+          settings = here.settings;
           version = ap (λ (x : ExchangeState D G). version_of x) after ∙ ap (λ (x : ExchangeState D G). version_of x) before;
           oldest = ap (λ (r : RecentEdits). r.oldest) recent ∙ noted_oldest p mid.recent ∙ ap (λ (r : RecentEdits). r.oldest) recent_before;
           touched = ap (λ (r : RecentEdits). r.touched) recent ∙ noted_touched (length old.core.state.campaigns) effect p mid.recent placing
@@ -214,16 +214,16 @@ module _ {D : Type 0} {G : Ghosts D} where
       let e = called w command m s.reply in
       let is = calls_then l w m command s.reply in
       let p = k.places in
-      let one = step_as o h command m old.core.ttl old.core.state x.ttl x.state in
-      let eff = effect_as o h command m old.core.ttl old.core.state x.ttl x.state in
-      let es : option_to_list (effect_of old.core.ttl m old.core.state command) ≡ effect_then o h c = ap (λ f. option_to_list f) eff in
+      let one = step_as o h command m old.core.settings old.core.state x.settings x.state in
+      let eff = effect_as o h command m old.core.settings old.core.state x.settings x.state in
+      let es : option_to_list (effect_of old.core.settings m old.core.state command) ≡ effect_then o h c = ap (λ f. option_to_list f) eff in
       let grown : effects_after o (calls (l ++ e ∷ [])) ≡ effects_after o h ++ effect_then o h c = ap (effects_after o) is ∙ effects_more o h c in
       let win = window_then o l w m command s.reply in
       let same_kept : kept o (l ++ e ∷ []) ≡ kept o l = ap (λ (v : Window). v.kept) win in
       let same_published : published o (l ++ e ∷ []) ≡ published o l = ap (λ (v : Window). v.published) win in
       let says = says_same o l w m command s.reply in
       let placed_now : new.placed ≡ length (effects_after o (calls (l ++ e ∷ []))) =
-      p.placed ∙ ap (λ n. n + length (option_to_list (effect_of old.core.ttl m old.core.state command))) x.placed ∙ ap (λ d. length (effects_after o h) + length d) es
+      p.placed ∙ ap (λ n. n + length (option_to_list (effect_of old.core.settings m old.core.state command))) x.placed ∙ ap (λ d. length (effects_after o h) + length d) es
       ∙ sym (length-append (effects_after o h) (effect_then o h c)) ∙ ap (λ d. length d) (sym grown) in
       let one_more : new.placed ≡ old.placed + 1 = p.placed ∙ ap (λ (f : Option Effect). old.placed + length (option_to_list f)) k.has in
       let within : kept o l ≤ edits_after o h = let a = x.order in let b = x.edition in let v = x.version in let past = v.past in omega (arith, a, b, past) in
@@ -239,8 +239,8 @@ module _ {D : Type 0} {G : Ghosts D} where
           few = x.few;
           legal = subst (IsLegalFrom o) (sym is) (legal_more o h c x.legal (k.reply ∙ ap (λ (t : Transition). t.reply) one));
           state = k.state ∙ ap (λ (t : Transition). t.after) one ∙ sym (state_then o h c) ∙ ap (state_after o) (sym is);
-          ttl = p.ttl ∙ x.ttl;
-          edits_are = p.edits_are ∙ ap (λ n. n + edits (option_to_list (effect_of old.core.ttl m old.core.state command))) x.edits_are ∙ ap (λ d. edits_after o h + edits d) es
+          settings = p.settings ∙ x.settings;
+          edits_are = p.edits_are ∙ ap (λ n. n + edits (option_to_list (effect_of old.core.settings m old.core.state command))) x.edits_are ∙ ap (λ d. edits_after o h + edits d) es
               ∙ sym (edits_more o h c) ∙ ap (edits_after o) (sym is);
           placed = placed_now;
           encodable = subst (All IsEncodable) (sym grown) (All-append IsEncodable (effects_after o h) (effect_then o h c) x.encodable (subst (All IsEncodable) es p.encodable));
@@ -249,9 +249,9 @@ module _ {D : Type 0} {G : Ghosts D} where
           first = subst (λ n. edits o.effects ≤ n) (sym same_kept) x.first;
           order = subst (λ n. n ≤ published o (l ++ e ∷ [])) (sym same_kept) (subst (λ n. kept o l ≤ n) (sym same_published) x.order);
           oldest = p.oldest ∙ x.oldest ∙ sym same_kept;
-          touched = p.touched ∙ ap (λ t. t ++ touched_with (length old.core.state.campaigns) (effect_of old.core.ttl m old.core.state command)) x.touched
+          touched = p.touched ∙ ap (λ t. t ++ touched_with (length old.core.state.campaigns) (effect_of old.core.settings m old.core.state command)) x.touched
               ∙ ap (λ f. touched_since o h (kept o l) ++ touched_with (length old.core.state.campaigns) f) eff
-              ∙ ap (λ (t : State). touched_since o h (kept o l) ++ touched_with (length t.campaigns) (effect_of o.ttl m (state_after o h) command)) x.state
+              ∙ ap (λ (t : State). touched_since o h (kept o l) ++ touched_with (length t.campaigns) (effect_of o.settings m (state_after o h) command)) x.state
               ∙ sym (since_more o h c (kept o l) x.first within)
               ∙ ap (λ g. touched_since o g (kept o l)) (sym is) ∙ ap (touched_since o (calls (l ++ e ∷ []))) (sym same_kept);
           durable = p.durable ∙ x.durable ∙ sym says.same_stable;
@@ -282,7 +282,7 @@ module _ {D : Type 0} {G : Ghosts D} where
 -- where calls have no effect, the state stays
 pub made_state : (o : Origin) (h : List Call) → state_of o.effects ≡ Some (opening o) → state_of (o.effects ++ effects_after o h) ≡ Some (state_after o h)
 unfolding state_after effects_after
-made_state o h opened = replayed o.ttl o.effects (opening o) h opened
+made_state o h opened = replayed o.settings o.effects (opening o) h opened
 
 same_after : (o : Origin) (h more : List Call) → state_of o.effects ≡ Some (opening o) → length (effects_after o (h ++ more)) ≡ length (effects_after o h) → (effects_after o (h ++ more) ≡ effects_after o h) × (state_after o (h ++ more) ≡ state_after o h)
 same_after o h more opened same =
@@ -292,12 +292,12 @@ same_after o h more opened same =
     (es, same_in (state_after o (h ++ more)) (state_after o h) (sym (made_state o (h ++ more) opened) ∙ ap (λ d. state_of (o.effects ++ d)) es ∙ made_state o h opened))
 
 -- and the effect of a command is the one that it had, wherever it comes behind them
-change_effects : (o : Origin) (h more behind : List Call) (c : Call) (effect : Effect) → state_of o.effects ≡ Some (opening o) → length (effects_after o (h ++ more)) ≡ length (effects_after o h) → effect_of o.ttl c.moment (state_after o h) c.command ≡ Some effect
+change_effects : (o : Origin) (h more behind : List Call) (c : Call) (effect : Effect) → state_of o.effects ≡ Some (opening o) → length (effects_after o (h ++ more)) ≡ length (effects_after o h) → effect_of o.settings c.moment (state_after o h) c.command ≡ Some effect
     → (take (length (effects_after o h) + 1) (effects_after o (((h ++ more) ++ c ∷ []) ++ behind)) ≡ effects_after o h ++ effect ∷ []) × (length (effects_after o h) + 1 ≤ length (effects_after o (((h ++ more) ++ c ∷ []) ++ behind)))
 change_effects o h more behind c effect opened same has =
     let n = length (effects_after o h) in
     let s = same_after o h more opened same in
-    let one : effect_then o (h ++ more) c ≡ effect ∷ [] = ap (λ st. option_to_list (effect_of o.ttl c.moment st c.command)) s.1 ∙ ap (λ (f : Option Effect). option_to_list f) has in
+    let one : effect_then o (h ++ more) c ≡ effect ∷ [] = ap (λ st. option_to_list (effect_of o.settings c.moment st c.command)) s.1 ∙ ap (λ (f : Option Effect). option_to_list f) has in
     let grown : effects_after o ((h ++ more) ++ c ∷ []) ≡ effects_after o h ++ effect ∷ [] =
     effects_more o (h ++ more) c ∙ ap (λ es. es ++ effect_then o (h ++ more) c) s.0 ∙ ap (λ es. effects_after o h ++ es) one in
     let pushed = length-append (effects_after o h) (effect ∷ []) in

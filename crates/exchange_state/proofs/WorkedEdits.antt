@@ -29,7 +29,7 @@ abbrev two_added : List Effect
 two_added = (record { moment = 1000; change = change.Added shoes_facts (wants (codes "news.example")) }) ∷ (record { moment = 1000; change = change.Added cars_facts wants_all }) ∷ []
 
 abbrev opened_with : List Effect → Origin
-opened_with es = record { effects = es; ttl = 300000; faults = 0; told = true; moments = 0 }
+opened_with es = record { effects = es; settings = record { ttl = 300000; limit = 4194304 }; faults = 0; told = true; moments = 0 }
 
 abbrev with_two : Origin
 with_two = opened_with two_added
@@ -47,7 +47,7 @@ fixed_for o h edit (found ∷ more) = map (λ (i : Imp). fix o h (pairs_of by_re
 
 -- the reply to the auction for which it was found
 abbrev sold_after : Origin → List Call → Brief
-sold_after o h = brief (step o.ttl 2000 (state_after o h) read).reply
+sold_after o h = brief (step o.settings 2000 (state_after o h) read).reply
 
 abbrev call : Command → ℕ → Reply → Entry
 call c moment r = called 2 c moment r

@@ -15,7 +15,7 @@ use Rattle.plain_exchange.proofs.Samples.{shoes_facts, wants_all}
 
 -- the exchange was opened with one campaign
 abbrev with_one : Origin
-with_one = record { effects = (record { moment = 1000; change = change.Added shoes_facts wants_all }) ∷ []; ttl = 300000; faults = 0; told = true; moments = 0 }
+with_one = record { effects = (record { moment = 1000; change = change.Added shoes_facts wants_all }) ∷ []; settings = record { ttl = 300000; limit = 4194304 }; faults = 0; told = true; moments = 0 }
 
 -- ---- the list, entry by entry
 

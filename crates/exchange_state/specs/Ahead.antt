@@ -24,13 +24,13 @@ module _ {D : Type 0} {G : Ghosts D} where
   -- The command is carried out at the moment. It has an effect, whose bytes stand in the block that is out.
   pub record CarriesAhead (command : Command) (moment : ℕ) (old new : ExchangeState D G) (s : Settled) : Type 0 where
     pub effect : Effect
-    pub has : effect_of old.core.ttl moment old.core.state command ≡ Some effect
-    pub state : new.core.state ≡ (step old.core.ttl moment old.core.state command).after
-    pub reply : s.reply ≡ (step old.core.ttl moment old.core.state command).reply
+    pub has : effect_of old.core.settings moment old.core.state command ≡ Some effect
+    pub state : new.core.state ≡ (step old.core.settings moment old.core.state command).after
+    pub reply : s.reply ≡ (step old.core.settings moment old.core.state command).reply
     pub upto : s.upto ≡ new.placed
     pub durable : s.durable ≡ new.durable
     -- but for what is pending, and where that begins, it is placed as any other
-    pub places : Places (effect_of old.core.ttl moment old.core.state command) old
-        (record new { pending = old.pending ++ effects_bytes (option_to_list (effect_of old.core.ttl moment old.core.state command)); upto = old.upto })
+    pub places : Places (effect_of old.core.settings moment old.core.state command) old
+        (record new { pending = old.pending ++ effects_bytes (option_to_list (effect_of old.core.settings moment old.core.state command)); upto = old.upto })
     pub none_left : new.pending ≡ []
     pub end : new.upto ≡ new.placed

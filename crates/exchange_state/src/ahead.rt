@@ -44,7 +44,7 @@ impl<D: Disk> ExchangeState<D> {
         requires stands { IsStanding self.old }
         ensures staged { (o : AnOrigin) (l : AList AnEntry) → StandsFor o self.old l → IfOk result (λ e. IfSome e (IsStaged o l command.now moment)) }
         ensures stands { (o : AnOrigin) (l : AList AnEntry) (w : ℕ) → StandsFor o self.old l → IfOk result (λ e. StandsFor o self.new (l ++ staging_marks w e)) }
-        ensures none { (o : AnOrigin) (l : AList AnEntry) → StandsFor o self.old l → IfOk result (λ e. e ≡ None → out l ≡ None → is_behind l ≡ false → stable l ≡ length (effects_after o (calls l)) → effect_of o.ttl moment (state_after o (calls l)) command.now ≡ None) }
+        ensures none { (o : AnOrigin) (l : AList AnEntry) → StandsFor o self.old l → IfOk result (λ e. e ≡ None → out l ≡ None → is_behind l ≡ false → stable l ≡ length (effects_after o (calls l)) → effect_of o.settings moment (state_after o (calls l)) command.now ≡ None) }
         ensures unstaged { (o : AnOrigin) (l : AList AnEntry) → StandsFor o self.old l → OnErr result (StandsFor o self.new l) }
     {
         if !self.is_idle() {
@@ -70,8 +70,8 @@ impl<D: Disk> ExchangeState<D> {
     // The bytes of the effect that the command has. Only rooms change.
     fn block_ahead(&mut self, command: &Command, moment: u64) -> Result<Option<Txt>, AllocError>
         requires simple { IsTrue (is_simple command.now) }
-        ensures block { IfOk result (λ b. b ≡ block_with (effect_of self.old.core.ttl moment self.old.core.state command.now)) }
-        ensures encodable { OnOk result (All IsEncodable (option_to_list (effect_of self.old.core.ttl moment self.old.core.state command.now))) }
+        ensures block { IfOk result (λ b. b ≡ block_with (effect_of self.old.core.settings moment self.old.core.state command.now)) }
+        ensures encodable { OnOk result (All IsEncodable (option_to_list (effect_of self.old.core.settings moment self.old.core.state command.now))) }
         ensures same { IsSame self.old self.new }
     {
         match self.draft_simple(command, moment) {
@@ -128,7 +128,7 @@ impl<D: Disk> ExchangeState<D> {
         requires room { 1 ≤ self.old.recent.spare }
         requires few { self.old.core.edits < 2 ^ 63 }
         requires placed { self.old.placed < 2 ^ 63 }
-        ensures done { (command : ACommand) (moment : ℕ) → IsDraftOf self.old.core.ttl self.old.core.state command moment draft → IfSome result (CarriesAhead command moment self.old self.new) }
+        ensures done { (command : ACommand) (moment : ℕ) → IsDraftOf self.old.core.settings self.old.core.state command moment draft → IfSome result (CarriesAhead command moment self.old self.new) }
         ensures none { result ≡ None → self.new ≡ self.old }
     {
         if !has_effect(&draft) {

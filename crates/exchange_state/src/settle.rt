@@ -145,7 +145,7 @@ impl<D: Disk> ExchangeState<D> {
         requires valid { IsTrue (is_valid asked.now) }
         requires known { self.old.recent.oldest ≤ edit }
         requires found { MaySell self.old.core.state (touched_after edit self.old.recent) asked.now candidates.now }
-        ensures draft { IfOk result (IsDraftOf self.old.core.ttl self.old.core.state (AnAuction asked.now) moment) }
+        ensures draft { IfOk result (IsDraftOf self.old.core.settings self.old.core.state (AnAuction asked.now) moment) }
         ensures ready { IfOk result (λ d. IsReady d self.new.core) }
         ensures plain { IfOk result (λ d. HasPlain d.effect) }
         ensures room { OnOk result (1 ≤ self.new.recent.spare) }
@@ -179,7 +179,7 @@ impl<D: Disk> ExchangeState<D> {
         requires valid { IsTrue (is_valid asked.now) }
         requires rising { IsStrictlyIncreasing touched.now }
         requires found { MaySell self.old.core.state touched.now asked.now candidates.now }
-        ensures draft { IfOk result (IsDraftOf self.old.core.ttl self.old.core.state (AnAuction asked.now) moment) }
+        ensures draft { IfOk result (IsDraftOf self.old.core.settings self.old.core.state (AnAuction asked.now) moment) }
         ensures ready { IfOk result (λ d. IsReady d self.new.core) }
         ensures plain { IfOk result (λ d. HasPlain d.effect) }
         ensures room { OnOk result (1 ≤ self.new.recent.spare) }
@@ -218,7 +218,7 @@ impl<D: Disk> ExchangeState<D> {
         requires rising { IsStrictlyIncreasing touched.now }
         requires found { MaySell self.old.core.state touched.now asked.now candidates.now }
         requires now { AreTouched self.old.core.state touched.now asked.now now.now }
-        ensures draft { IfOk result (IsDraftOf self.old.core.ttl self.old.core.state (AnAuction asked.now) moment) }
+        ensures draft { IfOk result (IsDraftOf self.old.core.settings self.old.core.state (AnAuction asked.now) moment) }
         ensures ready { IfOk result (λ d. IsReady d self.new.core) }
         ensures plain { IfOk result (λ d. HasPlain d.effect) }
         ensures room { OnOk result (1 ≤ self.new.recent.spare) }
@@ -252,7 +252,7 @@ impl<D: Disk> ExchangeState<D> {
         moment: u64,
     ) -> Result<Draft, AllocError>
         requires simple { IsTrue (is_simple command.now) }
-        ensures draft { IfOk result (IsDraftOf self.old.core.ttl self.old.core.state command.now moment) }
+        ensures draft { IfOk result (IsDraftOf self.old.core.settings self.old.core.state command.now moment) }
         ensures ready { IfOk result (λ d. IsReady d self.new.core) }
         ensures plain { IfOk result (λ d. HasPlain d.effect) }
         ensures room { OnOk result (1 ≤ self.new.recent.spare) }
@@ -270,7 +270,7 @@ impl<D: Disk> ExchangeState<D> {
         requires room { 1 ≤ self.old.recent.spare }
         requires few { self.old.core.edits < 2 ^ 63 }
         requires placed { self.old.placed < 2 ^ 63 }
-        ensures done { (command : ACommand) (moment : ℕ) → IsDraftOf self.old.core.ttl self.old.core.state command moment draft → IfOk result (CarriesOut command moment self.old self.new) }
+        ensures done { (command : ACommand) (moment : ℕ) → IsDraftOf self.old.core.settings self.old.core.state command moment draft → IfOk result (CarriesOut command moment self.old self.new) }
         ensures undone { OnErr result (self.new ≡ self.old) }
         ensures held { IfErr result (λ e. e ≡ Unsettled.Held → (is_some draft.effect && is_ahead self.old) ≡ true) }
     {
@@ -321,7 +321,7 @@ impl<D: Disk> ExchangeState<D> {
         requires room { 1 ≤ self.old.recent.spare }
         requires few { self.old.core.edits < 2 ^ 63 }
         requires placed { self.old.placed < 2 ^ 63 }
-        ensures done { (command : ACommand) (moment : ℕ) → IsDraftOf self.old.core.ttl self.old.core.state command moment draft → IsCommitted command moment self.old.core self.new.core result.reply }
+        ensures done { (command : ACommand) (moment : ℕ) → IsDraftOf self.old.core.settings self.old.core.state command moment draft → IsCommitted command moment self.old.core self.new.core result.reply }
         ensures rest { self.new ≡ record (noted placing self.old) { core = self.new.core } }
         ensures upto { result.upto ≡ self.new.placed }
         ensures durable { result.durable ≡ self.new.durable }
@@ -358,7 +358,7 @@ impl<D: Disk> ExchangeState<D> {
 fn commit_exactly(core: &mut Core, draft: Draft) -> Reply
     requires ready { IsReady draft core.old }
     requires few { core.old.edits < 2 ^ 63 }
-    ensures { (command : ACommand) (moment : ℕ) → IsDraftOf core.old.ttl core.old.state command moment draft → IsCommitted command moment core.old core.new result }
+    ensures { (command : ACommand) (moment : ℕ) → IsDraftOf core.old.settings core.old.state command moment draft → IsCommitted command moment core.old core.new result }
 {
     core.commit(draft)
 }

@@ -51,10 +51,11 @@ impl<D: Disk> ExchangeState<D> {
         alloc: Global,
         reading: Reading<D>,
         ttl: u64,
+        limit: u64,
         steps: &mut Steps<L>,
     ) -> Result<ExchangeState<D>, (D, JournalFault)>
         requires fresh { IsFresh reading }
-        ensures opened { IfOk result (IsOpened ttl reading) }
+        ensures opened { IfOk result (IsOpened (record { ttl = ttl; limit = limit }) reading) }
         ensures damaged { (store_read reading).told ≡ true → IfErr result (λ e. Opens (reads_of reading) (Err e.1)) }
         // A crash at any moment of it leaves a file that says the same.
         ensures any_moment { (store_read reading).told ≡ true → (effects : AList AnEffect) → HasText (reads_of reading) effects → MatchResult result
@@ -66,7 +67,7 @@ impl<D: Disk> ExchangeState<D> {
         ensures cost { IfOk result (λ x. (o : AnOrigin) → StandsFor o x [] → steps.new ≤ steps.old + version_cost (live_records (listed (opening o)))) }
         ensures most { steps.new ≤ steps.old + most_version_cost }
     {
-        match open_from(alloc, reading, ttl) {
+        match open_from(alloc, reading, ttl, limit) {
             Ok((journal, core)) => begin_with(alloc, journal, core, steps),
             Err(refused) => Err(refused),
         }

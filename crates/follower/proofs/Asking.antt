@@ -31,6 +31,7 @@ asks message (command.Resume n) asked one read is = none_asked message (command.
 asks message (command.Report n) asked one read is = subst (AsksFor message) (sym is) read
 asks message (command.Bill sale) asked one read is = none_asked message (command.Bill sale) asked one read refl is
 asks message (command.Lose sale) asked one read is = none_asked message (command.Lose sale) asked one read refl is
+asks message (command.Forget keep) asked one read is = none_asked message (command.Forget keep) asked one read refl is
 
 pub refused : (message : Message) (a : Answer) → OneReading message → IsCommandOf message (Err a) → AsksFor message None
 refused message a one read = λ n report. absurd (cc (one (Err a) (Ok (command.Report n)) read report))

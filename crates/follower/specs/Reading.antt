@@ -12,3 +12,4 @@ report_asked (command.Resume n) = None
 report_asked (command.Report n) = Some n
 report_asked (command.Bill sale) = None
 report_asked (command.Lose sale) = None
+report_asked (command.Forget keep) = None

@@ -64,7 +64,7 @@ impl<D: Disk> Follower<D> {
         Follower {
             alloc,
             disk,
-            core: Core::new(alloc, 0),
+            core: Core::new(alloc, 0, 0),
             gate: 0,
             done: 0,
             count: 0,

@@ -38,3 +38,4 @@ reach_cost index (command.Resume n) = 0
 reach_cost index (command.Report n) = 0
 reach_cost index (command.Bill n) = 0
 reach_cost index (command.Lose n) = 0
+reach_cost index (command.Forget keep) = 0

@@ -2,17 +2,18 @@
 use Rattle.std.proofs.Common.{◌≡◌, ◌∙◌, ℕ, ◌+◌, Bool, true, false, ◌||◌, List, [], ◌∷◌, length, Option, Some, None, refl, ap, sym, subst}
 use Rattle.std.specs.Prelude.{IfOk, Result, Ok, Err, if◌then◌else◌, nat_lt}
 use Rattle.auction_core.specs.Core.{listed}
-use Rattle.audit.specs.Accounts.{account, answer_at, passes, state_behind, tells, tells_failure}
+use Rattle.audit.specs.Accounts.{account, answer_at, passes, settings_of, state_behind, tells, tells_failure}
 use Rattle.conj_index.specs.Content.{IsIndexOf}
 use Rattle.conj_index.specs.declared.index.Index.{Index}
 use Rattle.http_wire.specs.Answers.{memory_answer}
 use Rattle.live_index.specs.Reached.{live_expressions}
 use Rattle.made_run.specs.Standing.{Fits}
 use Rattle.plain_exchange.specs.Auction.{Award, awards_of}
-use Rattle.plain_exchange.specs.State.{State, most_sales, swept}
+use Rattle.plain_exchange.specs.State.{State, limit_of, swept}
 use Rattle.plain_exchange.specs.Step.{Transition, auction}
 use Rattle.plain_exchange.specs.declared.commands.Command.{Command}
 use Rattle.plain_exchange.specs.declared.commands.Command.TheVariants as command
+use Rattle.plain_exchange.specs.declared.settings.Settings.{Settings}
 use Rattle.rtb_types.specs.declared.request.BidRequest.{BidRequest}
 use Rattle.trace.specs.declared.entry.Entry.{Entry}
 use Rattle.trace.specs.declared.header.Header.{Header}
@@ -21,9 +22,9 @@ same_by : (b : Bool) (x y : Transition) (s : State) → listed x.after ≡ liste
 same_by true x y s first second = first
 same_by false x y s first second = second
 
-auction_keeps : (ttl moment : ℕ) (r : BidRequest) (s : State) (awards : List Award) → listed (auction ttl moment r s awards).after ≡ listed s
-auction_keeps ttl moment r s [] = refl
-auction_keeps ttl moment r s (a ∷ awards) = same_by (nat_lt most_sales (length s.sales + length (a ∷ awards))) _ _ s refl refl
+auction_keeps : (settings : Settings) (moment : ℕ) (r : BidRequest) (s : State) (awards : List Award) → listed (auction settings moment r s awards).after ≡ listed s
+auction_keeps settings moment r s [] = refl
+auction_keeps settings moment r s (a ∷ awards) = same_by (nat_lt (limit_of settings) (length s.sales + length (a ∷ awards))) _ _ s refl refl
 
 some_is : (x y : State) → Some x ≡ Some y → x ≡ y
 some_is x y e = cc
@@ -36,7 +37,7 @@ account_keeps : (h : Header) (s after : State) (e : Entry) (r : BidRequest) → 
 unfolding state_behind
 account_keeps h s after e r is =
     kept_by (state_behind h s e.moment (command.Auction r)) after s (tells_failure e || tells e (answer_at h s e.moment (command.Auction r)))
-    (auction_keeps h.ttl e.moment r (swept e.moment s) (awards_of h.ttl e.moment r (swept e.moment s))) is
+    (auction_keeps (settings_of h) e.moment r (swept e.moment s) (awards_of (settings_of h) e.moment r (swept e.moment s))) is
 
 pub all_keep : {E : Type 0} (h : Header) (s after : State) (e : Entry) (c : Command) (r : BidRequest) (found : Result Bool E) → c ≡ command.Auction r
     → IfOk found (λ accounts. account h s e (Ok c) ≡ (if accounts then Some after else None)) → IfOk found (λ accounts. accounts ≡ true → listed after ≡ listed s)

@@ -13,7 +13,7 @@ use Rattle.trace.specs.declared.entry.Entry.{Entry}
 -- an exchange that holds sales for as long as the header says
 pub record IsReady (g : Gathering) : Type 0 where
   pub header_is : g.header ≡ header
-  pub ttl : g.core.ttl ≡ 300000
+  pub settings : g.core.settings ≡ record { ttl = 300000; limit = 4194304 }
 
 -- the answers to these messages were gathered
 pub record IsSoFar (posts : List (ℕ × Message)) (g : Gathering) : Type 0 where

@@ -3,7 +3,7 @@ ghost use Rattle.std.specs.Prelude.{◌≡◌, ◌<◌, false, true, IfOk, IsTru
 ghost use Rattle.std.specs.Option.{option_copied};
 ghost use Rattle.auction_core.specs.Core.{listed};
 ghost use Rattle.auction_core.specs.Draft.{found_of, is_valid_command};
-ghost use Rattle.audit.specs.Accounts.{LeadsTo, account as accounted, passes};
+ghost use Rattle.audit.specs.Accounts.{LeadsTo, account as accounted, passes, settings_of};
 ghost use Rattle.conj_index.specs.Content.{IsIndexOf};
 ghost use Rattle.live_index.specs.Reached.{live_expressions};
 ghost use Rattle.made_run.specs.Standing.{Fits};
@@ -66,10 +66,10 @@ pub(crate) fn accounts_for(
     entry: &Entry,
 ) -> Result<bool, AllocError>
     requires answered { passes entry.now ≡ false }
-    requires ttl { core.old.ttl ≡ header.now.ttl }
+    requires settings { core.old.settings ≡ settings_of header.now }
     requires fits { Fits (option_copied index) core.old.state }
     ensures leads { IfOk result (λ accounts. LeadsTo header.now core.old.state entry.now (if accounts then Some core.new.state else None)) }
-    ensures ttl { core.new.ttl ≡ core.old.ttl }
+    ensures settings { core.new.settings ≡ core.old.settings }
     ensures fits { IfOk result (λ accounts. accounts ≡ true → Fits (option_copied index.entry) core.new.state) }
 {
     match index {
@@ -86,9 +86,9 @@ fn accounts_by_look(
     header: &Header,
     entry: &Entry,
 ) -> Result<bool, AllocError>
-    requires ttl { core.old.ttl ≡ header.now.ttl }
+    requires settings { core.old.settings ≡ settings_of header.now }
     ensures leads { IfOk result (λ accounts. LeadsTo header.now core.old.state entry.now (if accounts then Some core.new.state else None)) }
-    ensures ttl { core.new.ttl ≡ core.old.ttl }
+    ensures settings { core.new.settings ≡ core.old.settings }
 {
     account(alloc, core, header, entry)
 }
@@ -103,10 +103,10 @@ fn accounts_by(
     entry: &Entry,
 ) -> Result<bool, AllocError>
     requires answered { passes entry.now ≡ false }
-    requires ttl { core.old.ttl ≡ header.now.ttl }
+    requires settings { core.old.settings ≡ settings_of header.now }
     requires index { IsIndexOf (live_expressions (listed core.old.state)) index.now }
     ensures leads { IfOk result (λ accounts. LeadsTo header.now core.old.state entry.now (if accounts then Some core.new.state else None)) }
-    ensures ttl { core.new.ttl ≡ core.old.ttl }
+    ensures settings { core.new.settings ≡ core.old.settings }
     ensures listed { IfOk result (λ accounts. accounts ≡ true → listed core.new.state ≡ listed core.old.state) }
 {
     match read_command_in(alloc, &mut room.rooms, &entry.message) {
@@ -135,10 +135,10 @@ fn accounts_command(
     command: &Command,
 ) -> Result<bool, AllocError>
     requires valid { IsTrue (is_valid_command command.now) }
-    requires ttl { core.old.ttl ≡ header.now.ttl }
+    requires settings { core.old.settings ≡ settings_of header.now }
     requires index { IsIndexOf (live_expressions (listed core.old.state)) index.now }
     ensures leads { IfOk result (λ accounts. accounted header.now core.old.state entry.now (Ok command.now) ≡ (if accounts then Some core.new.state else None)) }
-    ensures ttl { core.new.ttl ≡ core.old.ttl }
+    ensures settings { core.new.settings ≡ core.old.settings }
     ensures listed { IfOk result (λ accounts. accounts ≡ true → listed core.new.state ≡ listed core.old.state) }
 {
     let Command::Auction(_) = command else {

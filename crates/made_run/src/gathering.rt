@@ -3,7 +3,7 @@
 ghost use Rattle.std.specs.Prelude.{◌≡◌, ◌↔◌, ◌+◌, ◌++◌, ◌∷◌, [], ℕ, IfOk, IfSome, IsTrue, List as AList, OnOk, Some, codes, false, if◌then◌else◌};
 ghost use Rattle.std.specs.Option.{option_copied, option_map};
 ghost use Rattle.auction_core.specs.Core.{listed};
-ghost use Rattle.audit.specs.Accounts.{LeadsTo, passes};
+ghost use Rattle.audit.specs.Accounts.{LeadsTo, passes, settings_of};
 ghost use Rattle.byte_fields.specs.Encodings.{IsShort};
 ghost use Rattle.conj_index.specs.Content.{IsIndexOf};
 ghost use Rattle.http_wire.specs.declared.message.Message.{Message as AMessage};
@@ -16,7 +16,7 @@ use crate::answers::Tells;
 use crate::finding::{Room, accounts_for, index_of};
 use crate::posting::{CAMPAIGNS, blank_request, next_campaign, next_request};
 use crate::reserving::{plus, reserved_in};
-use crate::run::{Made, PUBLIC, TTL};
+use crate::run::{Made, PUBLIC, SALES, TTL};
 use auction_core::Core;
 use audit::passes;
 use conj_index::Index;
@@ -73,7 +73,7 @@ fn begin(alloc: Global, keeps: bool) -> Result<Gathering, AllocError>
     let public = Txt::from_slice(alloc, PUBLIC)?;
     let trace = begin_kept(alloc, keeps, &public)?;
     Ok(Gathering {
-        core: Core::new(alloc, TTL),
+        core: Core::new(alloc, TTL, SALES),
         room: Room::new(alloc),
         header: Header { ttl: TTL, public },
         trace,
@@ -349,11 +349,11 @@ fn judge(
     header: &Header,
     entry: &Entry,
 ) -> Result<(), AllocError>
-    requires ttl { core.old.ttl ≡ header.now.ttl }
+    requires settings { core.old.settings ≡ settings_of header.now }
     requires fits { Fits (option_copied index) core.old.state }
     ensures leads { OnOk result (LeadsTo header.now core.old.state entry.now (Some core.new.state)) }
     ensures answered { OnOk result (passes entry.now ≡ false) }
-    ensures ttl { core.new.ttl ≡ core.old.ttl }
+    ensures settings { core.new.settings ≡ core.old.settings }
     ensures fits { OnOk result (Fits (option_copied index.entry) core.new.state) }
 {
     if passes(entry) {

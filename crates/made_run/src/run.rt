@@ -20,6 +20,9 @@ use std::sync::ledger::{Blank, Ledger};
 /// For how many milliseconds a sale is held.
 pub(crate) const TTL: u64 = 300_000;
 
+/// How many sales the list is to have at most.
+pub(crate) const SALES: u64 = 4_194_304;
+
 /// What the addresses of notices begin with.
 pub(crate) const PUBLIC: &[u8] = b"http://make.example";
 
@@ -105,7 +108,7 @@ fn make_on<D: Disk + Drop, L: Ledger, R: Wait>(
     ensures counted { keeps ≡ false → IfOk result (λ made. IsCounted start requests made) }
 {
     let mut steps = Steps::<L>::new(blank);
-    match Exchange::start(alloc, disk, TTL, &mut steps) {
+    match Exchange::start(alloc, disk, TTL, SALES, &mut steps) {
         Ok((exchange, seat)) => {
             let made = make_with(alloc, rt, start, requests, keeps, public, &exchange, seat);
             drop(exchange);

@@ -7,6 +7,8 @@
 //! - `state SALE MOMENT`: the state that it would have then, or `none`.
 //! - `shown CAMPAIGN SECONDS MOMENT USER`.
 //! - `sale SALE`: `CAMPAIGN PRICE MOMENT DUE STATE [USER]`, or `none`.
+//! - `at_once KEEP MOMENT`: how many may be forgotten at once, once what is due expired.
+//! - `settled COUNT MOMENT`: whether so many of the oldest are there and none of them is held then, `yes` or `no`.
 //! - `sales`, `forgotten`: how many there are in the list, and how many are no more.
 
 use crate::book::Shop;
@@ -74,6 +76,13 @@ fn of_sales(shop: &Shop, command: &[u8], out: &mut Txt) -> Result<bool, AllocErr
     }
     if name == b"sales".as_slice() {
         return put_number(shop.book.sales(), out);
+    }
+    if name == b"at_once".as_slice() {
+        let keep = number_at(command, 1);
+        return put_number(shop.book.forgettable_at(keep, number_at(command, 2)), out);
+    }
+    if name == b"settled".as_slice() {
+        return put_settled(shop, command, out);
     }
     if name == b"forgotten".as_slice() {
         return put_number(shop.book.forgotten(), out);
@@ -153,4 +162,15 @@ fn put_sale(row: &SaleRow, out: &mut Txt) -> Result<(), AllocError> {
         Some(user) => out.extend_all(&[b" ", user.as_bytes()]),
         None => Ok(()),
     }
+}
+
+fn put_settled(shop: &Shop, command: &[u8], out: &mut Txt) -> Result<bool, AllocError> {
+    let count = number_at(command, 1);
+    let settled = shop.book.are_settled_at(count, number_at(command, 2));
+    out.extend(if settled {
+        b"yes".as_slice()
+    } else {
+        b"no".as_slice()
+    })?;
+    Ok(true)
 }

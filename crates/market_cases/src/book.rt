@@ -8,16 +8,18 @@
 //! - `bill SALE`, `lose SALE`: says `ok`, or why not.
 //! - `sweep MOMENT`: says how many expired.
 //! - `forget KEEP`: says how many are forgotten in all.
+//! - `first COUNT MOMENT`: what is due expires, and so many of the oldest are forgotten; says the same, or `no` where one of
+//!   them is held or not there.
 //! - `set CAMPAIGN BUDGET`: says `ok`, or `below` and what is committed.
 //!
 //! `ask.rt` has the questions.
 ghost use Rattle.std.specs.Prelude.{◌≡◌, ◌≤◌, ◌<◌, ◌+◌, ◌-◌, ◌^◌, IfOk, IfSome, IsTrue, get_or, length};
 ghost use Rattle.budget_book.specs.Book.{Funds, forgotten_of};
-ghost use Rattle.budget_book.specs.Sales.{committed_of, gone_count};
+ghost use Rattle.budget_book.specs.Sales.{are_settled, committed_of, expired, gone_count};
 
 use crate::ask;
 use crate::words::{campaign_at, number_at, put_mark, word_at};
-use budget_book::{Book, Gone, MOST_SALES, SaleFault, SaleRow, SaleState, UserKey};
+use budget_book::{Book, Gone, MOST_FORGOTTEN, MOST_SALES, SaleFault, SaleRow, SaleState, UserKey};
 use rtb_num::{Nanos, Txt, write_decimal};
 use std::alloc::{AllocError, Global};
 use std::marker::Model;
@@ -117,6 +119,9 @@ impl Shop {
         }
         if name == b"forget".as_slice() {
             return self.forget(number_at(command, 1), out);
+        }
+        if name == b"first".as_slice() {
+            return self.forget_first(number_at(command, 1), number_at(command, 2), out);
         }
         Ok(false)
     }
@@ -238,7 +243,7 @@ impl Shop {
     // Whether the campaign is there, has that much left, and there is room in the list. The price is not 0.
     fn can_pay(&self, c: u32, price: Nanos) -> bool
         ensures there { IsTrue result → (1 ≤ c) × (c ≤ length self.now.campaigns) }
-        ensures few { IsTrue result → length self.now.sales < 4194304 }
+        ensures few { IsTrue result → length self.now.sales < 67108864 }
         ensures free { IsTrue result → (d : Funds) → committed_of c (get_or self.now.campaigns (c - 1) d).gone self.now.sales + price ≤ (get_or self.now.campaigns (c - 1) d).budget }
     {
         if !self.has(c) || self.book.sales() >= MOST_SALES {
@@ -251,6 +256,26 @@ impl Shop {
     fn forget(&mut self, keep: u64, out: &mut Txt) -> Result<bool, AllocError> {
         self.book.forget(keep);
         put_number(self.book.forgotten(), out)
+    }
+
+    fn forget_first(&mut self, count: u64, moment: u64, out: &mut Txt) -> Result<bool, AllocError> {
+        if !self.may_forget(count, moment) {
+            return put_no(out);
+        }
+        self.book.sweep(moment);
+        self.book.forget_first(count);
+        put_number(self.book.forgotten(), out)
+    }
+
+    // Whether so many of the oldest are there, and none of them is held by the moment.
+    fn may_forget(&self, count: u64, moment: u64) -> bool
+        ensures settled { IsTrue result → IsTrue (are_settled count (expired moment self.now.sales)) }
+        ensures few { IsTrue result → forgotten_of self.now.campaigns + count ≤ 2 ^ 62 }
+    {
+        if count > MOST_FORGOTTEN || self.book.forgotten() > MOST_FORGOTTEN - count {
+            return false;
+        }
+        self.book.are_settled_at(count, moment)
     }
 }
 

@@ -1,12 +1,13 @@
 -- The effect of a command, applied again, leads to the state after it.
 use Rattle.std.proofs.Common.{◌≡◌, ℕ, ◌+◌, ◌≤◌, ◌&&◌, not, cond, Bool, true, false, List, [], ◌∷◌, ◌++◌, length, map, refl, sym, ◌∙◌, ap, subst, arith, Option, Some, None, option_to_list}
-use Rattle.std.specs.Prelude.{is_none, nat_le, nat_lt, option_map, option_and_then}
+use Rattle.std.specs.Prelude.{◌≢◌, ◌==◌, ◌-◌, is_none, nat_le, nat_lt, option_map, option_and_then}
 use Rattle.std.specs.Option.{option_or}
-use Rattle.std.proofs.lemmas.Bool.{le-leb, ltb-false}
+use Rattle.std.specs.List.{prefix_len}
+use Rattle.std.proofs.lemmas.Bool.{eqb-false, le-leb, ltb-false}
 use Rattle.budget_book.specs.declared.sales.SaleRow.{SaleRow}
 use Rattle.budget_book.specs.declared.sales.SaleState.{SaleState}
 use Rattle.budget_book.specs.declared.sales.SaleState.TheVariants as state
-use Rattle.budget_book.specs.Sales.{due_count, is_held}
+use Rattle.budget_book.specs.Sales.{are_settled, due_count, forgettable_at_once, is_held, most_forgotten}
 use Rattle.budget_book.proofs.Waiting.{all_expired}
 use Rattle.campaign.specs.declared.parts.FactParts.{FactParts}
 use Rattle.campaign_store.specs.declared.limit.Limit.{Limit}
@@ -21,8 +22,9 @@ use Rattle.plain_exchange.specs.declared.commands.Reply.TheVariants as reply
 use Rattle.plain_exchange.specs.Auction.{Award, awards_of, sales_of}
 use Rattle.plain_exchange.specs.Effects.{all_applied, applied, change_applied, is_within_limits, only_if, state_of, with_changed, with_items, with_paused, with_resumed, with_settled}
 use Rattle.plain_exchange.specs.History.{Call, effects, next, replay}
-use Rattle.plain_exchange.specs.State.{Campaign, State, campaign_at, committed, empty, forgotten, is_any_due, limit_passed, most_sales, sale_numbered, swept, with_campaign, with_campaigns, with_sales}
-use Rattle.plain_exchange.specs.Step.{Transition, add_campaign, at_campaign, at_sale, auction, billed_by, change_campaign, change_of, changing, effect_of, item_of, lost_by, new_campaign, pause_campaign, resume_campaign, sold_change, step, unchanged, with_record, within_limits}
+use Rattle.plain_exchange.specs.declared.settings.Settings.{Settings}
+use Rattle.plain_exchange.specs.State.{Campaign, State, campaign_at, committed, empty, forget_first, forgotten, is_any_due, limit_of, limit_passed, sale_numbered, swept, with_campaign, with_campaigns, with_sales}
+use Rattle.plain_exchange.specs.Step.{Transition, add_campaign, at_campaign, at_sale, auction, billed_by, change_campaign, change_of, changing, effect_of, forget_sales, item_of, lost_by, new_campaign, pause_campaign, resume_campaign, sold_change, step, unchanged, with_record, within_limits}
 use Rattle.plain_exchange.proofs.Cases.{by_option, by_test}
 use Rattle.plain_exchange.proofs.Selling.{awards_sold}
 use Rattle.rtb_types.specs.declared.request.BidRequest.{BidRequest}
@@ -43,13 +45,13 @@ sold_to : (m : ℕ) (s : State) (user : Option (List ℕ)) (items : List SoldIte
 sold_to m s None items = refl
 sold_to m s (Some user) items = refl
 
-auction_made : (ttl m : ℕ) (r : BidRequest) (s : State) (awards : List Award)
-    → (length (swept m s).sales + length awards ≤ most_sales → with_items m (user_of r) (map (item_of ttl m) awards) (swept m s) ≡ Some (with_sales (swept m s) (sales_of ttl m r awards)))
-    → IsTrueTo m s (auction ttl m r (swept m s) awards)
-auction_made ttl m r s [] sold = refl
-auction_made ttl m r s (a ∷ awards) sold = by_test (IsTrueTo m s) (nat_lt most_sales (length (swept m s).sales + length (a ∷ awards))) _ _
+auction_made : (settings : Settings) (m : ℕ) (r : BidRequest) (s : State) (awards : List Award)
+    → (length (swept m s).sales + length awards ≤ limit_of settings → with_items m (user_of r) (map (item_of settings m) awards) (swept m s) ≡ Some (with_sales (swept m s) (sales_of settings m r awards)))
+    → IsTrueTo m s (auction settings m r (swept m s) awards)
+auction_made settings m r s [] sold = refl
+auction_made settings m r s (a ∷ awards) sold = by_test (IsTrueTo m s) (nat_lt (limit_of settings) (length (swept m s).sales + length (a ∷ awards))) _ _
     (λ e. refl)
-    (λ e. sold_to m s (user_of r) (map (item_of ttl m) (a ∷ awards)) ∙ sold (ltb-false most_sales (length (swept m s).sales + length (a ∷ awards)) e))
+    (λ e. sold_to m s (user_of r) (map (item_of settings m) (a ∷ awards)) ∙ sold (ltb-false (limit_of settings) (length (swept m s).sales + length (a ∷ awards)) e))
 
 -- the test is true
 fit : (b : Bool) (s : State) → b ≡ true → only_if b s ≡ Some s
@@ -105,15 +107,31 @@ lose_made m n s sale there state.Billed e = refl
 lose_made m n s sale there state.Lost e = refl
 lose_made m n s sale there state.Expired e = refl
 
-made : (ttl m : ℕ) (s : State) (c : Command) → IsTrueTo m s (step ttl m s c)
-made ttl m s (command.Auction r) = auction_made ttl m r s (awards_of ttl m r (swept m s)) (awards_sold ttl m r (swept m s))
-made ttl m s (command.Add facts expr) = add_made m facts expr s
-made ttl m s (command.Change n facts expr) = at_campaign_made m n s _ (change_made m facts expr n s)
-made ttl m s (command.Pause n) = at_campaign_made m n s _ (pause_made m n s)
-made ttl m s (command.Resume n) = at_campaign_made m n s _ (resume_made m n s)
-made ttl m s (command.Report n) = at_campaign_made m n s _ (λ c e. refl)
-made ttl m s (command.Bill n) = at_sale_made m n s _ (λ sale e. bill_made m n s sale e sale.state refl)
-made ttl m s (command.Lose n) = at_sale_made m n s _ (λ sale e. lose_made m n s sale e sale.state refl)
+-- the oldest, where any may be forgotten
+forget_made : (m keep : ℕ) (s : State) → IsTrueTo m s (forget_sales keep (swept m s))
+forget_made m keep s =
+    let t = swept m s in
+    let n = forgettable_at_once keep (forgotten t) t.sales in
+    by_test (IsTrueTo m s) (n == 0) _ _
+    (λ e. refl)
+    (λ e.
+    let some : n ≢ 0 = eqb-false n 0 e in
+    let same : forgotten t + n - forgotten t ≡ n = omega arith in
+    let few : nat_le (forgotten t + n) most_forgotten ≡ true = le-leb (forgotten t + n) most_forgotten (omega (arith, some)) in
+    let settled : are_settled n t.sales ≡ true = le-leb n (prefix_len (λ (x : SaleRow). not (is_held x.state)) t.sales) (omega arith) in
+    ap (λ d. only_if (nat_le (forgotten t + n) most_forgotten && are_settled d t.sales) (forget_first d t)) same
+    ∙ fit (nat_le (forgotten t + n) most_forgotten && are_settled n t.sales) (forget_first n t) (ap (λ b. b && are_settled n t.sales) few ∙ settled))
+
+made : (settings : Settings) (m : ℕ) (s : State) (c : Command) → IsTrueTo m s (step settings m s c)
+made settings m s (command.Auction r) = auction_made settings m r s (awards_of settings m r (swept m s)) (λ few. awards_sold settings m r (swept m s) (omega (arith, few)))
+made settings m s (command.Add facts expr) = add_made m facts expr s
+made settings m s (command.Change n facts expr) = at_campaign_made m n s _ (change_made m facts expr n s)
+made settings m s (command.Pause n) = at_campaign_made m n s _ (pause_made m n s)
+made settings m s (command.Resume n) = at_campaign_made m n s _ (resume_made m n s)
+made settings m s (command.Report n) = at_campaign_made m n s _ (λ c e. refl)
+made settings m s (command.Bill n) = at_sale_made m n s _ (λ sale e. bill_made m n s sale e sale.state refl)
+made settings m s (command.Lose n) = at_sale_made m n s _ (λ sale e. lose_made m n s sale e sale.state refl)
+made settings m s (command.Forget keep) = forget_made m keep s
 
 -- ---- its effect
 
@@ -140,14 +158,14 @@ effect_leads : (m : ℕ) (s after : State) (o : Option Change) → Leads m s aft
 effect_leads m s after None h = h
 effect_leads m s after (Some c) h = h
 
-pub step_leads : (ttl m : ℕ) (s : State) (c : Command) → EffectLeads s (step ttl m s c).after (effect_of ttl m s c)
-step_leads ttl m s c = effect_leads m s (step ttl m s c).after (change_of ttl m s c) (leads m s (step ttl m s c).after (step ttl m s c).change (made ttl m s c))
+pub step_leads : (settings : Settings) (m : ℕ) (s : State) (c : Command) → EffectLeads s (step settings m s c).after (effect_of settings m s c)
+step_leads settings m s c = effect_leads m s (step settings m s c).after (change_of settings m s c) (leads m s (step settings m s c).after (step settings m s c).change (made settings m s c))
 
-pub effect_applied : (ttl m : ℕ) (s : State) (c : Command) (e : Effect) → effect_of ttl m s c ≡ Some e → applied e s ≡ Some (step ttl m s c).after
-effect_applied ttl m s c e is = subst (EffectLeads s (step ttl m s c).after) is (step_leads ttl m s c)
+pub effect_applied : (settings : Settings) (m : ℕ) (s : State) (c : Command) (e : Effect) → effect_of settings m s c ≡ Some e → applied e s ≡ Some (step settings m s c).after
+effect_applied settings m s c e is = subst (EffectLeads s (step settings m s c).after) is (step_leads settings m s c)
 
-pub nothing_changed : (ttl m : ℕ) (s : State) (c : Command) → effect_of ttl m s c ≡ None → (step ttl m s c).after ≡ s
-nothing_changed ttl m s c is = subst (EffectLeads s (step ttl m s c).after) is (step_leads ttl m s c)
+pub nothing_changed : (settings : Settings) (m : ℕ) (s : State) (c : Command) → effect_of settings m s c ≡ None → (step settings m s c).after ≡ s
+nothing_changed settings m s c is = subst (EffectLeads s (step settings m s c).after) is (step_leads settings m s c)
 
 -- ---- a whole history
 
@@ -163,11 +181,11 @@ with_effect : (s after : State) (o : Option Effect) (rest : List Effect) → Eff
 with_effect s after None rest h = ap (all_applied rest) (sym h)
 with_effect s after (Some e) rest h = ap (option_and_then (all_applied rest)) h
 
-pub history_applied : (ttl : ℕ) (calls : List Call) (s : State) → all_applied (effects ttl s calls) s ≡ Some (replay ttl s calls)
-history_applied ttl [] s = refl
-history_applied ttl (call ∷ calls) s =
-    with_effect s (next ttl s call) (effect_of ttl call.moment s call.command) (effects ttl (next ttl s call) calls) (step_leads ttl call.moment s call.command)
-    ∙ history_applied ttl calls (next ttl s call)
+pub history_applied : (settings : Settings) (calls : List Call) (s : State) → all_applied (effects settings s calls) s ≡ Some (replay settings s calls)
+history_applied settings [] s = refl
+history_applied settings (call ∷ calls) s =
+    with_effect s (next settings s call) (effect_of settings call.moment s call.command) (effects settings (next settings s call) calls) (step_leads settings call.moment s call.command)
+    ∙ history_applied settings calls (next settings s call)
 
-pub replayed : (ttl : ℕ) (opening : List Effect) (s : State) (calls : List Call) → state_of opening ≡ Some s → state_of (opening ++ effects ttl s calls) ≡ Some (replay ttl s calls)
-replayed ttl opening s calls e = all_applied_both opening (effects ttl s calls) empty ∙ ap (option_and_then (all_applied (effects ttl s calls))) e ∙ history_applied ttl calls s
+pub replayed : (settings : Settings) (opening : List Effect) (s : State) (calls : List Call) → state_of opening ≡ Some s → state_of (opening ++ effects settings s calls) ≡ Some (replay settings s calls)
+replayed settings opening s calls e = all_applied_both opening (effects settings s calls) empty ∙ ap (option_and_then (all_applied (effects settings s calls))) e ∙ history_applied settings calls s

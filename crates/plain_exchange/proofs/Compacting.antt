@@ -16,8 +16,8 @@ use Rattle.plain_exchange.specs.Effects.{all_applied, can_keep, can_keep_sale, c
 use Rattle.plain_exchange.specs.State.{Campaign, State, campaign_at, committed, empty, forget, forgotten, free, most_sales, record_of, with_campaigns, with_sales}
 use Rattle.plain_exchange.proofs.Applying.{all_applied_both}
 use Rattle.plain_exchange.proofs.Each.{Each}
-use Rattle.plain_exchange.proofs.Forgetting.{forget_kept}
-use Rattle.plain_exchange.proofs.Keeping.{known_in, made_consistent}
+use Rattle.plain_exchange.proofs.Forgetting.{forget_kept, known_in}
+use Rattle.plain_exchange.proofs.Keeping.{made_consistent}
 use Rattle.plain_exchange.proofs.Money.{taken, taken_by, taken_of_own}
 use Rattle.plain_exchange.proofs.Paying.{found_at}
 use Rattle.plain_exchange.proofs.Places.{numbered}

@@ -5,17 +5,16 @@ use Rattle.std.specs.List.{enumerate_from, prefix_len}
 use Rattle.std.proofs.lemmas.Bool.{and_parts, eq-eqb, false≢true, le-leb, leb-true, lt-leb, ne_eqb, cases_eq, cases_lt}
 use Rattle.std.proofs.lemmas.List.{length-map}
 use Rattle.std.proofs.lemmas.List.FromFn.{length-enumerate_from}
-use Rattle.std.proofs.lemmas.List.Sums.{sum_by-cons, sum_by-take-drop}
+use Rattle.std.proofs.lemmas.List.Sums.{prefix_len-le-length, sum_by-cons, sum_by-take-drop}
 use Rattle.std.proofs.lemmas.Option.{slice_get-map}
 use Rattle.budget_book.specs.declared.sales.SaleRow.{SaleRow}
 use Rattle.budget_book.specs.declared.sales.SaleState.{SaleState}
 use Rattle.budget_book.specs.declared.sales.SaleState.TheVariants.{Held, Billed, Lost, Expired}
-use Rattle.budget_book.specs.Sales.{forgettable, gone_count, is_billed, is_billed_of, is_expired, is_expired_of, is_held, is_lost, is_lost_of, most_forgotten, prices}
+use Rattle.budget_book.specs.Sales.{are_settled, forgettable, gone_count, is_billed, is_billed_of, is_expired, is_expired_of, is_held, is_lost, is_lost_of, most_forgotten, prices}
 use Rattle.campaign_store.specs.Limits.{passed_limit}
 use Rattle.plain_exchange.specs.Consistent.{IsConsistent, is_known}
-use Rattle.plain_exchange.specs.State.{Campaign, State, campaign_at, committed, forget, forgotten, record_of, sale_numbered, with_gone}
-use Rattle.plain_exchange.proofs.Each.{Each, all_of_each, none_some, some_same}
-use Rattle.plain_exchange.proofs.Keeping.{known_in}
+use Rattle.plain_exchange.specs.State.{Campaign, State, campaign_at, committed, forget, forget_first, forgotten, record_of, sale_numbered, with_gone}
+use Rattle.plain_exchange.proofs.Each.{Each, all_of_each, each_of_all, none_some, some_same}
 use Rattle.plain_exchange.proofs.Money.{taken, taken_by}
 use Rattle.plain_exchange.proofs.Places.{at_place, numbered}
 
@@ -125,6 +124,31 @@ all_counted {A} campaigns (sale ∷ sales) known settled =
     let split = sum_joined (λ (p : ℕ × A). settled_count p.0 (sale ∷ sales)) (is_number sale.campaign) (λ (p : ℕ × A). settled_count p.0 sales) (λ p. settled_more p.0 sale sales settled.0) (enumerate_from 1 campaigns) in
     omega (arith, split, met_once sale.campaign 1 campaigns low (omega (arith, high)), all_counted campaigns sales known.1 settled.1)
 
+pub known_in : (s : State) → IsConsistent s → Each (λ sale. is_known (length s.campaigns) sale ≡ true) s.sales
+known_in s h = each_of_all (is_known (length s.campaigns)) s.sales h.known
+
+-- so many of the first sales can be forgotten
+abbrev pub Bounds : ℕ → State → Type 0
+Bounds d s = (d ≤ length s.sales) × (d ≤ most_forgotten - forgotten s) × (d ≤ prefix_len (λ (s : SaleRow). not (is_held s.state)) s.sales)
+
+pub first_settled : (d : ℕ) (s : State) → Bounds d s → AreSettled (take d s.sales)
+first_settled d s h = passes_in_front (λ (s : SaleRow). not (is_held s.state)) s.sales d h.2
+
+first_length : (d : ℕ) (s : State) → Bounds d s → length (take d s.sales) ≡ d
+first_length d s h = omega (arith, length-take d s.sales, h.0)
+
+pub first_counted : (d : ℕ) (s : State) → IsConsistent s → Bounds d s → forgotten (forget_first d s) ≡ forgotten s + d
+first_counted d s h b =
+    let sales = take d s.sales in
+    let split = sum_mapped (λ (c : Campaign). gone_count c.gone) (with_gone sales) (λ (p : ℕ × Campaign). gone_count p.1.gone) (λ (p : ℕ × Campaign). settled_count p.0 sales) (λ p. omega arith) (enumerate_from 1 s.campaigns) in
+    omega (
+      arith,
+      split,
+      sum_numbered (λ (c : Campaign). gone_count c.gone) 1 s.campaigns,
+      all_counted s.campaigns sales (each_taken (λ x. is_known (length s.campaigns) x ≡ true) s.sales d (known_in s h)) (first_settled d s b),
+      first_length d s b,
+    )
+
 -- how many sales are forgotten
 abbrev pub count : ℕ → State → ℕ
 count keep s = forgettable keep (forgotten s) s.sales
@@ -132,26 +156,14 @@ count keep s = forgettable keep (forgotten s) s.sales
 abbrev pub front : ℕ → State → List SaleRow
 front keep s = take (count keep s) s.sales
 
-pub count_bounds : (keep : ℕ) (s : State) → (count keep s ≤ length s.sales) × (count keep s ≤ most_forgotten - forgotten s) × (count keep s ≤ prefix_len (λ (s : SaleRow). not (is_held s.state)) s.sales)
+pub count_bounds : (keep : ℕ) (s : State) → Bounds (count keep s) s
 count_bounds keep s = (omega arith, omega arith, omega arith)
 
 pub front_settled : (keep : ℕ) (s : State) → AreSettled (front keep s)
-front_settled keep s = passes_in_front (λ (s : SaleRow). not (is_held s.state)) s.sales (count keep s) (count_bounds keep s).2
-
-front_length : (keep : ℕ) (s : State) → length (front keep s) ≡ count keep s
-front_length keep s = omega (arith, length-take (count keep s) s.sales, (count_bounds keep s).0)
+front_settled keep s = first_settled (count keep s) s (count_bounds keep s)
 
 pub forgotten_more : (keep : ℕ) (s : State) → IsConsistent s → forgotten (forget keep s) ≡ forgotten s + count keep s
-forgotten_more keep s h =
-    let sales = front keep s in
-    let split = sum_mapped (λ (c : Campaign). gone_count c.gone) (with_gone sales) (λ (p : ℕ × Campaign). gone_count p.1.gone) (λ (p : ℕ × Campaign). settled_count p.0 sales) (λ p. omega arith) (enumerate_from 1 s.campaigns) in
-    omega (
-      arith,
-      split,
-      sum_numbered (λ (c : Campaign). gone_count c.gone) 1 s.campaigns,
-      all_counted s.campaigns sales (each_taken (λ x. is_known (length s.campaigns) x ≡ true) s.sales (count keep s) (known_in s h)) (front_settled keep s),
-      front_length keep s,
-    )
+forgotten_more keep s h = first_counted (count keep s) s h (count_bounds keep s)
 
 -- ---- numbers
 
@@ -224,8 +236,8 @@ all_settled_taken n (sale ∷ sales) h = omega (
 )
 
 -- what is committed stays
-committed_kept : (keep : ℕ) (s : State) (n : ℕ) (c : Campaign) → committed (forget keep s) n (with_gone (front keep s) (n, c)) ≡ committed s n c
-committed_kept keep s n c = omega (arith, all_settled_taken n (front keep s) (front_settled keep s), sum_by-take-drop (taken n) s.sales (count keep s))
+first_committed : (d : ℕ) (s : State) (n : ℕ) (c : Campaign) → Bounds d s → committed (forget_first d s) n (with_gone (take d s.sales) (n, c)) ≡ committed s n c
+first_committed d s n c b = omega (arith, all_settled_taken n (take d s.sales) (first_settled d s b), sum_by-take-drop (taken n) s.sales d)
 
 -- ---- the state
 
@@ -239,40 +251,52 @@ mapped_some f None y e = absurd (none_some y e)
 mapped_some f (Some x) y e = (x, refl, some_same (f x) y e)
 
 -- campaign n is as before but for what is gone
-campaign_before : (keep : ℕ) (s : State) (n : ℕ) (d : Campaign) → campaign_at (forget keep s) n ≡ Some d → (c : Campaign) × (campaign_at s n ≡ Some c) × (with_gone (front keep s) (n, c) ≡ d)
-campaign_before keep s n d there =
-    let place = at_place (forget keep s) n d there in
-    let g = with_gone (front keep s) in
-    let found : option_map g (option_map (λ (x : Campaign). (1 + (n - 1), x)) (slice_get s.campaigns (n - 1))) ≡ Some d =
+campaign_before : (d : ℕ) (s : State) (n : ℕ) (x : Campaign) → campaign_at (forget_first d s) n ≡ Some x → (c : Campaign) × (campaign_at s n ≡ Some c) × (with_gone (take d s.sales) (n, c) ≡ x)
+campaign_before d s n x there =
+    let place = at_place (forget_first d s) n x there in
+    let g = with_gone (take d s.sales) in
+    let found : option_map g (option_map (λ (x : Campaign). (1 + (n - 1), x)) (slice_get s.campaigns (n - 1))) ≡ Some x =
     ap (option_map g) (sym (numbered_at 1 s.campaigns (n - 1))) ∙ sym (slice_get-map g (enumerate_from 1 s.campaigns) (n - 1)) ∙ place.1 in
-    let (p, numbered_p, same) = mapped_some g _ d found in
+    let (p, numbered_p, same) = mapped_some g _ x found in
     let (c, at, pair) = mapped_some (λ (x : Campaign). (1 + (n - 1), x)) (slice_get s.campaigns (n - 1)) p numbered_p in
     let number : 1 + (n - 1) ≡ n = omega (arith, place.0) in
     (c, numbered n (slice_get s.campaigns (n - 1)) c place.0 at, ap (λ (k : ℕ). g (k, c)) (sym number) ∙ ap g pair ∙ same)
 
-pub money_stays : (keep : ℕ) (s : State) (n : ℕ) (before after : Campaign) → campaign_at s n ≡ Some before → campaign_at (forget keep s) n ≡ Some after → committed (forget keep s) n after ≡ committed s n before
-money_stays keep s n before after there there2 =
-    let (c, at, same) = campaign_before keep s n after there2 in
+pub first_money : (d : ℕ) (s : State) (n : ℕ) (before after : Campaign) → Bounds d s → campaign_at s n ≡ Some before → campaign_at (forget_first d s) n ≡ Some after → committed (forget_first d s) n after ≡ committed s n before
+first_money d s n before after b there there2 =
+    let (c, at, same) = campaign_before d s n after there2 in
     let one : c ≡ before = some_same c before (sym at ∙ there) in
-    ap (committed (forget keep s) n) (sym same) ∙ committed_kept keep s n c ∙ ap (committed s n) one
+    ap (committed (forget_first d s) n) (sym same) ∙ first_committed d s n c b ∙ ap (committed s n) one
+
+pub money_stays : (keep : ℕ) (s : State) (n : ℕ) (before after : Campaign) → campaign_at s n ≡ Some before → campaign_at (forget keep s) n ≡ Some after → committed (forget keep s) n after ≡ committed s n before
+money_stays keep s n before after there there2 = first_money (count keep s) s n before after (count_bounds keep s) there there2
 
 records_kept : (sales : List SaleRow) (n : ℕ) (campaigns : List Campaign) → map record_of (map (with_gone sales) (enumerate_from n campaigns)) ≡ map record_of campaigns
 records_kept sales n [] = refl
 records_kept sales n (c ∷ campaigns) = ap (λ l. record_of c ∷ l) (records_kept sales (n + 1) campaigns)
 
-pub forget_kept : (keep : ℕ) (s : State) → IsConsistent s → IsConsistent (forget keep s)
-forget_kept keep s h =
-    let sales = front keep s in
-    let many : length (forget keep s).campaigns ≡ length s.campaigns = length-map (enumerate_from 1 s.campaigns) (with_gone sales) ∙ length-enumerate_from 1 s.campaigns in
-    let bounds = count_bounds keep s in
+pub first_kept : (d : ℕ) (s : State) → IsConsistent s → Bounds d s → IsConsistent (forget_first d s)
+first_kept d s h b =
+    let sales = take d s.sales in
+    let many : length (forget_first d s).campaigns ≡ length s.campaigns = length-map (enumerate_from 1 s.campaigns) (with_gone sales) ∙ length-enumerate_from 1 s.campaigns in
     record {
-      solvent = λ n d there.
-          let (c, at, same) = campaign_before keep s n d there in
-          let paid : committed (forget keep s) n (with_gone sales (n, c)) ≤ c.facts.budget = omega (arith, committed_kept keep s n c, h.solvent n c at) in
-          subst (λ (x : Campaign). committed (forget keep s) n x ≤ x.facts.budget) same paid;
+      solvent = λ n x there.
+          let (c, at, same) = campaign_before d s n x there in
+          let paid : committed (forget_first d s) n (with_gone sales (n, c)) ≤ c.facts.budget = omega (arith, first_committed d s n c b, h.solvent n c at) in
+          subst (λ (x : Campaign). committed (forget_first d s) n x ≤ x.facts.budget) same paid;
       within = ap (λ rs. is_none (passed_limit rs)) (records_kept sales 1 s.campaigns) ∙ h.within;
-      known = all_of_each (is_known (length (forget keep s).campaigns)) (drop (count keep s) s.sales)
-          (subst (λ k. Each (λ x. is_known k x ≡ true) (drop (count keep s) s.sales)) (sym many) (each_dropped (λ x. is_known (length s.campaigns) x ≡ true) s.sales (count keep s) (known_in s h)));
-      few = omega (arith, length-drop (count keep s) s.sales, h.few);
-      few_forgotten = omega (arith, forgotten_more keep s h, bounds.1, h.few_forgotten);
+      known = all_of_each (is_known (length (forget_first d s).campaigns)) (drop d s.sales)
+          (subst (λ k. Each (λ x. is_known k x ≡ true) (drop d s.sales)) (sym many) (each_dropped (λ x. is_known (length s.campaigns) x ≡ true) s.sales d (known_in s h)));
+      few = omega (arith, length-drop d s.sales, h.few);
+      few_forgotten = omega (arith, first_counted d s h b, b.1, h.few_forgotten);
     }
+
+pub forget_kept : (keep : ℕ) (s : State) → IsConsistent s → IsConsistent (forget keep s)
+forget_kept keep s h = first_kept (count keep s) s h (count_bounds keep s)
+
+-- those that an effect takes
+pub settled_bounds : (n : ℕ) (s : State) → nat_le n most_forgotten ≡ true → are_settled (n - forgotten s) s.sales ≡ true → Bounds (n - forgotten s) s
+settled_bounds n s few settled =
+    let low : n ≤ most_forgotten = leb-true n most_forgotten few in
+    let front : n - forgotten s ≤ prefix_len (λ (s : SaleRow). not (is_held s.state)) s.sales = leb-true (n - forgotten s) (prefix_len (λ (s : SaleRow). not (is_held s.state)) s.sales) settled in
+    (omega (arith, front, prefix_len-le-length (λ (s : SaleRow). not (is_held s.state)) s.sales), omega (arith, low), front)

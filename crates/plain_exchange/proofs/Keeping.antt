@@ -10,7 +10,7 @@ use Rattle.std.proofs.lemmas.Option.{option_and_then_some, slice_get_within}
 use Rattle.budget_book.specs.declared.sales.SaleRow.{SaleRow}
 use Rattle.budget_book.specs.declared.sales.SaleState.{SaleState}
 use Rattle.budget_book.specs.declared.sales.SaleState.TheVariants as state
-use Rattle.budget_book.specs.Sales.{committed_of, expired, expired_at, gone_count, in_state, is_held, most_forgotten}
+use Rattle.budget_book.specs.Sales.{are_settled, committed_of, expired, expired_at, gone_count, in_state, is_held, most_forgotten}
 use Rattle.campaign_store.specs.Limits.{passed_limit}
 use Rattle.campaign.specs.declared.parts.FactParts.{FactParts}
 use Rattle.plain_exchange.specs.declared.changes.Change.{Change}
@@ -22,10 +22,12 @@ use Rattle.plain_exchange.specs.declared.commands.Command.{Command}
 use Rattle.plain_exchange.specs.Consistent.{IsConsistent, is_known}
 use Rattle.plain_exchange.specs.Effects.{all_applied, applied, campaign_of, can_keep, can_keep_sale, can_pay, change_applied, charge_of, has_room, is_within_limits, on_sale, only_if, sale_by, state_of, with_added, with_changed, with_items, with_kept, with_kept_sale, with_paused, with_resumed, with_settled}
 use Rattle.plain_exchange.specs.History.{Call, next, replay}
-use Rattle.plain_exchange.specs.State.{Campaign, State, campaign_at, committed, empty, forgotten, free, is_any_due, most_sales, record_of, sale_numbered, swept, with_campaign, with_campaigns, with_sale, with_sales}
+use Rattle.plain_exchange.specs.declared.settings.Settings.{Settings}
+use Rattle.plain_exchange.specs.State.{Campaign, State, campaign_at, committed, empty, forget_first, forgotten, free, is_any_due, most_sales, record_of, sale_numbered, swept, with_campaign, with_campaigns, with_sale, with_sales}
 use Rattle.plain_exchange.specs.Step.{effect_of, new_campaign, step, with_live, with_record}
 use Rattle.plain_exchange.proofs.Applying.{EffectLeads, step_leads}
 use Rattle.plain_exchange.proofs.Each.{Each, all_of_each, each_append, each_mapped, each_of_all, none_some, some_same}
+use Rattle.plain_exchange.proofs.Forgetting.{first_kept, known_in, settled_bounds}
 use Rattle.plain_exchange.proofs.Money.{less_when_expired, less_when_settled, none_taken, taken, taken_by, taken_of_other, taken_of_own}
 use Rattle.plain_exchange.proofs.Places.{at_place, each_at, each_replaced, map_kept, pushed, replaced, numbered, same_number, sum_kept}
 use Rattle.plain_exchange.proofs.Selling.{fold_keeps}
@@ -33,9 +35,6 @@ use Rattle.target_expr.specs.declared.pred.Pred.{Pred}
 
 abbrev pub AreKnown : State → List SaleRow → Type 0
 AreKnown s sales = Each (λ sale. is_known (length s.campaigns) sale ≡ true) sales
-
-pub known_in : (s : State) → IsConsistent s → AreKnown s s.sales
-known_in s h = each_of_all (is_known (length s.campaigns)) s.sales h.known
 
 -- ---- as many sales, of which none takes more
 
@@ -241,6 +240,11 @@ change_kept (change.Resumed n) m s u h e =
     subst IsConsistent (fitted (not c.live) (with_campaign (swept m s) n (with_live true c)) u k).1 (live_kept true n (swept m s) c (swept_kept m s h) there))
 change_kept (change.Billed n) m s u h e = settled_once state.Billed n (swept m s) u (swept_kept m s h) e
 change_kept (change.Lost n) m s u h e = settled_once state.Lost n (swept m s) u (swept_kept m s h) e
+change_kept (change.Forgot n) m s u h e =
+    let t = swept m s in
+    let fit = fitted (nat_le n most_forgotten && are_settled (n - forgotten t) t.sales) (forget_first (n - forgotten t) t) u e in
+    let parts = and_parts (nat_le n most_forgotten) (are_settled (n - forgotten t) t.sales) fit.0 in
+    subst IsConsistent fit.1 (first_kept (n - forgotten t) t (swept_kept m s h) (settled_bounds n t parts.0 parts.1))
 change_kept (change.Kept k) m s u h e = kept_kept k s u h (chosen (eqb m 0) (with_kept k s) u e).1
 change_kept (change.KeptSale sale) m s u h e = kept_sale_kept sale s u h (chosen (eqb m 0) (with_kept_sale sale s) u e).1
 
@@ -270,8 +274,8 @@ by_effect : (s after : State) (o : Option Effect) → IsConsistent s → EffectL
 by_effect s after None h e = subst IsConsistent (sym e) h
 by_effect s after (Some ef) h e = applied_kept ef s after h e
 
-pub step_kept : (ttl m : ℕ) (s : State) (c : Command) → IsConsistent s → IsConsistent (step ttl m s c).after
-step_kept ttl m s c h = by_effect s (step ttl m s c).after (effect_of ttl m s c) h (step_leads ttl m s c)
+pub step_kept : (settings : Settings) (m : ℕ) (s : State) (c : Command) → IsConsistent s → IsConsistent (step settings m s c).after
+step_kept settings m s c h = by_effect s (step settings m s c).after (effect_of settings m s c) h (step_leads settings m s c)
 
-pub replay_kept : (ttl : ℕ) (s : State) (calls : List Call) → IsConsistent s → IsConsistent (replay ttl s calls)
-replay_kept ttl s calls h = fold_keeps IsConsistent (next ttl) (λ t call k. step_kept ttl call.moment t call.command k) calls s h
+pub replay_kept : (settings : Settings) (s : State) (calls : List Call) → IsConsistent s → IsConsistent (replay settings s calls)
+replay_kept settings s calls h = fold_keeps IsConsistent (next settings) (λ t call k. step_kept settings call.moment t call.command k) calls s h

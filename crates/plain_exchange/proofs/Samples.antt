@@ -12,6 +12,7 @@ use Rattle.plain_exchange.specs.declared.commands.Command.TheVariants as command
 use Rattle.plain_exchange.specs.declared.commands.Reply.{Reply}
 use Rattle.plain_exchange.specs.declared.commands.Reply.TheVariants as reply
 use Rattle.plain_exchange.specs.declared.commands.Sold.{Sold}
+use Rattle.plain_exchange.specs.declared.settings.Settings.{Settings}
 use Rattle.plain_exchange.specs.State.{State}
 use Rattle.plain_exchange.specs.Step.{step}
 use Rattle.rtb_types.specs.declared.request.BidRequest.{BidRequest}
@@ -43,6 +44,7 @@ brief (reply.Resumed n) = (codes "resumed", n ∷ [])
 brief (reply.Reported n live bid budget totals) = (codes "reported", totals_in totals)
 brief (reply.Billed sale) = (codes "billed", sale ∷ [])
 brief (reply.Lost sale) = (codes "lost", sale ∷ [])
+brief (reply.Trimmed sales forgotten) = (codes "trimmed", sales ∷ forgotten ∷ [])
 brief reply.NoSuchCampaign = (codes "no such campaign", [])
 brief reply.NoSuchSale = (codes "no such sale", [])
 brief reply.WasLost = (codes "was lost", [])
@@ -52,18 +54,21 @@ brief reply.Forgotten = (codes "forgotten", [])
 brief (reply.BelowCommitted committed) = (codes "below committed", committed ∷ [])
 brief (reply.Full limit) = (codes "full", [])
 
--- ---- commands at their moments, with a ttl of five minutes
+-- ---- commands at their moments, with sales that are held for five minutes
+
+abbrev pub settings : Settings
+settings = record { ttl = 300000; limit = 4194304 }
 
 abbrev pub Timed : Type 0
 Timed = ℕ × Command
 
 abbrev pub replies : State → List Timed → List Brief
 replies s [] = []
-replies s (t ∷ ts) = brief (step 300000 t.0 s t.1).reply ∷ replies (step 300000 t.0 s t.1).after ts
+replies s (t ∷ ts) = brief (step settings t.0 s t.1).reply ∷ replies (step settings t.0 s t.1).after ts
 
 abbrev pub after : State → List Timed → State
 after s [] = s
-after s (t ∷ ts) = after (step 300000 t.0 s t.1).after ts
+after s (t ∷ ts) = after (step settings t.0 s t.1).after ts
 
 -- ---- campaigns
 

@@ -14,7 +14,7 @@ use Rattle.plain_exchange.specs.declared.commands.Reply.TheVariants as reply
 use Rattle.plain_exchange.specs.Effects.{edits, fits, kept_effects, state_of}
 use Rattle.plain_exchange.specs.State.{State, empty}
 use Rattle.plain_exchange.specs.Step.{effect_of, none_gone, step}
-use Rattle.plain_exchange.proofs.Samples.{after, capped_facts, cars_facts, imp_of, on_news, one_sale, read, shoes_facts, wants_all}
+use Rattle.plain_exchange.proofs.Samples.{after, capped_facts, cars_facts, imp_of, on_news, one_sale, read, settings, shoes_facts, wants_all}
 
 abbrev before : State
 before = after empty one_sale
@@ -31,28 +31,28 @@ dealt = command.Auction (on_news (record (imp_of 900000000) { secure = true } �
 abbrev dealer : State
 dealer = after empty ((0, command.Add (record cars_facts { deals = codes "d0" ∷ codes "d1" ∷ [] }) wants_all) ∷ [])
 
-sold_in_a_deal : (step 300000 7 dealer dealt).reply
+sold_in_a_deal : (step settings 7 dealer dealt).reply
     ≡ reply.Sold (record { imp = 1; sale = 1; price = 400000; deal = Some (codes "d1"); campaign = 1; «record» = record { facts = record cars_facts { deals = codes "d0" ∷ codes "d1" ∷ [] }; expr = wants_all } } ∷ [])
 unfolding offers_of common_rules public_rules terms_of user_of pairs_of site_rows app_rows publisher_of geo_rows device_rows user_rows imp_rows
 sold_in_a_deal = refl
 
 -- ---- effects
 
-effect_of_a_sale_to_nobody : effect_of 300000 7 dealer dealt ≡ Some (record { moment = 7; change = change.Sold (record { campaign = 1; price = 400000; due = 300007 } ∷ []) })
+effect_of_a_sale_to_nobody : effect_of settings 7 dealer dealt ≡ Some (record { moment = 7; change = change.Sold (record { campaign = 1; price = 400000; due = 300007 } ∷ []) })
 unfolding offers_of common_rules public_rules terms_of user_of pairs_of site_rows app_rows publisher_of geo_rows device_rows user_rows imp_rows
 effect_of_a_sale_to_nobody = refl
 
-effect_of_a_sale_to_a_user : effect_of 300000 1000 before read ≡ Some (record { moment = 1000; change = change.SoldTo (codes "55816b39") (record { campaign = 1; price = 1010000; due = 301000 } ∷ []) })
+effect_of_a_sale_to_a_user : effect_of settings 1000 before read ≡ Some (record { moment = 1000; change = change.SoldTo (codes "55816b39") (record { campaign = 1; price = 1010000; due = 301000 } ∷ []) })
 unfolding offers_of common_rules public_rules terms_of user_of pairs_of site_rows app_rows publisher_of geo_rows device_rows user_rows imp_rows
 effect_of_a_sale_to_a_user = refl
 
 -- pausing twice has one effect
-effect_of_a_pause : (effect_of 300000 1000 before (command.Pause 1) ∷ effect_of 300000 1000 (after before ((1000, command.Pause 1) ∷ [])) (command.Pause 1) ∷ []) ≡ Some (record { moment = 1000; change = change.Paused 1 }) ∷ None ∷ []
+effect_of_a_pause : (effect_of settings 1000 before (command.Pause 1) ∷ effect_of settings 1000 (after before ((1000, command.Pause 1) ∷ [])) (command.Pause 1) ∷ []) ≡ Some (record { moment = 1000; change = change.Paused 1 }) ∷ None ∷ []
 unfolding offers_of common_rules public_rules terms_of user_of pairs_of site_rows app_rows publisher_of geo_rows device_rows user_rows imp_rows
 effect_of_a_pause = refl
 
 -- sale 1 has expired at that moment; it is not billed, but swept
-effect_of_a_refusal : effect_of 300000 301000 before (command.Bill 1) ≡ Some (record { moment = 301000; change = change.Swept })
+effect_of_a_refusal : effect_of settings 301000 before (command.Bill 1) ≡ Some (record { moment = 301000; change = change.Swept })
 unfolding offers_of common_rules public_rules terms_of user_of pairs_of site_rows app_rows publisher_of geo_rows device_rows user_rows imp_rows
 effect_of_a_refusal = refl
 

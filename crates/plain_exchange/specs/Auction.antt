@@ -14,6 +14,7 @@ use Rattle.clearing.specs.Clearing.{outcome}
 use Rattle.deal_rules.specs.Offers.{offers_of}
 use Rattle.deal_rules.specs.Rules.{Opportunity, opportunity_of}
 use Rattle.deal_rules.specs.Terms.{terms_of, user_of}
+use Rattle.plain_exchange.specs.declared.settings.Settings.{Settings}
 use Rattle.plain_exchange.specs.State.{Campaign, State, free, with_sales}
 use Rattle.rtb_types.specs.declared.request.BidRequest.{BidRequest}
 use Rattle.rtb_types.specs.declared.request.Imp.{Imp}
@@ -53,16 +54,16 @@ abbrev pub due_at : ℕ → ℕ → ℕ
 due_at ttl moment = min (moment + ttl) (2 ^ 64 - 1)
 
 -- One impression at p micro-dollars per thousand costs p nano-dollars.
-abbrev pub sale_of : ℕ → ℕ → BidRequest → Award → SaleRow
-sale_of ttl moment r a = record { campaign = a.1.campaign; price = a.1.price; moment = moment; due = due_at ttl moment; state = Held; user = user_of r }
+abbrev pub sale_of : Settings → ℕ → BidRequest → Award → SaleRow
+sale_of settings moment r a = record { campaign = a.1.campaign; price = a.1.price; moment = moment; due = due_at settings.ttl moment; state = Held; user = user_of r }
 
-abbrev pub sales_of : ℕ → ℕ → BidRequest → List Award → List SaleRow
-sales_of ttl moment r awards = map (sale_of ttl moment r) awards
+abbrev pub sales_of : Settings → ℕ → BidRequest → List Award → List SaleRow
+sales_of settings moment r awards = map (sale_of settings moment r) awards
 
 -- the awards, and that of the next impression where somebody wins it beside the sales of these awards
-abbrev pub award_next : ℕ → ℕ → BidRequest → State → List Award → ℕ × Imp → List Award
-award_next ttl moment r s awards p = awards ++ option_to_list (option_map (λ (w : Win). (p.0, w)) (win (with_sales s (sales_of ttl moment r awards)) r p.1 moment))
+abbrev pub award_next : Settings → ℕ → BidRequest → State → List Award → ℕ × Imp → List Award
+award_next settings moment r s awards p = awards ++ option_to_list (option_map (λ (w : Win). (p.0, w)) (win (with_sales s (sales_of settings moment r awards)) r p.1 moment))
 
 -- the awards of all impressions, in their order
-abbrev pub awards_of : ℕ → ℕ → BidRequest → State → List Award
-awards_of ttl moment r s = fold (award_next ttl moment r s) [] (enumerate_from 0 r.imps)
+abbrev pub awards_of : Settings → ℕ → BidRequest → State → List Award
+awards_of settings moment r s = fold (award_next settings moment r s) [] (enumerate_from 0 r.imps)

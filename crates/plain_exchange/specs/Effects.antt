@@ -1,18 +1,18 @@
 -- Effects: what each does to the state, and a state as a list of effects. An effect that does not fit the
 -- state has no result.
-use Rattle.std.specs.Prelude.{ℕ, ◌+◌, ◌==◌, ◌&&◌, ◌||◌, nat_le, nat_lt, not, if◌then◌else◌, List, [], ◌∷◌, ◌++◌, length, map, Bool, true, false, Option, Some, None, option_and_then, is_none, is_some, sum_by}
+use Rattle.std.specs.Prelude.{ℕ, ◌+◌, ◌-◌, ◌==◌, ◌&&◌, ◌||◌, nat_le, nat_lt, not, if◌then◌else◌, List, [], ◌∷◌, ◌++◌, length, map, Bool, true, false, Option, Some, None, option_and_then, is_none, is_some, sum_by}
 use Rattle.std.specs.Option.{option_map_or}
 use Rattle.budget_book.specs.declared.sales.SaleRow.{SaleRow}
 use Rattle.budget_book.specs.declared.sales.SaleState.{SaleState}
 use Rattle.budget_book.specs.declared.sales.SaleState.TheVariants as state
-use Rattle.budget_book.specs.Sales.{gone_count, in_state, is_held, is_billed, most_forgotten}
+use Rattle.budget_book.specs.Sales.{are_settled, gone_count, in_state, is_held, is_billed, most_forgotten}
 use Rattle.campaign.specs.declared.parts.FactParts.{FactParts}
 use Rattle.plain_exchange.specs.declared.changes.Change.{Change}
 use Rattle.plain_exchange.specs.declared.changes.Change.TheVariants as change
 use Rattle.plain_exchange.specs.declared.changes.Effect.{Effect}
 use Rattle.plain_exchange.specs.declared.changes.KeptCampaign.{KeptCampaign}
 use Rattle.plain_exchange.specs.declared.changes.SoldItem.{SoldItem}
-use Rattle.plain_exchange.specs.State.{Campaign, State, campaign_at, committed, empty, forgotten, free, is_any_due, limit_passed, most_sales, sale_numbered, swept, with_campaign, with_campaigns, with_sale, with_sales}
+use Rattle.plain_exchange.specs.State.{Campaign, State, campaign_at, committed, empty, forget_first, forgotten, free, is_any_due, limit_passed, most_sales, sale_numbered, swept, with_campaign, with_campaigns, with_sale, with_sales}
 use Rattle.plain_exchange.specs.Step.{new_campaign, with_live, with_record}
 use Rattle.target_expr.specs.declared.pred.Pred.{Pred}
 
@@ -60,6 +60,12 @@ with_resumed n s c = only_if (not c.live) (with_campaign s n (with_live true c))
 abbrev pub with_settled : SaleState → ℕ → State → SaleRow → Option State
 with_settled to n s sale = only_if (is_held sale.state) (with_sale s n (in_state to sale))
 
+-- ---- the oldest sales are forgotten
+
+-- those up to the number are there, and none of them is held; where so many are forgotten already nothing is
+abbrev pub with_forgotten : ℕ → State → Option State
+with_forgotten n s = only_if (nat_le n most_forgotten && are_settled (n - forgotten s) s.sales) (forget_first (n - forgotten s) s)
+
 -- ---- campaigns and sales of a compacted journal
 
 abbrev pub campaign_of : KeptCampaign → Campaign
@@ -102,6 +108,7 @@ change_applied (change.Paused n) moment s = on_campaign n (with_paused n) (swept
 change_applied (change.Resumed n) moment s = on_campaign n (with_resumed n) (swept moment s)
 change_applied (change.Billed n) moment s = on_sale n (with_settled state.Billed n) (swept moment s)
 change_applied (change.Lost n) moment s = on_sale n (with_settled state.Lost n) (swept moment s)
+change_applied (change.Forgot n) moment s = with_forgotten n (swept moment s)
 change_applied (change.Kept k) moment s = if moment == 0 then with_kept k s else None
 change_applied (change.KeptSale sale) moment s = if moment == 0 then with_kept_sale sale s else None
 
@@ -147,6 +154,7 @@ edits_in (change.Paused n) = 1
 edits_in (change.Resumed n) = 1
 edits_in (change.Billed n) = 0
 edits_in (change.Lost n) = 0
+edits_in (change.Forgot n) = 0
 edits_in (change.Kept k) = edits_of_kept k
 edits_in (change.KeptSale sale) = 0
 

@@ -4,6 +4,7 @@ use Rattle.std.specs.Prelude.{◌≡◌, ℕ, List, [], ◌∷◌, ◌++◌, fol
 use Rattle.plain_exchange.specs.declared.changes.Effect.{Effect}
 use Rattle.plain_exchange.specs.declared.commands.Command.{Command}
 use Rattle.plain_exchange.specs.declared.commands.Reply.{Reply}
+use Rattle.plain_exchange.specs.declared.settings.Settings.{Settings}
 use Rattle.plain_exchange.specs.State.{State}
 use Rattle.plain_exchange.specs.Step.{effect_of, step}
 
@@ -15,18 +16,18 @@ pub record Call : Type 0 where
   pub reply : Reply
 
 -- the state after one call, and after all
-abbrev pub next : ℕ → State → Call → State
-next ttl s call = (step ttl call.moment s call.command).after
+abbrev pub next : Settings → State → Call → State
+next settings s call = (step settings call.moment s call.command).after
 
-abbrev pub replay : ℕ → State → List Call → State
-replay ttl s calls = fold (next ttl) s calls
+abbrev pub replay : Settings → State → List Call → State
+replay settings s calls = fold (next settings) s calls
 
 -- each reply is the one that the step gives at its place
-abbrev pub IsLegal : ℕ → State → List Call → Type 0
-IsLegal ttl s [] = Unit {0}
-IsLegal ttl s (call ∷ calls) = (call.reply ≡ (step ttl call.moment s call.command).reply) × IsLegal ttl (next ttl s call) calls
+abbrev pub IsLegal : Settings → State → List Call → Type 0
+IsLegal settings s [] = Unit {0}
+IsLegal settings s (call ∷ calls) = (call.reply ≡ (step settings call.moment s call.command).reply) × IsLegal settings (next settings s call) calls
 
 -- the effects, at most one a call
-abbrev pub effects : ℕ → State → List Call → List Effect
-effects ttl s [] = []
-effects ttl s (call ∷ calls) = option_to_list (effect_of ttl call.moment s call.command) ++ effects ttl (next ttl s call) calls
+abbrev pub effects : Settings → State → List Call → List Effect
+effects settings s [] = []
+effects settings s (call ∷ calls) = option_to_list (effect_of settings call.moment s call.command) ++ effects settings (next settings s call) calls

@@ -1,6 +1,6 @@
 -- The state of an exchange: a list of campaigns and a list of sales, both numbered from 1. Nothing else is
 -- in it. Moments are in milliseconds, and money is in nano-dollars.
-use Rattle.std.specs.Prelude.{ℕ, ◌-◌, ◌==◌, nat_lt, if◌then◌else◌, List, [], ◌++◌, map, take, drop, Bool, Option, None, slice_get, slice_set, sum_by}
+use Rattle.std.specs.Prelude.{ℕ, ◌-◌, ◌==◌, nat_lt, min, if◌then◌else◌, List, [], ◌++◌, map, take, drop, Bool, Option, None, slice_get, slice_set, sum_by}
 use Rattle.std.specs.List.{enumerate_from}
 use Rattle.budget_book.specs.declared.sales.Gone.{Gone}
 use Rattle.budget_book.specs.declared.sales.SaleRow.{SaleRow}
@@ -10,6 +10,7 @@ use Rattle.campaign.specs.declared.parts.FactParts.{FactParts}
 use Rattle.campaign_store.specs.declared.limit.Limit.{Limit}
 use Rattle.campaign_store.specs.declared.record.Record.{Record}
 use Rattle.campaign_store.specs.Limits.{passed_limit}
+use Rattle.plain_exchange.specs.declared.settings.Settings.{Settings}
 use Rattle.target_expr.specs.declared.pred.Pred.{Pred}
 
 -- what the advertiser states, whom it wants to reach, whether it buys now (live) or is paused, and what is
@@ -84,9 +85,13 @@ record_of c = record { facts = c.facts; expr = c.expr }
 abbrev pub limit_passed : State → Option Limit
 limit_passed s = passed_limit (map record_of s.campaigns)
 
--- the most sales in the list
+-- the most sales that a list may have at all
 abbrev pub most_sales : ℕ
-most_sales = 4194304
+most_sales = 67108864
+
+-- the most sales that auctions bring it to
+abbrev pub limit_of : Settings → ℕ
+limit_of settings = min settings.limit most_sales
 
 -- ---- forgetting the oldest sales
 

@@ -6,7 +6,7 @@ use Rattle.budget_book.specs.declared.sales.Gone.{Gone}
 use Rattle.budget_book.specs.declared.sales.SaleRow.{SaleRow}
 use Rattle.budget_book.specs.declared.sales.SaleState.{SaleState}
 use Rattle.budget_book.specs.declared.sales.SaleState.TheVariants as state
-use Rattle.budget_book.specs.Sales.{in_state}
+use Rattle.budget_book.specs.Sales.{forgettable_at_once, in_state}
 use Rattle.campaign.specs.declared.parts.FactParts.{FactParts}
 use Rattle.campaign_store.specs.declared.limit.Limit.TheVariants.{Sales}
 use Rattle.deal_rules.specs.Terms.{user_of}
@@ -19,8 +19,9 @@ use Rattle.plain_exchange.specs.declared.commands.Command.TheVariants as command
 use Rattle.plain_exchange.specs.declared.commands.Reply.{Reply}
 use Rattle.plain_exchange.specs.declared.commands.Reply.TheVariants as reply
 use Rattle.plain_exchange.specs.declared.commands.Sold.{Sold}
+use Rattle.plain_exchange.specs.declared.settings.Settings.{Settings}
 use Rattle.plain_exchange.specs.Auction.{Award, awards_of, due_at, sales_of}
-use Rattle.plain_exchange.specs.State.{Campaign, State, campaign_at, committed, forgotten, is_any_due, limit_passed, most_sales, record_of, sale_numbered, swept, totals, with_campaign, with_campaigns, with_sale, with_sales}
+use Rattle.plain_exchange.specs.State.{Campaign, State, campaign_at, committed, forget_first, forgotten, is_any_due, limit_of, limit_passed, record_of, sale_numbered, swept, totals, with_campaign, with_campaigns, with_sale, with_sales}
 use Rattle.rtb_types.specs.declared.request.BidRequest.{BidRequest}
 use Rattle.rtb_types.specs.declared.request.Deal.{Deal}
 use Rattle.rtb_types.specs.declared.request.Imp.{Imp}
@@ -52,23 +53,23 @@ sold_as s r p = option_map (λ (c : Campaign). record { imp = p.1.0; sale = p.0;
 abbrev pub all_sold_as : State → BidRequest → List Award → List Sold
 all_sold_as s r awards = filter_map (sold_as s r) (enumerate_from (forgotten s + length s.sales + 1) awards)
 
-abbrev pub item_of : ℕ → ℕ → Award → SoldItem
-item_of ttl moment a = record { campaign = a.1.campaign; price = a.1.price; due = due_at ttl moment }
+abbrev pub item_of : Settings → ℕ → Award → SoldItem
+item_of settings moment a = record { campaign = a.1.campaign; price = a.1.price; due = due_at settings.ttl moment }
 
 -- sold to the user, where there is one
 abbrev pub sold_change : Option (List ℕ) → List SoldItem → Change
 sold_change None items = change.Sold items
 sold_change (Some user) items = change.SoldTo user items
 
--- all is sold, or nothing where the list would be too long
-abbrev pub sell : ℕ → ℕ → BidRequest → State → List Award → Transition
-sell ttl moment r s awards = if nat_lt most_sales (length s.sales + length awards)
+-- all is sold, or nothing where the list would be longer than it is to be
+abbrev pub sell : Settings → ℕ → BidRequest → State → List Award → Transition
+sell settings moment r s awards = if nat_lt (limit_of settings) (length s.sales + length awards)
     then unchanged s (reply.Full Sales)
-    else changing (with_sales s (sales_of ttl moment r awards)) (reply.Sold (all_sold_as s r awards)) (sold_change (user_of r) (map (item_of ttl moment) awards))
+    else changing (with_sales s (sales_of settings moment r awards)) (reply.Sold (all_sold_as s r awards)) (sold_change (user_of r) (map (item_of settings moment) awards))
 
-abbrev pub auction : ℕ → ℕ → BidRequest → State → List Award → Transition
-auction ttl moment r s [] = unchanged s reply.NoBid
-auction ttl moment r s (a ∷ awards) = sell ttl moment r s (a ∷ awards)
+abbrev pub auction : Settings → ℕ → BidRequest → State → List Award → Transition
+auction settings moment r s [] = unchanged s reply.NoBid
+auction settings moment r s (a ∷ awards) = sell settings moment r s (a ∷ awards)
 
 -- ---- campaigns
 
@@ -137,26 +138,41 @@ bill_sale n s sale = billed_by sale.state n s sale
 abbrev pub lose_sale : ℕ → State → SaleRow → Transition
 lose_sale n s sale = lost_by sale.state n s sale
 
+-- ---- forgetting
+
+-- how many sales are left in the list without the first n, and how many are forgotten then
+abbrev pub trimmed : ℕ → State → Reply
+trimmed n s = reply.Trimmed (length s.sales - n) (forgotten s + n)
+
+-- the first n sales are forgotten; where that is none nothing changes
+abbrev pub trim : ℕ → State → Transition
+trim n s = if n == 0 then unchanged s (trimmed n s) else changing (forget_first n s) (trimmed n s) (change.Forgot (forgotten s + n))
+
+-- the oldest that are not held, up to the first that is, so that so many are left, and no more than 16,384 at once
+abbrev pub forget_sales : ℕ → State → Transition
+forget_sales keep s = trim (forgettable_at_once keep (forgotten s) s.sales) s
+
 -- ---- the step
 
 -- what the command does to a state in which no held sale is due
-abbrev pub perform : ℕ → ℕ → State → Command → Transition
-perform ttl moment s (command.Auction r) = auction ttl moment r s (awards_of ttl moment r s)
-perform ttl moment s (command.Add facts expr) = add_campaign facts expr s
-perform ttl moment s (command.Change n facts expr) = at_campaign s n (change_campaign facts expr n s)
-perform ttl moment s (command.Pause n) = at_campaign s n (pause_campaign n s)
-perform ttl moment s (command.Resume n) = at_campaign s n (resume_campaign n s)
-perform ttl moment s (command.Report n) = at_campaign s n (report_campaign n s)
-perform ttl moment s (command.Bill n) = at_sale s n (bill_sale n s)
-perform ttl moment s (command.Lose n) = at_sale s n (lose_sale n s)
+abbrev pub perform : Settings → ℕ → State → Command → Transition
+perform settings moment s (command.Auction r) = auction settings moment r s (awards_of settings moment r s)
+perform settings moment s (command.Add facts expr) = add_campaign facts expr s
+perform settings moment s (command.Change n facts expr) = at_campaign s n (change_campaign facts expr n s)
+perform settings moment s (command.Pause n) = at_campaign s n (pause_campaign n s)
+perform settings moment s (command.Resume n) = at_campaign s n (resume_campaign n s)
+perform settings moment s (command.Report n) = at_campaign s n (report_campaign n s)
+perform settings moment s (command.Bill n) = at_sale s n (bill_sale n s)
+perform settings moment s (command.Lose n) = at_sale s n (lose_sale n s)
+perform settings moment s (command.Forget keep) = forget_sales keep s
 
 -- held sales that are due expire first
-abbrev pub step : ℕ → ℕ → State → Command → Transition
-step ttl moment s command = perform ttl moment (swept moment s) command
+abbrev pub step : Settings → ℕ → State → Command → Transition
+step settings moment s command = perform settings moment (swept moment s) command
 
 -- the command's own change, or else that sales expired, or none
-abbrev pub change_of : ℕ → ℕ → State → Command → Option Change
-change_of ttl moment s command = option_or (step ttl moment s command).change (if is_any_due moment s then Some change.Swept else None)
+abbrev pub change_of : Settings → ℕ → State → Command → Option Change
+change_of settings moment s command = option_or (step settings moment s command).change (if is_any_due moment s then Some change.Swept else None)
 
-abbrev pub effect_of : ℕ → ℕ → State → Command → Option Effect
-effect_of ttl moment s command = option_map (λ c. record { moment = moment; change = c }) (change_of ttl moment s command)
+abbrev pub effect_of : Settings → ℕ → State → Command → Option Effect
+effect_of settings moment s command = option_map (λ c. record { moment = moment; change = c }) (change_of settings moment s command)

@@ -49,6 +49,8 @@ pub enum Change {
     Lost(u64),
     /// Sold to a user.
     SoldTo(Txt, List<SoldItem>),
+    /// The oldest sales were forgotten, until so many are in all.
+    Forgot(u64),
     /// A campaign of a compacted journal. No command makes one.
     Kept(KeptCampaign),
     /// A sale of a compacted journal. No command makes one.
@@ -62,7 +64,7 @@ impl Change {
         ensures bound { result ≤ 2 }
     {
         match self {
-            Change::Swept | Change::Billed(_) | Change::Lost(_) => 0,
+            Change::Swept | Change::Billed(_) | Change::Lost(_) | Change::Forgot(_) => 0,
             Change::Sold(_) | Change::SoldTo(_, _) => 0,
             Change::Added(_, _) | Change::Changed(_, _, _) => 1,
             Change::Paused(_) | Change::Resumed(_) => 1,

@@ -20,6 +20,8 @@ pub enum Command {
     Bill(u64),
     /// It was not.
     Lose(u64),
+    /// The oldest sales are forgotten, so that at least so many are left.
+    Forget(u64),
 }
 
 /// A sold impression.
@@ -68,6 +70,11 @@ pub enum Reply {
     },
     Lost {
         sale: u64,
+    },
+    /// How many sales the list has left, and how many are forgotten in all.
+    Trimmed {
+        sales: u64,
+        forgotten: u64,
     },
     NoSuchCampaign,
     NoSuchSale,

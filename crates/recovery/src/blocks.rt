@@ -22,7 +22,7 @@ pub(crate) fn apply_block(
 ) -> Result<(), JournalFault>
     ensures follows { Follows gate payload.now core.old core.new result }
     ensures led { IsLed core.old → OnOk result (IsLed core.new) }
-    ensures ttl { core.new.ttl ≡ core.old.ttl }
+    ensures settings { core.new.settings ≡ core.old.settings }
 {
     match decode(alloc, payload) {
         Ok(effects) => {
@@ -45,7 +45,7 @@ fn apply_all(alloc: Global, effects: &[Effect], core: &mut Core) -> Result<(), A
     ensures edits { OnOk result (core.new.edits ≡ core.old.edits + edits effects.now) }
     ensures few { core.old.edits ≤ 2 ^ 61 → core.new.edits ≤ 2 ^ 61 }
     ensures unfit { result ≡ Err ApplyFault.Unfit → all_applied effects.now core.old.state ≡ None }
-    ensures ttl { core.new.ttl ≡ core.old.ttl }
+    ensures settings { core.new.settings ≡ core.old.settings }
 {
     for effect in effects {
         apply_one(alloc, effect, core)?;
@@ -59,7 +59,7 @@ fn apply_one(alloc: Global, effect: &Effect, core: &mut Core) -> Result<(), Appl
     ensures edits { OnOk result (core.new.edits ≡ core.old.edits + edits_in effect.now.change) }
     ensures few { core.old.edits ≤ 2 ^ 61 → core.new.edits ≤ 2 ^ 61 }
     ensures unfit { result ≡ Err ApplyFault.Unfit → applied effect.now core.old.state ≡ None }
-    ensures ttl { core.new.ttl ≡ core.old.ttl }
+    ensures settings { core.new.settings ≡ core.old.settings }
 {
     let edits = u64::from(effect.change.edits());
     if core.table().edits() > MOST_EDITS - edits {

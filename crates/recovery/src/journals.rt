@@ -15,18 +15,20 @@ use rtb_disk::Disk;
 use std::alloc::Global;
 
 /// Opens the journal on the disk: gives the journal behind its last block, and the exchange that it says, where
-/// a sale is held for `ttl` milliseconds. A creation that was not finished is completed; else nothing is written.
+/// a sale is held for `ttl` milliseconds and auctions bring the list of sales to `limit` at most. A creation that was not
+/// finished is completed; else nothing is written.
 /// A file that is refused, as one of another kind, is not changed: it is synced at most.
 pub fn open<D: Disk>(
     alloc: Global,
     disk: D,
     ttl: u64,
+    limit: u64,
 ) -> Result<(Journal<D>, Core), (D, JournalFault)>
     // The exchange is what the effects of the file's payloads lead to, and every image of the journal has these
     // payloads.
     ensures opened { (D.store disk).told ≡ true → MatchResult result (λ r. IsMadeBy (AreKept (D.store disk).reads r.0) r.1) (λ e. Opens (D.store disk).reads (Err e.1)) }
     ensures state { (D.store disk).told ≡ true → IfOk result (λ r. GivesState (D.store disk).reads r.1.state) }
-    ensures ttl { IfOk result (λ r. r.1.ttl ≡ ttl) }
+    ensures settings { IfOk result (λ r. r.1.settings ≡ record { ttl = ttl; limit = limit }) }
     ensures whole { IfOk result (λ r. is_broken r.0 ≡ false) }
     // A crash at any moment behind the first sync leaves a file that says the same.
     ensures any_moment { (D.store disk).told ≡ true → (effects : List Effect) → HasText (D.store disk).reads effects → MatchResult result
@@ -38,7 +40,7 @@ pub fn open<D: Disk>(
     ensures quiet { MatchResult result (λ r. faults_of r.0 ≡ D.faults disk) (λ e. e.1 ≢ JournalFault.DiskFailed → D.faults e.0 ≡ D.faults disk) }
 {
     match Reading::start(disk) {
-        Ok(reading) => open_from(alloc, reading, ttl),
+        Ok(reading) => open_from(alloc, reading, ttl, limit),
         Err(refused) => Err(refused),
     }
 }
@@ -48,12 +50,13 @@ pub fn open_from<D: Disk>(
     alloc: Global,
     reading: Reading<D>,
     ttl: u64,
+    limit: u64,
 ) -> Result<(Journal<D>, Core), (D, JournalFault)>
     ensures opened { IsAtStart reading → MatchResult result (λ r. IsMadeBy (AreKept (reads_of reading) r.0) r.1) (λ e. Opens (reads_of reading) (Err e.1)) }
     ensures state { IsAtStart reading → IfOk result (λ r. GivesState (reads_of reading) r.1.state) }
     // Also where the disk is not told: some effects lead to the exchange, and they are not too many.
     ensures led { IfOk result (λ r. IsLed r.1) }
-    ensures ttl { IfOk result (λ r. r.1.ttl ≡ ttl) }
+    ensures settings { IfOk result (λ r. r.1.settings ≡ record { ttl = ttl; limit = limit }) }
     ensures whole { IfOk result (λ r. is_broken r.0 ≡ false) }
     ensures any_moment { IsAtStart reading → (effects : List Effect) → HasText (reads_of reading) effects → MatchResult result
         (λ r. Always (λ image. HasText image effects) (store_read reading) (store_of r.0))
@@ -63,7 +66,7 @@ pub fn open_from<D: Disk>(
     ensures quiet { HasNotFailed reading → MatchResult result (λ r. faults_of r.0 ≡ faults_read reading) (λ e. e.1 ≢ JournalFault.DiskFailed → D.faults e.0 ≡ faults_read reading) }
 {
     let mut reading = reading;
-    match replay(alloc, &mut reading, ttl) {
+    match replay(alloc, &mut reading, ttl, limit) {
         Ok(core) => match reading.finish() {
             Ok(journal) => Ok((journal, core)),
             Err(failed) => {

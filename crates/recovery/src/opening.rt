@@ -12,7 +12,8 @@ use rtb_disk::Disk;
 use rtb_num::Txt;
 use std::alloc::Global;
 
-/// The exchange that the journal gives, where a sale is held for `ttl` milliseconds: reads a journal from its
+/// The exchange that the journal gives, where a sale is held for `ttl` milliseconds and auctions bring the list of sales to
+/// `limit` at most: reads a journal from its
 /// start to its end, and carries out the effects of each block. Writes nothing.
 ///
 /// A block whose payload is no list of effects, or has one that does not fit, is damaged at its gate.
@@ -20,17 +21,18 @@ pub fn replay<D: Disk>(
     alloc: Global,
     reading: &mut Reading<D>,
     ttl: u64,
+    limit: u64,
 ) -> Result<Core, JournalFault>
     ensures opened { IsAtStart reading.old → Opens (reads_of reading.old) result }
     // And which effects these are, with the payloads that `finish` hands to the journal.
     ensures made { IsAtStart reading.old → IfOk result (IsMadeBy (IsAtEnd reading.new)) }
     ensures led { IfOk result IsLed }
     ensures ended { OnOk result (has_ended reading.new ≡ true) }
-    ensures ttl { IfOk result (λ core. core.ttl ≡ ttl) }
+    ensures settings { IfOk result (λ core. core.settings ≡ record { ttl = ttl; limit = limit }) }
     ensures same { store_read reading.new ≡ store_read reading.old }
     ensures cause { HasNotFailed reading.old → RisesOnlyWhere (result ≡ Err JournalFault.DiskFailed) (faults_read reading.old) (faults_read reading.new) }
 {
-    let mut core = Core::new(alloc, ttl);
+    let mut core = Core::new(alloc, ttl, limit);
     let done = apply_blocks(alloc, reading, &mut core);
     unless_faulty(core, done)
 }
@@ -45,7 +47,7 @@ fn apply_blocks<D: Disk>(
     ensures made { IsMadeBy (IsWithin reading.old) core.old → OnOk result (IsMadeBy (IsAtEnd reading.new) core.new) }
     ensures led { IsLed core.old → OnOk result (IsLed core.new) }
     ensures ended { OnOk result (has_ended reading.new ≡ true) }
-    ensures ttl { core.new.ttl ≡ core.old.ttl }
+    ensures settings { core.new.settings ≡ core.old.settings }
     ensures same { store_read reading.new ≡ store_read reading.old }
     ensures cause { HasNotFailed reading.old → RisesOnlyWhere (result ≡ Err JournalFault.DiskFailed) (faults_read reading.old) (faults_read reading.new) }
 {
@@ -81,7 +83,7 @@ fn apply_next<D: Disk>(
     ensures turns { IsMadeBy (IsWithin reading.old) core.old → Turns reading.old reading.new core.new result }
     ensures led { IsLed core.old → OnOk result (IsLed core.new) }
     ensures ended { result ≡ Ok false → has_ended reading.new ≡ true }
-    ensures ttl { core.new.ttl ≡ core.old.ttl }
+    ensures settings { core.new.settings ≡ core.old.settings }
     ensures same { store_read reading.new ≡ store_read reading.old }
     ensures cause { HasNotFailed reading.old → RisesOnlyWhere (result ≡ Err JournalFault.DiskFailed) (faults_read reading.old) (faults_read reading.new) }
     ensures intact { HasNotFailed reading.old → OnOk result (HasNotFailed reading.new) }

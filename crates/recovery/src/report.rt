@@ -53,8 +53,8 @@ fn tell_counts<D: Disk>(
     ensures same { store_read reading.new ≡ store_read reading.old }
     ensures cause { HasNotFailed reading.old → RisesOnlyWhere (result ≡ Err JournalFault.DiskFailed) (faults_read reading.old) (faults_read reading.new) }
 {
-    // No sale is made, so that it is all one how long one would be held.
-    let core = replay(alloc, reading, 0)?;
+    // No sale is made, so that it is all one how long one would be held, and how many there may be.
+    let core = replay(alloc, reading, 0, 0)?;
     let counts = Counts::of(&core);
     drop(core);
     counts.put(out)?;

@@ -187,7 +187,7 @@ impl Shop {
     // Whether the campaign is there, has that much left, and there is room in the list. The price is not 0.
     fn can_pay(&self, c: u32, price: Nanos) -> bool
         ensures there { IsTrue result → (1 ≤ c) × (c ≤ length self.now.campaigns) }
-        ensures few { IsTrue result → length self.now.sales < 4194304 }
+        ensures few { IsTrue result → length self.now.sales < 67108864 }
         ensures free { IsTrue result → (d : Funds) → committed_of c (get_or self.now.campaigns (c - 1) d).gone self.now.sales + price ≤ (get_or self.now.campaigns (c - 1) d).budget }
     {
         if c < 1 || self.campaigns < c || self.book.sales() >= MOST_SALES {

@@ -21,6 +21,8 @@ use worker_pool::serve_doors;
 // How long a sale is held, in milliseconds.
 const TTL: u64 = 1_000;
 
+const SALES: u64 = 4_194_304;
+
 // The most workers.
 const MOST: usize = 64;
 
@@ -145,7 +147,7 @@ fn serve_disk<'a, R: Threads + Wait + Sync, L: Ledger>(
     requires some { 0 < blank.parts }
 {
     let mut steps = Steps::<L>::new(blank);
-    match Exchange::start(alloc, disk, TTL, &mut steps) {
+    match Exchange::start(alloc, disk, TTL, SALES, &mut steps) {
         Ok((exchange, seat)) => serve_all(threads, alloc, public, exchange, seat, doors, line),
         Err(refused) => {
             drop(refused);

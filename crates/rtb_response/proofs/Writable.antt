@@ -35,6 +35,7 @@ answers_are_writable request public (reply.Resumed n) = at_200 _
 answers_are_writable request public (reply.Reported n live bid budget totals) = at_200 _
 answers_are_writable request public (reply.Billed sale) = at_200 _
 answers_are_writable request public (reply.Lost sale) = at_200 _
+answers_are_writable request public (reply.Trimmed sales forgotten) = at_200 _
 answers_are_writable request public reply.NoSuchCampaign = at_404 _
 answers_are_writable request public reply.NoSuchSale = at_404 _
 answers_are_writable request public reply.WasLost = at_409 _

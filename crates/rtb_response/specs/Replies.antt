@@ -34,6 +34,10 @@ campaign_answer status n = object_answer status (number_member (codes "campaign"
 abbrev pub sale_answer : ℕ → List ℕ → Answer
 sale_answer n state = object_answer 200 (number_member (codes "sale") n ∷ text_member (codes "state") state ∷ [])
 
+-- how many sales are left in the list, and how many are forgotten in all
+abbrev pub trimmed_answer : ℕ → ℕ → Answer
+trimmed_answer sales forgotten = object_answer 200 (number_member (codes "sales") sales ∷ number_member (codes "forgotten") forgotten ∷ [])
+
 abbrev pub error_answer : ℕ → List ℕ → List Member → Answer
 error_answer status word ms = object_answer status (text_member (codes "error") word ∷ ms)
 
@@ -79,6 +83,7 @@ answer_of request public (reply.Resumed n) = campaign_answer 200 n
 answer_of request public (reply.Reported n live bid budget totals) = object_answer 200 (report_members n live bid budget totals)
 answer_of request public (reply.Billed sale) = sale_answer sale (codes "billed")
 answer_of request public (reply.Lost sale) = sale_answer sale (codes "lost")
+answer_of request public (reply.Trimmed sales forgotten) = trimmed_answer sales forgotten
 answer_of request public reply.NoSuchCampaign = error_answer 404 (codes "no-such-campaign") []
 answer_of request public reply.NoSuchSale = error_answer 404 (codes "no-such-sale") []
 answer_of request public reply.WasLost = error_answer 409 (codes "was-lost") []

@@ -5,7 +5,7 @@ ghost use Rattle.http_wire.specs.Answers.{IsWritable};
 ghost use Rattle.json_out.specs.Inside.{in_object, put_members};
 ghost use Rattle.json_out.specs.Writer.{blank, can_end, end, is_whole, takes_name};
 ghost use Rattle.rtb_num.specs.Amounts.{nanos_text};
-ghost use Rattle.rtb_response.specs.Replies.{answer as answer_with, answer_of, campaign_answer, error_answer, limit_word, object_answer, report_members, sale_answer, state_of, totals_members};
+ghost use Rattle.rtb_response.specs.Replies.{answer as answer_with, answer_of, campaign_answer, error_answer, limit_word, object_answer, report_members, sale_answer, state_of, totals_members, trimmed_answer};
 ghost use Rattle.rtb_response.specs.Response.{response_text, text_member};
 
 use crate::response::write_response;
@@ -46,6 +46,7 @@ pub fn write_reply(
         } => report_reply(alloc, *n, *live, *bid, *budget, totals),
         Reply::Billed { sale } => sale_reply(alloc, *sale, b"billed"),
         Reply::Lost { sale } => sale_reply(alloc, *sale, b"lost"),
+        Reply::Trimmed { sales, forgotten } => trimmed_reply(alloc, *sales, *forgotten),
         Reply::NoSuchCampaign => error_reply(alloc, 404, b"no-such-campaign"),
         Reply::NoSuchSale => error_reply(alloc, 404, b"no-such-sale"),
         Reply::WasLost => error_reply(alloc, 409, b"was-lost"),
@@ -134,6 +135,26 @@ fn put_sale(writer: &mut Writer, sale: u64, state: &[u8]) -> Result<(), AllocErr
     writer.obj()?;
     writer.put_number(b"sale", sale)?;
     writer.put_text(b"state", state)?;
+    Ok(())
+}
+
+fn trimmed_reply(alloc: Global, sales: u64, forgotten: u64) -> Result<Answer, AllocError>
+    ensures { IfOk result (λ a. a ≡ trimmed_answer sales forgotten) }
+{
+    let mut writer = Writer::with_room(alloc, FEW);
+    let done = put_trimmed(&mut writer, sales, forgotten);
+    closed(200, writer, done)
+}
+
+fn put_trimmed(writer: &mut Writer, sales: u64, forgotten: u64) -> Result<(), AllocError>
+    requires { writer.old ≡ blank }
+    ensures ends { OnOk result (IsTrue (can_end writer.new)) }
+    ensures whole { OnOk result (IsTrue (is_whole (end writer.new))) }
+    ensures value { OnOk result (answer_with 200 (end writer.new).text ≡ trimmed_answer sales forgotten) }
+{
+    writer.obj()?;
+    writer.put_number(b"sales", sales)?;
+    writer.put_number(b"forgotten", forgotten)?;
     Ok(())
 }
 

@@ -19,7 +19,7 @@ use Rattle.rtb_base.specs.Faults.{Rose, RoseBy}
 use Rattle.rtb_disk.specs.Stores.{EachImage, Store}
 use Rattle.rtb_disk.specs.declared.disk.Disk.{Ghosts as DiskGhosts}
 use Rattle.run_commands.specs.Serve.{EndsBehind, IsIdle, IsRun, first_line}
-use Rattle.run_commands.specs.Served.{IsWritten}
+use Rattle.run_commands.specs.Served.{IsWritten, settings_of}
 use Rattle.run_words.specs.declared.serve.ServeOptions.{ServeOptions}
 use Rattle.worker_pool.specs.Pools.{AreServed, BreaksOff, EndsAs, History, KeepsBudgets, LeaveAs}
 use Rattle.worker_pool.specs.declared.pool.PoolEnd.{PoolEnd}
@@ -52,12 +52,12 @@ rose_since past b rising =
     rose_then past.origin.faults (faults_told past.origin b.front) (faults_told past.origin past.seen) (faults_later past.origin [] b.front (rising_front past.origin b.front b.behind whole)) b.rose
 
 module _ {Disk Door Link : Type 0} (G : DiskGhosts Disk) (H : DoorGhosts Door Link) (K : LinkGhosts Link) (options : ServeOptions) where
-  pub is_idle : (disk disk' : Disk) (o : Origin) (past : History) → IsOriginOver (G.store disk) (G.faults disk) options.ttl o → past.origin ≡ o → past.seen ≡ []
+  pub is_idle : (disk disk' : Disk) (o : Origin) (past : History) → IsOriginOver (G.store disk) (G.faults disk) (settings_of options) o → past.origin ≡ o → past.seen ≡ []
       → IsLegalFrom past.origin (calls past.seen) → KeepsBudgets past → IsOrdered past.origin past.seen → SaysFronts (G.store disk') past → SaysSomes (G.store disk') past → G.faults disk' ≡ faults_told past.origin past.seen → RoseBy (failures past.seen) past.origin.faults (G.faults disk')
       → IsIdle G H K options disk disk' past
   is_idle disk disk' o past begins origin none legal budgets order crash since faults counted = record {
     served = record {
-      begins = subst (λ (x : Origin). IsOriginOver (G.store disk) (G.faults disk) options.ttl x) (sym origin) begins;
+      begins = subst (λ (x : Origin). IsOriginOver (G.store disk) (G.faults disk) (settings_of options) x) (sym origin) begins;
       legal = legal;
       budgets = budgets;
       order = order;
@@ -71,14 +71,14 @@ module _ {Disk Door Link : Type 0} (G : DiskGhosts Disk) (H : DoorGhosts Door Li
   }
 
   pub is_run : (disk disk' : Disk) (doors doors' : List Door) (o : Origin) (past : History) (end : PoolEnd) (before announced written' : Option (List ℕ)) (code : ℕ)
-      → IsOriginOver (G.store disk) (G.faults disk) options.ttl o → past.origin ≡ o → IsLegalFrom past.origin (calls past.seen) → KeepsBudgets past → IsOrdered past.origin past.seen
+      → IsOriginOver (G.store disk) (G.faults disk) (settings_of options) o → past.origin ≡ o → IsLegalFrom past.origin (calls past.seen) → KeepsBudgets past → IsOrdered past.origin past.seen
       → AreServed K (rtb options.public) past (map H.held doors) (map H.held doors') → SaysFronts (G.store disk') past → SaysSomes (G.store disk') past → G.faults disk' ≡ faults_told past.origin past.seen → RoseBy (failures past.seen) past.origin.faults (G.faults disk')
       → LeaveAs H.faults H.held doors doors' end → EndsAs past (map H.faults doors) (map H.faults doors') end
       → Appends before announced (first_line options) → EndsBehind end announced written' code
       → IsRun G H K options disk disk' doors doors' past before written' code
   is_run disk disk' doors doors' o past end before announced written' code begins origin legal budgets order answers crash since faults counted left why line ends = record {
     served = record {
-      begins = subst (λ (x : Origin). IsOriginOver (G.store disk) (G.faults disk) options.ttl x) (sym origin) begins;
+      begins = subst (λ (x : Origin). IsOriginOver (G.store disk) (G.faults disk) (settings_of options) x) (sym origin) begins;
       legal = legal;
       budgets = budgets;
       order = order;

@@ -8,12 +8,17 @@ use Rattle.exchange_state.specs.Tickets.{IsLegalFrom, effects_after}
 use Rattle.exchange_state.specs.Views.{calls, failures, faults_told}
 use Rattle.link_door.specs.declared.door.Door.{Ghosts as DoorGhosts}
 use Rattle.link_door.specs.declared.link.Link.{Ghosts as LinkGhosts}
+use Rattle.plain_exchange.specs.declared.settings.Settings.{Settings}
 use Rattle.recovery.specs.Texts.{HasText}
 use Rattle.rtb_base.specs.Faults.{RoseBy}
 use Rattle.rtb_disk.specs.Stores.{EachImage, Store}
 use Rattle.rtb_disk.specs.declared.disk.Disk.{Ghosts as DiskGhosts}
 use Rattle.run_words.specs.declared.serve.ServeOptions.{ServeOptions}
 use Rattle.worker_pool.specs.Pools.{AreServed, History, KeepsBudgets}
+
+-- for how long a sale is held, and how many are kept in the list
+abbrev pub settings_of : ServeOptions → Settings
+settings_of options = record { ttl = options.ttl; limit = options.sales }
 
 -- a crash now leaves the effects that the exchange was opened with, and all that came since
 abbrev pub IsWritten : Store → History → Type 0
@@ -26,7 +31,7 @@ module _ {Disk Door Link : Type 0} (G : DiskGhosts Disk) (H : DoorGhosts Door Li
   -- effects that came since, which has each that is durable; at each moment since the opening it left such a front. The disk's
   -- count rose by each write that failed, and is what the history tells last.
   pub record IsServed (disk disk' : Disk) (doors doors' : List Door) (past : History) : Type 0 where
-    pub begins : IsOriginOver (G.store disk) (G.faults disk) options.ttl past.origin
+    pub begins : IsOriginOver (G.store disk) (G.faults disk) (settings_of options) past.origin
     pub legal : IsLegalFrom past.origin (calls past.seen)
     pub budgets : KeepsBudgets past
     pub order : IsOrdered past.origin past.seen

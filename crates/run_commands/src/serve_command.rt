@@ -14,6 +14,7 @@ ghost use Rattle.rtb_io.specs.declared.status.Status.TheVariants.{NotWritten};
 ghost use Rattle.run_commands.specs.Given.{GivesJournal, GivesNoJournal};
 ghost use Rattle.worker_pool.specs.Pools.{KeepsBudgets};
 ghost use Rattle.run_commands.specs.Serve.{Announces, EndsBehind, EndsWithoutDoors, IsRefused, IsRun, Serves, first_line, workers_of};
+ghost use Rattle.run_commands.specs.Served.{settings_of};
 
 use crate::journals::end_at;
 use crate::outcome::Outcome;
@@ -147,7 +148,7 @@ fn serve_disk<'a, W: World, P: Pause + Sync, K: Sink, R: Threads + Wait + Sync>(
     ensures other { result.other ≡ None }
     ensures cause { RisesOnlyWhere (result.status ≡ code_of NotWritten) (K.faults sink.old) (K.faults sink.new) }
 {
-    match open::<W::Disk, Brand>(tools.alloc, disk, tools.options.ttl, Blank::new(1)) {
+    match open::<W::Disk, Brand>(tools.alloc, disk, tools.options, Blank::new(1)) {
         Ok((exchange, seat)) => serve_exchange(tools, world, sink, exchange, seat),
         Err((disk, fault)) => {
             let status = end_at(tools.alloc, fault, sink);
@@ -160,7 +161,7 @@ fn serve_disk<'a, W: World, P: Pause + Sync, K: Sink, R: Threads + Wait + Sync>(
 fn open<D: Disk, L: Ledger>(
     alloc: Global,
     disk: D,
-    ttl: u64,
+    options: &ServeOptions,
     blank: Blank,
 ) -> Result<(Exchange<D>, Seat<D>), (D, JournalFault)>
     requires name { blank.name ≡ L.name }
@@ -168,11 +169,11 @@ fn open<D: Disk, L: Ledger>(
     requires some { 0 < blank.parts }
     ensures first { IfOk result (λ r. r.1 ≡ first_seat (lock_of r.0) r.1.origin) }
     ensures seat { IfOk result (λ r. MayCall (lock_of r.0) r.1) }
-    ensures origin { IfOk result (λ r. IsOriginOver (D.store disk) (D.faults disk) ttl r.1.origin) }
+    ensures origin { IfOk result (λ r. IsOriginOver (D.store disk) (D.faults disk) (settings_of options.now) r.1.origin) }
     ensures refused { IfErr result (λ e. IsRefused ⟦<D as Disk>⟧ disk e.0 e.1) }
 {
     let mut steps = Steps::<L>::new(blank);
-    Exchange::start(alloc, disk, ttl, &mut steps)
+    Exchange::start(alloc, disk, options.ttl, options.sales, &mut steps)
 }
 
 // The same, with the exchange that was opened from the disk.
@@ -187,7 +188,7 @@ fn serve_exchange<'a, W: World, P: Pause + Sync, K: Sink, R: Threads + Wait + Sy
     requires seat { MayCall (lock_of exchange) seat }
     requires first { seat ≡ first_seat (lock_of exchange) seat.origin }
     ensures serves { (before : W) (disk : W.Disk) → GivesJournal ⟦<W as World>⟧ ⟦<W::Disk as Disk>⟧ tools.now.options.now.existing tools.now.options.now.journal before world.old disk
-        → IsOriginOver (W.Disk.store disk) (W.Disk.faults disk) tools.now.options.now.ttl seat.origin
+        → IsOriginOver (W.Disk.store disk) (W.Disk.faults disk) (settings_of tools.now.options.now) seat.origin
         → Serves ⟦<W as World>⟧ ⟦<W::Disk as Disk>⟧ ⟦<W::Door as Door>⟧ ⟦<<W::Door as Door>::Link as Link>⟧ tools.now.options.now before world.new (K.written sink.old) (K.written sink.new) result.status result.doors result.disk result.past }
     ensures other { result.other ≡ None }
     ensures cause { RisesOnlyWhere (result.status ≡ code_of NotWritten) (K.faults sink.old) (K.faults sink.new) }
@@ -273,7 +274,7 @@ fn announce<
     requires first { seat ≡ first_seat (lock_of exchange) seat.origin }
     requires some { 0 < length doors }
     requires few { length doors < 2 ^ 32 }
-    ensures announces { (disk : D) → IsOriginOver (D.store disk) (D.faults disk) tools.now.options.now.ttl seat.origin
+    ensures announces { (disk : D) → IsOriginOver (D.store disk) (D.faults disk) (settings_of tools.now.options.now) seat.origin
         → Announces ⟦<D as Disk>⟧ ⟦<G as Door>⟧ ⟦<<G as Door>::Link as Link>⟧ tools.now.options.now disk result.disk doors result.doors result.past (K.written sink.old) (K.written sink.new) (code_of result.status) }
     ensures cause { RisesOnlyWhere (result.status ≡ NotWritten) (K.faults sink.old) (K.faults sink.new) }
 {
@@ -310,7 +311,7 @@ fn serve_all<
     requires first { seat ≡ first_seat (lock_of exchange) seat.origin }
     requires some { 0 < length doors }
     requires few { length doors < 2 ^ 32 }
-    ensures run { (disk : D) (before : Option (List ℕ)) → IsOriginOver (D.store disk) (D.faults disk) tools.now.options.now.ttl seat.origin → Appends before (K.written sink.old) (first_line tools.now.options.now)
+    ensures run { (disk : D) (before : Option (List ℕ)) → IsOriginOver (D.store disk) (D.faults disk) (settings_of tools.now.options.now) seat.origin → Appends before (K.written sink.old) (first_line tools.now.options.now)
         → IsRun ⟦<D as Disk>⟧ ⟦<G as Door>⟧ ⟦<<G as Door>::Link as Link>⟧ tools.now.options.now disk result.disk doors result.doors result.past before (K.written sink.new) (code_of result.status) }
     ensures cause { RisesOnlyWhere (result.status ≡ NotWritten) (K.faults sink.old) (K.faults sink.new) }
 {

@@ -26,11 +26,11 @@ flag_rule name = record (new_rule name) { long = Some name; action = Some SetTru
 abbrev pub number_between : ℕ → ℕ → Text → Text → Rule
 number_between least most default name = record (new_rule name) { long = Some name; defaults = default ∷ []; parser = Some (parser.Unsigned least most) }
 
--- `serve --listen A --journal P --existing --public U --workers N --ttl T --patience W`, with N from 1 to 64, T from 1 to a year and
--- W from 1 to an hour, in milliseconds
+-- `serve --listen A --journal P --existing --public U --workers N --ttl T --sales L --patience W`, with N from 1 to 64, L
+-- from 1 to 67,108,864, and T from 1 to a year and W from 1 to an hour, in milliseconds
 abbrev pub serve_app : App
-serve_app = with_rule (with_rule (with_rule (with_rule (with_rule (with_rule (with_rule (new_app (codes "serve")) (required (codes "listen"))) (required (codes "journal"))) (flag_rule (codes "existing"))) (required (codes "public"))) (number_between 1 64 (codes "4") (codes "workers")))
-    (number_between 1 31536000000 (codes "300000") (codes "ttl"))) (number_between 1 3600000 (codes "60000") (codes "patience"))
+serve_app = with_rule (with_rule (with_rule (with_rule (with_rule (with_rule (with_rule (with_rule (new_app (codes "serve")) (required (codes "listen"))) (required (codes "journal"))) (flag_rule (codes "existing"))) (required (codes "public"))) (number_between 1 64 (codes "4") (codes "workers")))
+    (number_between 1 31536000000 (codes "300000") (codes "ttl"))) (number_between 1 67108864 (codes "4194304") (codes "sales"))) (number_between 1 3600000 (codes "60000") (codes "patience"))
 
 -- `recover --journal P`
 abbrev pub recover_app : App
@@ -59,10 +59,11 @@ number_parser = parser.Unsigned 0 (2 ^ 64 - 1)
 abbrev pub number_in : Text → Option ℕ
 number_in text = if accepts false number_parser text then Some (digits_value 10 (without_leading_plus text)) else None
 
--- how many workers, for how many milliseconds a sale is held, and for how many a link waits for its peer
-abbrev pub serve_numbers : List Row → Option (ℕ × ℕ × ℕ)
-serve_numbers rows = option_and_then (λ workers. option_and_then (λ ttl. option_map (λ patience. (workers, ttl, patience)) (number_in (text_of (codes "patience") rows)))
-    (number_in (text_of (codes "ttl") rows))) (number_in (text_of (codes "workers") rows))
+-- how many workers, for how many milliseconds a sale is held, how many sales the list has at most, and for how many
+-- milliseconds a link waits for its peer
+abbrev pub serve_numbers : List Row → Option (ℕ × ℕ × ℕ × ℕ)
+serve_numbers rows = option_and_then (λ workers. option_and_then (λ ttl. option_and_then (λ sales. option_map (λ patience. (workers, ttl, sales, patience)) (number_in (text_of (codes "patience") rows)))
+    (number_in (text_of (codes "sales") rows))) (number_in (text_of (codes "ttl") rows))) (number_in (text_of (codes "workers") rows))
 
 -- Port 0 is none to listen at: nobody is told where the system then listens. And no bidder reaches a notice whose
 -- address begins with no scheme and host.
@@ -74,7 +75,8 @@ serve_of rows = if has_port_0 (text_of (codes "listen") rows) then None else (if
   public = text_of (codes "public") rows;
   workers = numbers.0;
   ttl = numbers.1;
-  patience = numbers.2;
+  sales = numbers.2;
+  patience = numbers.3;
 }) (serve_numbers rows))
 
 abbrev pub recover_of : List Row → RecoverOptions

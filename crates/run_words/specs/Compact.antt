@@ -6,9 +6,9 @@ use Rattle.clap.specs.Words.{App, Row, Text, new_app, with_rule}
 use Rattle.run_words.specs.Commands.{given_by, number_between, number_in, required, text_of}
 use Rattle.run_words.specs.declared.compact.CompactOptions.{CompactOptions}
 
--- `compact --journal P --into Q --keep K`, with K up to as many sales as an exchange keeps in its list
+-- `compact --journal P --into Q --keep K`, with K up to as many sales as a list may have at all
 abbrev pub compact_app : App
-compact_app = with_rule (with_rule (with_rule (new_app (codes "compact")) (required (codes "journal"))) (required (codes "into"))) (number_between 0 4194304 (codes "1000000") (codes "keep"))
+compact_app = with_rule (with_rule (with_rule (new_app (codes "compact")) (required (codes "journal"))) (required (codes "into"))) (number_between 0 67108864 (codes "1000000") (codes "keep"))
 
 -- a journal is not written over itself
 abbrev pub compact_of : List Row → Option CompactOptions

@@ -69,10 +69,10 @@ const JOURNAL_HELP: &str = "The file that keeps the exchange, as exchange.journa
 const INTO_HELP: &str =
     "The file to write, as compacted.journal: a new one, or one that a compaction left unfinished";
 
-/// As many as an exchange keeps in its list.
-const MAX_KEEP: u64 = 4_194_304;
+/// As many as a list may have at all.
+const MAX_KEEP: u64 = 67_108_864;
 
-const KEEP_HELP: &str = "How many of the latest sales stay in any case, as 1000000, up to 4194304";
+const KEEP_HELP: &str = "How many of the latest sales stay in any case, as 1000000, up to 67108864";
 
 /// The command, as `clap` reads it.
 pub(crate) fn compact_command<'a>(alloc: Global) -> Result<Command<'a>, AllocError>
@@ -87,7 +87,7 @@ pub(crate) fn compact_command<'a>(alloc: Global) -> Result<Command<'a>, AllocErr
 
 // How many sales stay: a million, where it is not given.
 fn keep_option<'a>(alloc: Global) -> Arg<'a>
-    ensures rule { rule_of result ≡ number_between 0 4194304 (codes "1000000") (codes "keep") }
+    ensures rule { rule_of result ≡ number_between 0 67108864 (codes "1000000") (codes "keep") }
     ensures local { result.global ≡ false }
 {
     number_option(alloc, "keep", 0, MAX_KEEP, "1000000", KEEP_HELP)

@@ -29,6 +29,8 @@ pub struct ServeOptions {
     pub workers: u64,
     /// How many milliseconds a sale is held: 1 to 31,536,000,000, a year.
     pub ttl: u64,
+    /// How many sales its list is to have at most: 1 to 67,108,864. Above it nothing is sold before some are forgotten.
+    pub sales: u64,
     /// How many milliseconds a link waits for its peer: 1 to 3,600,000, an hour.
     pub patience: u64,
 }
@@ -69,27 +71,30 @@ fn options(alloc: Global, matches: &ArgMatches<'_>) -> Result<ServeOptions, Word
         return Err(WordsFault::Usage);
     }
     match numbers(matches) {
-        Some((workers, ttl, patience)) => Ok(ServeOptions {
+        Some((workers, ttl, sales, patience)) => Ok(ServeOptions {
             listen,
             journal,
             existing,
             public,
             workers,
             ttl,
+            sales,
             patience,
         }),
         None => Err(WordsFault::Usage),
     }
 }
 
-// How many workers, for how many milliseconds a sale is held, and for how many a link waits for its peer.
-fn numbers(matches: &ArgMatches<'_>) -> Option<(u64, u64, u64)>
+// How many workers, for how many milliseconds a sale is held, how many sales the list has at most, and for how many
+// milliseconds a link waits for its peer.
+fn numbers(matches: &ArgMatches<'_>) -> Option<(u64, u64, u64, u64)>
     ensures { result ≡ serve_numbers (rows_of (found_of matches.now)) }
 {
     let workers = number(matches, "workers")?;
     let ttl = number(matches, "ttl")?;
+    let sales = number(matches, "sales")?;
     let patience = number(matches, "patience")?;
-    Some((workers, ttl, patience))
+    Some((workers, ttl, sales, patience))
 }
 
 const LISTEN_HELP: &str = "The host and the port to listen at, from 1 to 65535, as 127.0.0.1:8080";
@@ -113,6 +118,12 @@ const MAX_TTL: u64 = 31_536_000_000;
 const TTL_HELP: &str =
     "For how many milliseconds a sale waits for its notice, as 300000, up to a year";
 
+/// As many as a list may have at all.
+const MAX_SALES: u64 = 67_108_864;
+
+const SALES_HELP: &str =
+    "How many sales are kept in the list, as 4194304, up to 67108864; above it nothing is sold";
+
 /// An hour, in milliseconds.
 const MAX_PATIENCE: u64 = 3_600_000;
 
@@ -129,8 +140,11 @@ pub(crate) fn serve_command<'a>(alloc: Global) -> Result<Command<'a>, AllocError
     let public = text_option(alloc, "public", PUBLIC_HELP);
     let workers = workers_option(alloc);
     let ttl = ttl_option(alloc);
+    let sales = sales_option(alloc);
     let patience = patience_option(alloc);
-    let options = vec![in alloc; listen, journal, existing, public, workers, ttl, patience]?;
+    let options = vec![in alloc;
+        listen, journal, existing, public, workers, ttl, sales, patience,
+    ]?;
     Command::new(alloc, "serve").args(options)
 }
 
@@ -148,6 +162,14 @@ fn ttl_option<'a>(alloc: Global) -> Arg<'a>
     ensures local { result.global ≡ false }
 {
     number_option(alloc, "ttl", 1, MAX_TTL, "300000", TTL_HELP)
+}
+
+// How many sales the list has at most: four million, where it is not given.
+fn sales_option<'a>(alloc: Global) -> Arg<'a>
+    ensures rule { rule_of result ≡ number_between 1 67108864 (codes "4194304") (codes "sales") }
+    ensures local { result.global ≡ false }
+{
+    number_option(alloc, "sales", 1, MAX_SALES, "4194304", SALES_HELP)
 }
 
 // How long a link waits for its peer: a minute, where it is not given.

@@ -20,6 +20,9 @@ use std::sync::ledger::Ledger;
 /// How long a sale is held, in milliseconds.
 pub const TTL: u64 = 300_000;
 
+/// How many sales the list is to have at most.
+pub const SALES: u64 = 4_194_304;
+
 // The answers of a case have room for so many bytes from the start: so what was carried out is told, and what is tried once
 // more found no memory before it was.
 const MOST_BYTES: usize = 4_096;
@@ -158,7 +161,7 @@ fn live<D: Disk + Drop, R: Wait, L: Ledger>(
     steps: &mut Steps<L>,
     out: &mut Txt,
 ) -> (D, Result<usize, AllocError>) {
-    match Exchange::start(alloc, disk, TTL, steps) {
+    match Exchange::start(alloc, disk, TTL, SALES, steps) {
         Ok((exchange, seat)) => {
             let (two, done) = run_until_end(rt, alloc, &exchange, seat, commands, steps, out);
             (close(rt, exchange, two), done)

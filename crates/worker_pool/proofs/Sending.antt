@@ -7,7 +7,6 @@ use Rattle.auction_core.specs.contracts.exchange.Core as core
 use Rattle.budget_book.proofs.account.Account.TheSendSync as account
 use Rattle.budget_book.proofs.dues.Due.TheSendSync as due
 use Rattle.budget_book.proofs.sales.SaleRow.TheSendSync as sale
-use Rattle.budget_book.proofs.tree.Tree.TheLaws.TheKnot.{send-Tree}
 use Rattle.campaign_store.proofs.table.Table.TheSendSync as table
 use Rattle.exchange_shared.proofs.landing.Landings.TheSendSync as landings
 use Rattle.exchange_shared.proofs.worn.Worn.TheSendSync as worn
@@ -22,7 +21,7 @@ use Rattle.rtb_num.proofs.text.Txt.TheSendSync as txt
 use Rattle.worker_pool.specs.contracts.jobs.Tools as tools
 
 core_send : IsSend core.the_row
-core_send = search (sendable, crosses, send-Tree, account.the_send, due.the_send, sale.the_send, table.the_send) depth 60 fits 5000
+core_send = search (sendable, crosses, account.the_send, due.the_send, sale.the_send, table.the_send) depth 60 fits 5000
 
 -- the state of an exchange, where its disk may
 pub state_send : (D : RattleType) (g : Ghosts D.Denot) → IsSend D → IsSend (state.the_row D g)

@@ -6,7 +6,7 @@ use Rattle.budget_book.proofs.ahead.+count_below.Goals as goal
 
 pub returns-in_default : goal.returns-in_default
 returns-in_default t c =
-    sym (not_due (due_weight c.args.moment) c.args.forgotten c.args.moment c.args.rows.now c.args.dues.now c.args.place (due_light c.args.moment) c.requires.dues c.in_default.ensures.due)
+    sym (not_due (due_weight c.args.moment) c.args.forgotten c.args.moment c.args.rows.now.items c.args.dues.now c.args.place (due_light c.args.moment) c.requires.dues c.in_default.ensures.due)
 
 pub overflow_mul-place : goal.overflow_mul-place
 overflow_mul-place t c = omega (arith, c.in-Some.ensures.due.0, c.in-Some.ensures.few)
@@ -22,33 +22,33 @@ overflow_add-place-2 t c = omega (arith, c.in-Some.ensures.due.0, c.in-Some.ensu
 
 pub count_below-requires : goal.count_below-requires
 count_below-requires t c =
-    let f = entry_weight (due_weight c.args.moment) c.args.forgotten c.args.rows.now in
+    let f = entry_weight (due_weight c.args.moment) c.args.forgotten c.args.rows.now.items in
     let step = step_below f c.args.dues.now c.args.place c.in-Some.entry c.in-Some.ensures.due.0 in
     (omega (arith, c.decreases, c.in-Some.ensures.due.0), (c.requires.dues, omega (arith, step, c.requires.few)))
 
 pub count_below-requires-2 : goal.count_below-requires-2
 count_below-requires-2 t c =
-    let f = entry_weight (due_weight c.args.moment) c.args.forgotten c.args.rows.now in
+    let f = entry_weight (due_weight c.args.moment) c.args.forgotten c.args.rows.now.items in
     let step = step_below f c.args.dues.now c.args.place c.in-Some.entry c.in-Some.ensures.due.0 in
     (omega (arith, c.decreases, c.in-Some.ensures.due.0), (c.requires.dues, omega (arith, step, c.requires.few)))
 
 pub overflow_add-result : goal.overflow_add-result
 overflow_add-result t c =
-    let f = entry_weight (due_weight c.args.moment) c.args.forgotten c.args.rows.now in
+    let f = entry_weight (due_weight c.args.moment) c.args.forgotten c.args.rows.now.items in
     let step = step_below f c.args.dues.now c.args.place c.in-Some.entry c.in-Some.ensures.due.0 in
     let here = c.count_one.ensures ∙ ap f c.in-Some.ensures.due.1 in
     omega (arith, step, here, c.count_below.ensures, c.requires.few)
 
 pub overflow_add-result-2 : goal.overflow_add-result-2
 overflow_add-result-2 t c =
-    let f = entry_weight (due_weight c.args.moment) c.args.forgotten c.args.rows.now in
+    let f = entry_weight (due_weight c.args.moment) c.args.forgotten c.args.rows.now.items in
     let step = step_below f c.args.dues.now c.args.place c.in-Some.entry c.in-Some.ensures.due.0 in
     let here = c.count_one.ensures ∙ ap f c.in-Some.ensures.due.1 in
     omega (arith, step, here, c.count_below.ensures, c.count_below-2.ensures, c.requires.few)
 
 pub returns : goal.returns
 returns t c =
-    let f = entry_weight (due_weight c.args.moment) c.args.forgotten c.args.rows.now in
+    let f = entry_weight (due_weight c.args.moment) c.args.forgotten c.args.rows.now.items in
     let step = step_below f c.args.dues.now c.args.place c.in-Some.entry c.in-Some.ensures.due.0 in
     let here = c.count_one.ensures ∙ ap f c.in-Some.ensures.due.1 in
     omega (arith, step, here, c.count_below.ensures, c.count_below-2.ensures)

@@ -6,14 +6,14 @@ use Rattle.budget_book.proofs.ahead.release.Goals as goal
 
 pub release_below-requires-clause-range : goal.release_below-requires-clause-range
 release_below-requires-clause-range c =
-    let rows = c.args.rows.now in
+    let rows = c.args.rows.now.items in
     let w = release_weight c.args.campaign c.args.moment in
     let all = all_sum w c.args.forgotten rows (heap_items c.args.dues.now) c.requires.dues in
     omega (arith, ap (λ ds. sum_below (entry_weight w c.args.forgotten rows) ds 0) c.as_slice.ensures.value, all, release_bound c.args.campaign c.args.moment (c.args.forgotten + 1) rows, c.requires.range)
 
 pub returns : goal.returns
 returns c = λ gone.
-    let rows = c.args.rows.now in
+    let rows = c.args.rows.now.items in
     let w = release_weight c.args.campaign c.args.moment in
     let all = c.release_below.ensures ∙ ap (λ ds. sum_below (entry_weight w c.args.forgotten rows) ds 0) c.as_slice.ensures.value ∙ all_sum w c.args.forgotten rows (heap_items c.args.dues.now) c.requires.dues in
     ap (λ n. n + committed_of c.args.campaign gone (expired c.args.moment rows)) all ∙ released c.args.campaign c.args.moment (c.args.forgotten + 1) rows gone

@@ -2,7 +2,9 @@ use Rattle.std.proofs.Common.{heap_items, ◌≡◌, ◌+◌, ◌-◌, ◌++◌,
 use Rattle.std.specs.Prelude.{option_map}
 use Rattle.budget_book.specs.Accounts.{with_sale}
 use Rattle.budget_book.specs.Book.{IsBook, funds_of}
-use Rattle.budget_book.specs.Users.{IsLinked, pair_of, pair_with}
+use Rattle.budget_book.specs.LastSales.{place_by}
+use Rattle.budget_book.specs.Users.{IsLinked, sale_place}
+use Rattle.budget_book.proofs.Chained.{place_mapped}
 use Rattle.budget_book.proofs.Moving.{counts_fit, same_campaigns, with_sale_funds}
 use Rattle.budget_book.proofs.Standing.{book_added, book_gone_few}
 use Rattle.budget_book.proofs.appending.append.Goals as goal
@@ -30,16 +32,17 @@ returns-clause-book c =
     let there = c.requires.there in
     let k = c.args.row.campaign - 1 in
     let n : c.args.forgotten + c.len.result + 1 ≡ c.args.forgotten + length c.args.rows.now.items + 1 = omega arith in
-    let own = subst (λ o. IsLinked c.args.lasts.now c.link-before.new.lasts (option_map (pair_with c.args.row.campaign) o) (c.args.forgotten + c.len.result + 1) c.link-before.result) c.requires.user c.link-before.ensures.linked in
-    let linked = subst (λ m. IsLinked c.args.lasts.now c.link-before.new.lasts (pair_of c.args.row) m c.link-before.result) n own in
+    let place : option_map (place_by c.args.row.campaign) c.args.user_hash ≡ sale_place c.args.row = ap (option_map (place_by c.args.row.campaign)) c.requires.user ∙ place_mapped c.args.row.campaign c.args.row.user in
+    let own = subst (λ o. IsLinked c.args.lasts.now c.link-back.new.lasts o (c.args.forgotten + c.len.result + 1) c.link-back.result) place c.link-back.ensures.linked in
+    let linked = subst (λ m. IsLinked c.args.lasts.now c.link-back.new.lasts (sale_place c.args.row) m c.link-back.result) n own in
     let e = c.index-accounts-row.result in
     let price = c.get.ensures.value in
     let is = c.add.ensures ∙ ap (λ p. with_sale c.args.row.state p (get_or c.args.accounts.now k e)) price in
     let awaited = c.await_sale.ensures.dues c.args.forgotten c.args.rows.now.items n c.requires.book.awaited in
-    let book = book_added c.args.forgotten c.args.accounts.now c.add.new.self e c.args.rows.now.items c.args.row c.args.links.now.items (heap_items c.args.dues.now) (heap_items c.await_sale.new.dues) c.args.lasts.now c.link-before.new.lasts c.link-before.result k
+    let book = book_added c.args.forgotten c.args.accounts.now c.add.new.self e c.args.rows.now.items c.args.row c.args.links.now.items (heap_items c.args.dues.now) (heap_items c.await_sale.new.dues) c.args.lasts.now c.link-back.new.lasts c.link-back.result k
     c.requires.book c.requires.few (omega (arith, there)) (omega (arith, there)) (c.requires.free e) is awaited linked in
-    subst (λ rs. IsBook c.args.forgotten (set c.args.accounts.now k c.add.new.self) rs c.push_reserved.new.self.items (heap_items c.await_sale.new.dues) c.link-before.new.lasts) (sym c.push_reserved-2.ensures.items)
-    (subst (λ ls. IsBook c.args.forgotten (set c.args.accounts.now k c.add.new.self) (c.args.rows.now.items ++ c.args.row ∷ []) ls (heap_items c.await_sale.new.dues) c.link-before.new.lasts) (sym c.push_reserved.ensures.items) book)
+    subst (λ rs. IsBook c.args.forgotten (set c.args.accounts.now k c.add.new.self) rs c.push_back_reserved.new.self.items (heap_items c.await_sale.new.dues) c.link-back.new.lasts) (sym c.push_back_reserved-2.ensures.items)
+    (subst (λ ls. IsBook c.args.forgotten (set c.args.accounts.now k c.add.new.self) (c.args.rows.now.items ++ c.args.row ∷ []) ls (heap_items c.await_sale.new.dues) c.link-back.new.lasts) (sym c.push_back_reserved.ensures.items) book)
 
 pub returns-clause-campaigns : goal.returns-clause-campaigns
 returns-clause-campaigns c =

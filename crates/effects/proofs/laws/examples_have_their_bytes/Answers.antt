@@ -13,3 +13,7 @@ returns-clause-sale c = refl
 pub returns-clause-sale_to_user : goal.returns-clause-sale_to_user
 unfolding eight_bytes four_bytes text_bytes
 returns-clause-sale_to_user c = refl
+
+pub returns-clause-forgot : goal.returns-clause-forgot
+unfolding eight_bytes
+returns-clause-forgot c = refl

@@ -54,7 +54,7 @@ loop-word-preserved c =
       state = c.in_ok-add.ensures.state ∙ ap (λ (s : State). with_one s n one) inv.state ∙ additions.opened_more cs n one place
           ∙ ap opening (sym (additions.named_more words k c.word-item.result one lt is inv.named c.campaign_named-named.ensures.value));
       small = additions.still_small k old new n one (omega (arith, few, inv.counted)) c.campaign_named-named.ensures.short inv.small c.in_ok-add.ensures.state;
-      held = c.add.ensures.ttl ∙ inv.held;
+      held = c.add.ensures.settings ∙ inv.held;
       edits = omega (arith, c.in_ok-add.ensures.edits, inv.edits);
     }
 

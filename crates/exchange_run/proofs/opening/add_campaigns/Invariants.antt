@@ -12,6 +12,6 @@ invariant-loop-word l =
       named : AreNamed l.words l.word-index;
       state : l.core.state ≡ opening (campaigns_named (take l.word-index l.words));
       small : IsSmallState l.word-index l.core.state;
-      held : l.core.ttl ≡ l.fn.core.ttl;
+      held : l.core.settings ≡ l.fn.core.settings;
       edits : l.core.edits ≡ l.word-index;
     }

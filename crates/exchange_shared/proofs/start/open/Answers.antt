@@ -7,7 +7,7 @@ pub put_under_lock-requires : goal.put_under_lock-requires
 put_under_lock-requires g c =
     let e = c.in-Ok-start.ensures.opened in
     let h = c.in-Ok.ensures in
-    let o = opened_with e.effects c.args.ttl c.in-Ok.reading in
+    let o = opened_with e.effects (record { ttl = c.args.ttl; limit = c.args.limit }) c.in-Ok.reading in
     (o, c.requires.names o (originates _ _ _ c.in-Ok.reading c.in-Ok-start.state e h.synced h.told h.cause), e.stands)
 
 pub returns-in-Ok-start-clause-any_moment : goal.returns-in-Ok-start-clause-any_moment
@@ -20,5 +20,5 @@ returns-in-Ok-start-clause-any_moment g c = λ told effects text.
 pub returns-in-Ok-start-clause-quiet : goal.returns-in-Ok-start-clause-quiet
 returns-in-Ok-start-clause-quiet g c =
     let e = c.in-Ok-start.ensures.opened in
-    let o = opened_with e.effects c.args.ttl c.in-Ok.reading in
+    let o = opened_with e.effects (record { ttl = c.args.ttl; limit = c.args.limit }) c.in-Ok.reading in
     if_err_then _ _ c.put_under_lock.result (λ x same other. same o e.stands ∙ c.in-Ok.ensures.cause) c.put_under_lock.ensures.quiet

@@ -5,4 +5,4 @@ pub returns-clause-opened : goal.returns-clause-opened
 returns-clause-opened c = λ opening s e. (made_consistent opening s e).solvent
 
 pub returns-clause-ever : goal.returns-clause-ever
-returns-clause-ever c = λ ttl opening s calls e. (replay_kept ttl s calls (made_consistent opening s e)).solvent
+returns-clause-ever c = λ settings opening s calls e. (replay_kept settings s calls (made_consistent opening s e)).solvent

@@ -18,5 +18,5 @@ loop-effect-preserved c =
       after = applied_more c.args.effects.now i c.effect-item.result c.args.core.now.state c.loop-effect.core.state c.apply_one.new.core.state c.loop-effect-test.true c.effect-item.is inv.after c.in_ok-apply_one.ensures.after;
       edits_are = edits_so_far c.args.effects.now i c.effect-item.result c.args.core.now.edits c.loop-effect.core.edits c.apply_one.new.core.edits c.loop-effect-test.true c.effect-item.is inv.edits_are c.in_ok-apply_one.ensures.edits;
       few = λ before. c.apply_one.ensures.few (inv.few before);
-      ttl = c.apply_one.ensures.ttl ∙ inv.ttl;
+      settings = c.apply_one.ensures.settings ∙ inv.settings;
     }

@@ -7,5 +7,5 @@ invariant-loop-effect l = record {
   after : all_applied (take l.effect-index l.effects) l.fn.core.state ≡ Some l.core.state;
   edits_are : l.core.edits ≡ l.fn.core.edits + edits (take l.effect-index l.effects);
   few : l.fn.core.edits ≤ 2 ^ 61 → l.core.edits ≤ 2 ^ 61;
-  ttl : l.core.ttl ≡ l.fn.core.ttl;
+  settings : l.core.settings ≡ l.fn.core.settings;
 }

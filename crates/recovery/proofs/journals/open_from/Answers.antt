@@ -32,8 +32,8 @@ returns-in-Err-clause-any_moment g c = λ start effects has.
 pub returns-in-Ok-finish-clause-state : goal.returns-in-Ok-finish-clause-state
 returns-in-Ok-finish-clause-state g c = c.in-Ok.ensures.opened
 
-pub returns-in-Ok-finish-clause-ttl : goal.returns-in-Ok-finish-clause-ttl
-returns-in-Ok-finish-clause-ttl g c = c.in-Ok.ensures.ttl
+pub returns-in-Ok-finish-clause-settings : goal.returns-in-Ok-finish-clause-settings
+returns-in-Ok-finish-clause-settings g c = c.in-Ok.ensures.settings
 
 pub returns-in-Ok-finish-clause-whole : goal.returns-in-Ok-finish-clause-whole
 returns-in-Ok-finish-clause-whole g c = c.in-Ok-finish.ensures.whole
@@ -51,8 +51,8 @@ returns-in-Err-finish-clause-opened g c = λ start.
 pub returns-in-Err-finish-clause-state : goal.returns-in-Err-finish-clause-state
 returns-in-Err-finish-clause-state g c = λ start. tt
 
-pub returns-in-Err-finish-clause-ttl : goal.returns-in-Err-finish-clause-ttl
-returns-in-Err-finish-clause-ttl g c = tt
+pub returns-in-Err-finish-clause-settings : goal.returns-in-Err-finish-clause-settings
+returns-in-Err-finish-clause-settings g c = tt
 
 pub returns-in-Err-finish-clause-whole : goal.returns-in-Err-finish-clause-whole
 returns-in-Err-finish-clause-whole g c = tt
@@ -70,8 +70,8 @@ returns-in-Err-clause-opened g c = c.in-Err.ensures.opened
 pub returns-in-Err-clause-state : goal.returns-in-Err-clause-state
 returns-in-Err-clause-state g c = λ start. tt
 
-pub returns-in-Err-clause-ttl : goal.returns-in-Err-clause-ttl
-returns-in-Err-clause-ttl g c = tt
+pub returns-in-Err-clause-settings : goal.returns-in-Err-clause-settings
+returns-in-Err-clause-settings g c = tt
 
 pub returns-in-Err-clause-whole : goal.returns-in-Err-clause-whole
 returns-in-Err-clause-whole g c = tt

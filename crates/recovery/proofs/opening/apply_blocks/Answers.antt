@@ -10,7 +10,7 @@ use Rattle.recovery.proofs.Walking.{end_is, gives, more_is, opens_not, rises_as,
 use Rattle.recovery.proofs.opening.apply_blocks.Goals as goal
 
 pub loop-init : goal.loop-init
-loop-init g c = record { made = λ made. made; led = λ led. led; same = refl; ttl = refl; well = λ well. (well, refl) }
+loop-init g c = record { made = λ made. made; led = λ led. led; same = refl; settings = refl; well = λ well. (well, refl) }
 
 pub returns-in_err-more-clause-opened : goal.returns-in_err-more-clause-opened
 returns-in_err-more-clause-opened g c = λ start.
@@ -47,6 +47,6 @@ loop-preserved g c = record {
   made = λ start. more_is c.loop.reading c.apply_next.new.reading c.apply_next.new.core c.in_ok-more.more c.if-not-more.false (c.in_ok-more.ensures.turns (c.loop.invariant.made start));
   led = λ led. c.in_ok-more.ensures.led (c.loop.invariant.led led);
   same = c.in_ok-more.ensures.same ∙ c.loop.invariant.same;
-  ttl = c.in_ok-more.ensures.ttl ∙ c.loop.invariant.ttl;
+  settings = c.in_ok-more.ensures.settings ∙ c.loop.invariant.settings;
   well = λ well. let before = c.loop.invariant.well well in (c.in_ok-more.ensures.intact before.0, (c.in_ok-more.ensures.cause before.0).2 (λ e. absurd (cc e)) ∙ before.1);
 }

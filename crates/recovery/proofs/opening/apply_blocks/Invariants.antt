@@ -9,6 +9,6 @@ invariant-loop g l = record {
   made : IsMadeBy (IsWithin l.fn.reading) l.fn.core → IsMadeBy (IsWithin l.reading) l.core;
   led : IsLed l.fn.core → IsLed l.core;
   same : store_read l.reading ≡ store_read l.fn.reading;
-  ttl : l.core.ttl ≡ l.fn.core.ttl;
+  settings : l.core.settings ≡ l.fn.core.settings;
   well : HasNotFailed l.fn.reading → HasNotFailed l.reading × (faults_read l.reading ≡ faults_read l.fn.reading);
 }

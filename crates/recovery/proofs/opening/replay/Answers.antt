@@ -19,10 +19,10 @@ returns-clause-made g c = λ start.
 pub returns-clause-ended : goal.returns-clause-ended
 returns-clause-ended g c = handed_ended c.apply_blocks-done.new.core _ c.apply_blocks-done.result c.unless_faulty.result c.unless_faulty.ensures c.apply_blocks-done.ensures.ended
 
-pub returns-clause-ttl : goal.returns-clause-ttl
-returns-clause-ttl g c =
-    handed_whole c.apply_blocks-done.new.core (λ (k : CoreState). k.ttl ≡ c.args.ttl) c.apply_blocks-done.result c.unless_faulty.result c.unless_faulty.ensures
-    (always_ok _ c.apply_blocks-done.result (c.apply_blocks-done.ensures.ttl ∙ ap (λ (k : CoreState). k.ttl) c.new-core.ensures))
+pub returns-clause-settings : goal.returns-clause-settings
+returns-clause-settings g c =
+    handed_whole c.apply_blocks-done.new.core (λ (k : CoreState). k.settings ≡ record { ttl = c.args.ttl; limit = c.args.limit }) c.apply_blocks-done.result c.unless_faulty.result c.unless_faulty.ensures
+    (always_ok _ c.apply_blocks-done.result (c.apply_blocks-done.ensures.settings ∙ ap (λ (k : CoreState). k.settings) c.new-core.ensures))
 
 pub returns-clause-cause : goal.returns-clause-cause
 returns-clause-cause g c = λ well. handed_cause c.apply_blocks-done.new.core c.apply_blocks-done.result c.unless_faulty.result _ _ c.unless_faulty.ensures (c.apply_blocks-done.ensures.cause well)

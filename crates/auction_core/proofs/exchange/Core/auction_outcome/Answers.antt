@@ -11,5 +11,5 @@ award_outcome-requires c = record { few = subst (λ l. length l ≤ 64) (sym c.a
 
 pub returns : goal.returns
 returns c =
-    awarded_result c.args.self.now.ttl c.args.moment c.args.request.now c.args.self.now.state c.as_slice.result.now c.award_outcome.result
+    awarded_result c.args.self.now.settings c.args.moment c.args.request.now c.args.self.now.state c.as_slice.result.now c.award_outcome.result
     (c.as_slice.ensures.value ∙ c.in_ok-awards.ensures.value) c.award_outcome.ensures

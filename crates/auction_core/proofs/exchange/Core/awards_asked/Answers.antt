@@ -19,7 +19,7 @@ loop-imp-preserved c =
     let r = c.args.asked.now in
     let m = c.args.moment in
     let s = c.args.self.now.state in
-    let next = award_next c.args.self.now.ttl m r (swept m s) in
+    let next = award_next c.args.self.now.settings m r (swept m s) in
     let i = c.loop-imp.imp in
     let inside : i < length r.imps = omega (arith, ap length c.imps-imp-end.ensures) in
     let inside2 : i < length (enumerate_from 0 r.imps) = omega (arith, inside, length-enumerate_from 0 r.imps) in
@@ -31,7 +31,7 @@ loop-imp-preserved c =
     let one : length (option_to_list more) ≤ 1 = one_at_most more in
     record {
       value = c.in_ok-push_award.ensures
-          ∙ ap (λ w. c.loop-imp.awards.items ++ option_to_list (option_map (λ (v : Win). (i, v)) w)) (won ∙ ap (λ ds. win (beside c.args.self.now.ttl m r s ds) r x m) c.as_slice.ensures.value)
+          ∙ ap (λ w. c.loop-imp.awards.items ++ option_to_list (option_map (λ (v : Win). (i, v)) w)) (won ∙ ap (λ ds. win (beside c.args.self.now.settings m r s ds) r x m) c.as_slice.ensures.value)
           ∙ ap (λ ds. next ds (i, x)) c.loop-imp.invariant.value
           ∙ ap (λ p. next (fold next [] (take i (enumerate_from 0 r.imps))) p) (sym item)
           ∙ sym (fold_more next [] (enumerate_from 0 r.imps) i (0, x) inside2);
@@ -43,7 +43,7 @@ returns-clause-value c =
     let r = c.args.asked.now in
     let s = c.args.self.now.state in
     let whole : take c.loop-imp.imp (enumerate_from 0 r.imps) ≡ enumerate_from 0 r.imps = take_all c.loop-imp.imp (enumerate_from 0 r.imps) (omega (arith, ap length c.imps-imp-end.ensures, length-enumerate_from 0 r.imps)) in
-    c.loop-imp.invariant.value ∙ ap (fold (award_next c.args.self.now.ttl c.args.moment r (swept c.args.moment s)) []) whole
+    c.loop-imp.invariant.value ∙ ap (fold (award_next c.args.self.now.settings c.args.moment r (swept c.args.moment s)) []) whole
 
 pub loop-imp-init : goal.loop-imp-init
 loop-imp-init c = record { value = c.new-awards.ensures.items; few = omega (arith, ap length c.new-awards.ensures.items) }

@@ -38,7 +38,7 @@ loop-imp-preserved g c =
     let r = f.asked.now in
     let m = c.args.moment in
     let s = core.state in
-    let next = award_next core.ttl m r (swept m s) in
+    let next = award_next core.settings m r (swept m s) in
     let i = c.loop-imp.imp in
     let inside : i < length r.imps = omega (arith, ap length c.imps-imp-end.ensures) in
     let inside2 : i < length (enumerate_from 0 r.imps) = omega (arith, inside, length-enumerate_from 0 r.imps) in
@@ -51,7 +51,7 @@ loop-imp-preserved g c =
     let one : length (option_to_list more) ≤ 1 = one_at_most more in
     record {
       value = c.in_ok-push_award.ensures
-          ∙ ap (λ w. c.loop-imp.awards.items ++ option_to_list (option_map (λ (v : Win). (i, v)) w)) (won ∙ ap (λ ds. win (beside core.ttl m r s ds) r x m) c.as_slice.ensures.value)
+          ∙ ap (λ w. c.loop-imp.awards.items ++ option_to_list (option_map (λ (v : Win). (i, v)) w)) (won ∙ ap (λ ds. win (beside core.settings m r s ds) r x m) c.as_slice.ensures.value)
           ∙ ap (λ ds. next ds (i, x)) c.loop-imp.invariant.value
           ∙ ap (λ p. next (fold next [] (take i (enumerate_from 0 r.imps))) p) (sym item)
           ∙ sym (fold_more next [] (enumerate_from 0 r.imps) i (0, x) inside2);
@@ -67,7 +67,7 @@ returns-clause-value g c =
     let r = c.args.findings.now.asked.now in
     let s = c.args.self.now.state in
     let whole : take c.loop-imp.imp (enumerate_from 0 r.imps) ≡ enumerate_from 0 r.imps = take_all c.loop-imp.imp (enumerate_from 0 r.imps) (omega (arith, ap length c.imps-imp-end.ensures, length-enumerate_from 0 r.imps)) in
-    c.loop-imp.invariant.value ∙ ap (fold (award_next c.args.self.now.ttl c.args.moment r (swept c.args.moment s)) []) whole
+    c.loop-imp.invariant.value ∙ ap (fold (award_next c.args.self.now.settings c.args.moment r (swept c.args.moment s)) []) whole
 
 pub returns-clause-cost : goal.returns-clause-cost
 returns-clause-cost g c =

@@ -26,4 +26,4 @@ returns-clause-few c = λ e.
     let k = c.loop-place.place in
     let nobody : User = None in
     let end : length items ≤ k = omega (arith, c.loop-place-test.false) in
-    subst (λ l. length l ≤ 4194304) (take_all k items end) (items_few_at_all c.args.moment nobody (take k items) s (with_sold c.args.moment nobody (take k items) s) (c.loop-place.invariant nobody))
+    subst (λ l. length l ≤ 67108864) (take_all k items end) (items_few_at_all c.args.moment nobody (take k items) s (with_sold c.args.moment nobody (take k items) s) (c.loop-place.invariant nobody))

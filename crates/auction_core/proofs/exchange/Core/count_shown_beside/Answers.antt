@@ -13,5 +13,5 @@ returns c = λ d e.
     let awards = c.args.awards.now in
     let user = c.as_bytes.result.now in
     let to : user_of r ≡ Some user = sym (ap (λ u. Some u) c.as_bytes.ensures.value ∙ c.in_ok-user.ensures) in
-    ap (λ (k : ℕ). Some k) (c.times_shown.ensures.value ∙ shown_counted c.args.self.now.ttl c.args.moment r c.args.n user s awards d c.args.cap to c.times_shown.ensures.some e)
-    ∙ ap (option_map (shown_to (beside c.args.self.now.ttl c.args.moment r s awards) c.args.moment c.args.n d)) (sym to)
+    ap (λ (k : ℕ). Some k) (c.times_shown.ensures.value ∙ shown_counted c.args.self.now.settings c.args.moment r c.args.n user s awards d c.args.cap to c.times_shown.ensures.some e)
+    ∙ ap (option_map (shown_to (beside c.args.self.now.settings c.args.moment r s awards) c.args.moment c.args.n d)) (sym to)

@@ -14,10 +14,10 @@ award_outcome-requires g c = record { few = subst (λ l. length l ≤ 64) (sym c
 
 pub returns-clause-value : goal.returns-clause-value
 returns-clause-value g c =
-    let ttl = c.args.self.now.ttl in
+    let settings = c.args.self.now.settings in
     let m = c.args.moment in
     let s = c.args.self.now.state in
     let awards = c.as_slice.result.now in
-    awarded_result ttl m c.args.findings.now.asked.now s awards c.award_outcome.result
+    awarded_result settings m c.args.findings.now.asked.now s awards c.award_outcome.result
     (c.as_slice.ensures.value ∙ c.in_ok-awards.ensures.value)
-    (subst (λ (q : BidRequest). IfOk c.award_outcome.result (λ o. o ≡ award_outcome ttl m q s awards)) c.request.ensures c.award_outcome.ensures)
+    (subst (λ (q : BidRequest). IfOk c.award_outcome.result (λ o. o ≡ award_outcome settings m q s awards)) c.request.ensures c.award_outcome.ensures)

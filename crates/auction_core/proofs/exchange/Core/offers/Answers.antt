@@ -14,7 +14,7 @@ pub loop-number-preserved : goal.loop-number-preserved
 loop-number-preserved c = λ i at.
     let r = c.args.asked.now in
     let m = c.args.moment in
-    let t = beside c.args.self.now.ttl m r c.args.self.now.state c.args.awards.now in
+    let t = beside c.args.self.now.settings m r c.args.self.now.state c.args.awards.now in
     let k = c.loop-number.number-index in
     let inside : k < length c.args.numbers.now = omega arith in
     c.in_ok-push_offers.ensures i at

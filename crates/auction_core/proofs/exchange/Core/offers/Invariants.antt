@@ -7,4 +7,4 @@ use Rattle.auction_core.proofs.exchange.Core.offers.Given as goal
 
 abbrev pub invariant-loop-number : goal.invariant-loop-number
 invariant-loop-number l = (i : Imp) → slice_get l.asked.imps l.imp ≡ Some i
-    → l.all.items ≡ flat_map (offers_at (beside l.self.ttl l.moment l.asked l.self.state l.awards) l.asked i l.moment) (take l.number-index l.numbers)
+    → l.all.items ≡ flat_map (offers_at (beside l.self.settings l.moment l.asked l.self.state l.awards) l.asked i l.moment) (take l.number-index l.numbers)

@@ -9,22 +9,22 @@ pub returns-in-Add : goal.returns-in-Add
 returns-in-Add c =
     let m = c.args.moment in
     let s = c.args.self.now.state in
-    subst (λ (k : Command). IfOk c.add_outcome.result (λ o. IsOutcome (step c.args.self.now.ttl m s k) o)) (sym c.in-Add.is) (c.add_outcome.ensures m)
+    subst (λ (k : Command). IfOk c.add_outcome.result (λ o. IsOutcome (step c.args.self.now.settings m s k) o)) (sym c.in-Add.is) (c.add_outcome.ensures m)
 
 pub returns-in-Pause : goal.returns-in-Pause
 returns-in-Pause c =
     let m = c.args.moment in
     let s = c.args.self.now.state in
-    subst (λ (k : Command). IsOutcome (step c.args.self.now.ttl m s k) c.pause_outcome.result) (sym c.in-Pause.is) (c.pause_outcome.ensures m)
+    subst (λ (k : Command). IsOutcome (step c.args.self.now.settings m s k) c.pause_outcome.result) (sym c.in-Pause.is) (c.pause_outcome.ensures m)
 
 pub returns-in-Resume : goal.returns-in-Resume
 returns-in-Resume c =
     let m = c.args.moment in
     let s = c.args.self.now.state in
-    subst (λ (k : Command). IsOutcome (step c.args.self.now.ttl m s k) c.resume_outcome.result) (sym c.in-Resume.is) (c.resume_outcome.ensures m)
+    subst (λ (k : Command). IsOutcome (step c.args.self.now.settings m s k) c.resume_outcome.result) (sym c.in-Resume.is) (c.resume_outcome.ensures m)
 
 pub returns-in-Report : goal.returns-in-Report
 returns-in-Report c =
     let m = c.args.moment in
     let s = c.args.self.now.state in
-    subst (λ (k : Command). IsOutcome (step c.args.self.now.ttl m s k) c.report_outcome.result) (sym c.in-Report.is) (c.report_outcome.ensures m)
+    subst (λ (k : Command). IsOutcome (step c.args.self.now.settings m s k) c.report_outcome.result) (sym c.in-Report.is) (c.report_outcome.ensures m)

@@ -2,4 +2,4 @@ use Rattle.plain_exchange.specs.declared.commands.Command.TheVariants as command
 use Rattle.auction_core.proofs.exchange.Core.prepare_found.Goals as goal
 
 pub draft-requires : goal.draft-requires
-draft-requires g c = record { outcome = (c.args.self.now.ttl, command.Auction c.args.asked.now, c.in_ok-outcome.ensures.value) }
+draft-requires g c = record { outcome = (c.args.self.now.settings, command.Auction c.args.asked.now, c.in_ok-outcome.ensures.value) }

@@ -17,7 +17,7 @@ returns-then-bids_below c = λ i at.
     let r = c.args.asked.now in
     let m = c.args.moment in
     let n = c.args.n in
-    let t = beside c.args.self.now.ttl m r s c.args.awards.now in
+    let t = beside c.args.self.now.settings m r s c.args.awards.now in
     let (d, there) = there_at s n c.requires.there.0 c.requires.there.1 in
     let imp = c.index-imps-imp.result in
     let facts = ap (λ (e : Record). e.facts) (c.record.ensures ∙ c.entry.ensures d there) in
@@ -33,9 +33,9 @@ returns-then-not-may_pay_bid c = λ i at.
     let r = c.args.asked.now in
     let m = c.args.moment in
     let n = c.args.n in
-    let t = beside c.args.self.now.ttl m r s c.args.awards.now in
+    let t = beside c.args.self.now.settings m r s c.args.awards.now in
     let (d, there) = there_at s n c.requires.there.0 c.requires.there.1 in
-    let pays_is = c.may_pay_bid.ensures d there ∙ ap (λ (q : BidRequest). pays_as (beside c.args.self.now.ttl m q s c.args.awards.now) q m n d) c.request.ensures in
+    let pays_is = c.may_pay_bid.ensures d there ∙ ap (λ (q : BidRequest). pays_as (beside c.args.self.now.settings m q s c.args.awards.now) q m n d) c.request.ensures in
     none_if_unpaid t r i m n d c.args.all.now.items c.may_pay_bid.result there pays_is c.if-not-may_pay_bid.true
 
 pub returns : goal.returns
@@ -44,9 +44,9 @@ returns c = λ i at.
     let r = c.args.asked.now in
     let m = c.args.moment in
     let n = c.args.n in
-    let t = beside c.args.self.now.ttl m r s c.args.awards.now in
+    let t = beside c.args.self.now.settings m r s c.args.awards.now in
     let (d, there) = there_at s n c.requires.there.0 c.requires.there.1 in
     let facts = ap (λ (e : Record). e.facts) (c.record.ensures ∙ c.entry.ensures d there) in
-    let pays_is = c.may_pay_bid.ensures d there ∙ ap (λ (q : BidRequest). pays_as (beside c.args.self.now.ttl m q s c.args.awards.now) q m n d) c.request.ensures in
+    let pays_is = c.may_pay_bid.ensures d there ∙ ap (λ (q : BidRequest). pays_as (beside c.args.self.now.settings m q s c.args.awards.now) q m n d) c.request.ensures in
     let same = all_if_paid t r i m n d c.record.result.now.facts c.may_pay_bid.result there facts pays_is c.if-not-may_pay_bid.false in
     subst (λ (l : List Offer). OnOk c.push_candidates.result (c.push_candidates.new.offers.items ≡ c.args.all.now.items ++ l)) same (c.push_candidates.ensures i at)

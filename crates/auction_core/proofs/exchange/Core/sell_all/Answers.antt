@@ -14,7 +14,7 @@ loop-item-preserved c =
       sold = sold_first c.args.moment user c.pop.result c.loop-item.rest.now c.in-Some.item.now c.in-Some.more.now c.loop-item.self.state c.hold.new.self.state (with_items c.args.moment user c.args.items.now c.args.self.now.state)
           front c.loop-item.invariant.sold c.requires.fits to c.hold.ensures.state;
       keys = rest;
-      ttl = c.hold.ensures.rest.ttl ∙ c.loop-item.invariant.ttl;
+      settings = c.hold.ensures.rest.settings ∙ c.loop-item.invariant.settings;
       edits = omega (arith, c.hold.ensures.rest.edited, c.loop-item.invariant.edits);
       room = omega (arith, c.hold.ensures.rest.sale_room, c.loop-item.invariant.room, many);
     }

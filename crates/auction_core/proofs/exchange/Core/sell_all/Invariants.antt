@@ -8,7 +8,7 @@ abbrev pub invariant-loop-item : goal.invariant-loop-item
 invariant-loop-item l = record {
   sold : with_items l.fn.moment (option_copied l.fn.user) l.rest l.self.state ≡ with_items l.fn.moment (option_copied l.fn.user) l.fn.items l.fn.self.state;
   keys : l.keys.items ≡ keys_for (option_copied l.fn.user) l.rest;
-  ttl : l.self.ttl ≡ l.fn.self.ttl;
+  settings : l.self.settings ≡ l.fn.self.settings;
   edits : l.self.edits ≡ l.fn.self.edits;
   room : length l.rest ≤ l.self.sale_room;
 }

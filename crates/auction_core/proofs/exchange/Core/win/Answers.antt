@@ -19,7 +19,7 @@ pub clear-requires : goal.clear-requires
 clear-requires c =
     let r = c.args.asked.now in
     let m = c.args.moment in
-    let t = beside c.args.self.now.ttl m r c.args.self.now.state c.args.awards.now in
+    let t = beside c.args.self.now.settings m r c.args.self.now.state c.args.awards.now in
     let (i, at) = some_there r.imps c.args.imp c.requires.imp in
     ap (λ ts. list_all (is_fit ts) c.as_slice-2.result.now) (c.terms_at.ensures i at)
     ∙ ap (list_all (is_fit (terms_of r i))) (c.as_slice-2.ensures.value ∙ c.in_ok-offers.ensures i at)
@@ -31,7 +31,7 @@ returns c = λ i at.
     let r = c.args.asked.now in
     let m = c.args.moment in
     let awards = c.args.awards.now in
-    let t = beside core.ttl m r core.state awards in
+    let t = beside core.settings m r core.state awards in
     c.clear.ensures.sale
     ∙ ap (λ os. outcome os c.terms_at.result.now) (c.as_slice-2.ensures.value ∙ c.in_ok-offers.ensures i at ∙ ap (flat_map (offers_at t r i m)) (c.as_slice.ensures ∙ c.requires.found i at) ∙ all_offers core r i m awards)
     ∙ ap (outcome (offers t r i m)) (c.terms_at.ensures i at)

@@ -90,7 +90,7 @@ clear_in_order-cleared-requires-clause-others g c =
     let f = c.args.findings.now in
     let r = f.asked.now in
     let m = c.args.moment in
-    let t = beside c.args.self.now.ttl m r c.args.self.now.state c.args.awards.now in
+    let t = beside c.args.self.now.settings m r c.args.self.now.state c.args.awards.now in
     let (i, at) = some_there r.imps c.args.imp c.requires.imp in
     ap (λ ts. list_all (is_fit ts) c.as_slice-others.result.now) (c.terms_at-terms.ensures i at)
     ∙ ap (list_all (is_fit (terms_of r i))) (c.as_slice-others.ensures.value ∙ c.in_ok-offered.ensures i at)
@@ -127,7 +127,7 @@ returns-clause-sale g c = λ i at.
     let awards = c.args.awards.now in
     let may = may_be_sold core f.touched.now r m awards in
     let alone = eqb (length c.as_slice-others.result.now) 0 in
-    let t = beside core.ttl m r core.state awards in
+    let t = beside core.settings m r core.state awards in
     let others : c.as_slice-others.result.now ≡ offers_touched core f.touched.now r i m awards = c.as_slice-others.ensures.value ∙ c.in_ok-offered.ensures i at ∙ ap (flat_map (offers_at t r i m)) (c.list_at-now.ensures ∙ c.requires.now c.args.imp i at) in
     let (cs, found) = some_there f.candidates.now c.args.imp (subst (λ n. c.args.imp < n) (sym c.requires.may_sell.found_are.long) c.requires.imp) in
     let left : c.behind-candidates.result.now ≡ drop c.front_of-front.result cs = c.behind-candidates.ensures ∙ ap (drop c.front_of-front.result) (c.at.ensures cs found) in
@@ -169,7 +169,7 @@ returns-clause-cost g c = λ i cs at found.
     let awards = c.args.awards.now in
     let may = may_be_sold core f.touched.now r m awards in
     let alone = eqb (length c.as_slice-others.result.now) 0 in
-    let t = beside core.ttl m r core.state awards in
+    let t = beside core.settings m r core.state awards in
     let others : c.as_slice-others.result.now ≡ offers_touched core f.touched.now r i m awards = c.as_slice-others.ensures.value ∙ c.in_ok-offered.ensures i at ∙ ap (flat_map (offers_at t r i m)) (c.list_at-now.ensures ∙ c.requires.now c.args.imp i at) in
     let left : c.behind-candidates.result.now ≡ drop c.front_of-front.result cs = c.behind-candidates.ensures ∙ ap (drop c.front_of-front.result) (c.at.ensures cs found) in
     let known = c.requires.refused cs found in

@@ -31,7 +31,7 @@ returns c =
     let b = c.args.self.now in
     let o = c.args.candidate.now in
     let core = b.core.now in
-    let t = beside core.ttl b.moment b.request.now core.state b.awards.now in
+    let t = beside core.settings b.moment b.request.now core.state b.awards.now in
     let fresh = sym c.has.ensures ∙ c.if-has.false in
     let (few, d, at, bids) = asked_known core b.touched.now b.awards.now o c.requires.known fresh in
     c.may_pay_bid.ensures d at

@@ -9,7 +9,7 @@ pub overflow_sub-account : goal.overflow_sub-account
 overflow_sub-account c =
     let a = c.account-account.result.now in
     let n = c.release-released.result in
-    let rows = subst (λ rs. (gone : Gone) → n + committed_of c.args.c gone (expired c.args.moment rs) ≡ committed_of c.args.c gone rs) c.deref.ensures.value c.release-released.ensures in
+    let rows = c.release-released.ensures in
     let sales = subst (λ (v : BookState). (gone : Gone) → n + committed_of c.args.c gone (expired c.args.moment v.sales) ≡ committed_of c.args.c gone v.sales) c.self.view_is rows in
     omega (arith, sales a.gone, committed_is c.args.c c.args.self.now.sales a c.account-account.ensures.account)
 
@@ -17,7 +17,7 @@ pub returns : goal.returns
 returns c = λ d.
     let a = c.account-account.result.now in
     let n = c.release-released.result in
-    let rows = subst (λ rs. (gone : Gone) → n + committed_of c.args.c gone (expired c.args.moment rs) ≡ committed_of c.args.c gone rs) c.deref.ensures.value c.release-released.ensures in
+    let rows = c.release-released.ensures in
     let sales = subst (λ (v : BookState). (gone : Gone) → n + committed_of c.args.c gone (expired c.args.moment v.sales) ≡ committed_of c.args.c gone v.sales) c.self.view_is rows in
     let funds = c.account-account.ensures.funds d in
     let budget = ap (λ (p : Funds). p.budget) funds in

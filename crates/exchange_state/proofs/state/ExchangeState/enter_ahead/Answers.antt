@@ -39,7 +39,7 @@ returns-in-Ok-clause-entered g c = λ o l w x.
     let ahead : is_ahead old ≡ true = sym c.if-not-is_ahead.ensures in
     some_map (CarriesAhead command m mid new) (Enters o l w command m new) c.place_ahead.result
     (λ s k. entered_ahead o l w m command mid new s k (same_ahead old mid same ∙ ahead) (same_stands o l old mid same x))
-    (c.place_ahead.ensures.done command m (same_drafts command m old.core mid.core c.in-Ok.draft same.ttl same.state c.in-Ok.ensures.draft))
+    (c.place_ahead.ensures.done command m (same_drafts command m old.core mid.core c.in-Ok.draft same.settings same.state c.in-Ok.ensures.draft))
 
 pub returns-in-Ok-clause-ahead : goal.returns-in-Ok-clause-ahead
 returns-in-Ok-clause-ahead g c = λ o l t x has.

@@ -14,4 +14,4 @@ returns-in-Ok-clause-done g c =
     let m = c.args.moment in
     ok_map (CarriesOut command m mid new) (CarriesOut command m old new) c.place.result
     (λ s k. carried_after command m old mid new s same k)
-    (c.place.ensures.done command m (same_drafts command m old.core mid.core c.in-Ok.draft same.ttl same.state c.in-Ok.ensures.draft))
+    (c.place.ensures.done command m (same_drafts command m old.core mid.core c.in-Ok.draft same.settings same.state c.in-Ok.ensures.draft))

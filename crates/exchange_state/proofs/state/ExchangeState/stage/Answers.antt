@@ -29,11 +29,11 @@ returns-in-Ok-Some-clause-staged g c = λ o l x.
     let same = c.block_ahead.ensures.same in
     let command = c.args.command.now in
     let m = c.args.moment in
-    let made = effect_of old.core.ttl m old.core.state command in
+    let made = effect_of old.core.settings m old.core.state command in
     let b = block_some made c.in-Ok-Some.block (sym c.in-Ok-Some.field-0-is ∙ c.in-Ok-Some.ensures.block) in
     let r = c.errand_ahead.result in
     let idle : is_idle old ≡ true = sym c.if-not-is_idle.ensures in
-    staged o l command m mid r b.0 (same_idle old mid same ∙ idle) (sym (effect_as o (calls l) command m old.core.ttl old.core.state x.ttl x.state) ∙ b.1)
+    staged o l command m mid r b.0 (same_idle old mid same ∙ idle) (sym (effect_as o (calls l) command m old.core.settings old.core.state x.settings x.state) ∙ b.1)
     (subst (λ (f : Option Effect). All IsEncodable (option_to_list f)) b.1 c.in-Ok-Some.ensures.encodable)
     c.errand_ahead.ensures.home
     (c.errand_ahead.ensures.errand ∙ ap (λ k. record { journal = r.journal; block = k; upto = mid.placed + 1; again = false }) b.2)

@@ -1,7 +1,11 @@
-use Rattle.std.proofs.Common.{Bool, ◌+◌, ap, ◌∙◌}
+use Rattle.std.proofs.Common.{Bool, ◌+◌, ap, sym, ◌∙◌}
 use Rattle.std.specs.Prelude.{if◌then◌else◌}
+use Rattle.audit.specs.Accounts.{settings_of}
 use Rattle.made_run.proofs.SoFar.{on_ok, one_more}
 use Rattle.made_run.proofs.gathering.Gathering.put.Goals as goal
+
+pub judge-requires-clause-settings : goal.judge-requires-clause-settings
+judge-requires-clause-settings c = c.requires.ready.settings ∙ ap settings_of (sym c.requires.ready.header_is)
 
 pub returns-clause-one : goal.returns-clause-one
 returns-clause-one c =
