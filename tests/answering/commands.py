@@ -7,7 +7,8 @@
 - `make_audited | WORDS`: what the audit of the trace that `make WORDS trace` prints comes to, over an empty journal.
 - `make_changed | WORDS | BACK | BYTE`: the same, where the trace has this byte so many places before its end.
 - `run | WORDS | FIELD | ..`: the status, and what is written. `journal BYTES` is what the file has that the words name,
-  and is empty where that is missing, `source BYTES` what is read, and `reads N ..` and `writes N ..` are the numbers of
+  and is empty where that is missing, `key BYTES` what the first file of a key has that they name, and then the second, none
+  of which is there without it, `source BYTES` what is read, and `reads N ..` and `writes N ..` are the numbers of
   the reads and of the writes that fail.
 - `files | WORDS | FIELD | ..`: the same, with `file BYTES` for the file that is written, and behind it in brackets what
   the two files have then, each `=` where it is what it was.
@@ -20,7 +21,7 @@ from answering.lines import words_of
 from serving.checks import LIMIT
 
 # What the world of the system has, and what a run may ask of it here.
-ASKED = {b"journal", b"file", b"source", b"reads", b"writes"}
+ASKED = {b"journal", b"file", b"key", b"source", b"reads", b"writes"}
 
 
 def ended(program, folder, words, given=b"", env=None):
@@ -82,6 +83,15 @@ def is_asked(call, args, wanted):
     return call in ("run", "files") and set(fields) <= ASKED and not serves and b" none" not in wanted
 
 
+def put_keys(folder, words, args):
+    """The files of keys that the words name."""
+    keys = [it.partition(b" ")[2] for it in args[1:] if it.startswith(b"key ")]
+    for option, name in zip(words, words[1:]):
+        if option in (b"--key", b"--former-key"):
+            path = folder / name.decode()
+            path.write_bytes(keys.pop(0)) if keys else path.unlink(missing_ok=True)
+
+
 def run(program, folder, system, call, args):
     words, fields = fields_in(args)
     journal, file = fields.get(b"journal", b""), fields.get(b"file", b"")
@@ -89,6 +99,7 @@ def run(program, folder, system, call, args):
         (folder / name).write_bytes(journal)
     for name in "kq":
         (folder / name).write_bytes(file)
+    put_keys(folder, words, args)
     fails = {name: fields[name.encode()].decode() for name in ("reads", "writes") if name.encode() in fields}
     env = system.env(**fails) if fails else None
     came = told(*ended(program, folder, words, fields.get(b"source", b""), env)[:2])

@@ -6,6 +6,8 @@
 - `times N MESSAGE`: the message so many times, of which the last answer is told.
 - `ttl N`: how long a sale is held, in milliseconds; it stands in front. Without it, 300000.
 - `sales N`: how many sales the list is to have at most; it stands in front.
+- `key HEX`: the server signs its addresses by this key, of hexadecimal digits; it stands in front.
+- `rekey HEX`: the server ends and begins again with this key, and with the one before it as the former key.
 - `forget N`: the journal is written anew by `compact --keep N`, and served from there.
 - `replay`: the server ends and begins again over its journal.
 
@@ -48,12 +50,21 @@ class Exchange:
         self.journal = self.new_path()
         self.server = self.link = None
         self.taken = 0
+        self.sign(None)
+
+    def sign(self, key, former=None):
+        """Begins with these keys, of hexadecimal digits, from the next time on."""
+        self.key, self.signs = key, ()
+        for name, digits in {"key": key, "former-key": former}.items():
+            if digits:
+                (self.folder / name).write_bytes(bytes.fromhex(digits))
+                self.signs += (f"--{name}", self.folder / name)
 
     def new_path(self):
         return self.folder / f"exchange{next(self.numbers)}.journal"
 
     def begin(self):
-        self.server = Running(self.program, self.journal, ttl=self.ttl, env=self.system.clock(), more=self.more)
+        self.server = Running(self.program, self.journal, ttl=self.ttl, env=self.system.clock(), more=[*self.more, *self.signs])
         self.link, self.taken = self.server.link(), 0
 
     def end(self):
@@ -113,6 +124,10 @@ def take(exchange, field):
     if name == b"replay":
         exchange.replay()
         return None, 0
+    if name == b"rekey":
+        exchange.sign(rest.decode(), exchange.key)
+        exchange.replay()
+        return None, 0
     if name == b"forget":
         exchange.forget(rest.decode())
         return None, 0
@@ -130,6 +145,8 @@ def try_exchange(program, folder, system, fields):
     if fields[0].startswith(b"sales "):
         more = ("--sales", fields.pop(0)[6:].decode())
     exchange = Exchange(program, folder, system, ttl, more)
+    if fields[0].startswith(b"key "):
+        exchange.sign(fields.pop(0)[4:].decode())
     system.stand_at(0)
     try:
         exchange.begin()

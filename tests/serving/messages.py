@@ -1,6 +1,8 @@
 """Messages and their answers, byte for byte, and the campaigns and requests that several parts send."""
 
+import hmac
 import json
+import re
 
 PUBLIC = "http://x.example"
 
@@ -27,6 +29,7 @@ REASONS = {
     201: "Created",
     204: "No Content",
     400: "Bad Request",
+    403: "Forbidden",
     404: "Not Found",
     405: "Method Not Allowed",
     409: "Conflict",
@@ -73,6 +76,32 @@ def number(n):
 
 def new(n):
     return answer(201, f'{{"campaign":{n}}}')
+
+
+def token(key, path):
+    """What stands behind the path of a notice, and is told of that of a campaign, where addresses are signed by the key."""
+    return hmac.new(key, path.encode(), "sha256").hexdigest()[:32]
+
+
+def signed(key, path):
+    """The path with its token."""
+    return f"{path}/{token(key, path)}"
+
+
+def keyed_body(body, key, is_new):
+    """The body of an answer of a server that signs addresses, by that of one that does not; `is_new` is of a campaign's 201."""
+    body = re.sub(r'(/(?:bill|lose)/\d+)"', lambda it: signed(key, it[1]) + '"', body)
+    if is_new:
+        body = re.sub(r'\{"campaign":(\d+)\}', lambda it: f'{{"campaign":{it[1]},"token":"{token(key, "/campaign/" + it[1])}"}}', body)
+    return body
+
+
+def keyed(given, key):
+    """The answer likewise."""
+    head, end, body = given.decode().partition("\r\n\r\n")
+    body = keyed_body(body, key, head.startswith("HTTP/1.1 201 "))
+    head = re.sub(r"Content-Length: \d+", f"Content-Length: {len(body.encode())}", head)
+    return (head + end + body).encode()
 
 
 def settled(n, state):

@@ -1,6 +1,7 @@
 -- An audit over a journal, and what it reads of the source.
 use Rattle.std.proofs.Common.{◌≡◌, ◌∙◌, ℕ, List, Option, Result, Ok, Err, true, refl, sym, ap, subst, arith, inl, inr}
 use Rattle.std.specs.Prelude.{IfErr, IfOk, OnOk}
+use Rattle.address_keys.specs.declared.keys.Keys.{Keys}
 use Rattle.auction_core.specs.Core.{CoreState}
 use Rattle.audit.specs.Standing.{Said}
 use Rattle.audit.specs.Verdicts.{Audits, IsOfJournal, of_journal, of_source}
@@ -22,43 +23,43 @@ use Rattle.rtb_io.specs.declared.ReadFault.TheVariants as read
 use Rattle.trace.specs.declared.header.Header.{Header}
 
 -- what was said of a trace over a journal that gives this state
-said_audits : (store : Store) (s : State) (left left' : Option (List ℕ)) (said : Result Verdict AuditFault) → (store.told ≡ true → GivesState store.reads s) → Said s left left' said → Audits store left left' said
-said_audits store s left left' (Ok v) gives (bytes, consumes, says) = Audits.judged s bytes gives consumes says
-said_audits store s left left' (Err fault.DiskFailed) gives said = absurd said
-said_audits store s left left' (Err (fault.Damaged at)) gives said = absurd said
-said_audits store s left left' (Err fault.SourceFailed) gives said = Audits.unread (inr (inl refl))
-said_audits store s left left' (Err (fault.Torn at)) gives (bytes, consumes, says) = Audits.judged s bytes gives consumes says
-said_audits store s left left' (Err fault.TooLong) gives (bytes, consumes, says) = Audits.judged s bytes gives consumes says
-said_audits store s left left' (Err fault.Memory) gives said = Audits.unread (inr (inr refl))
+said_audits : (keys : Keys) (store : Store) (s : State) (left left' : Option (List ℕ)) (said : Result Verdict AuditFault) → (store.told ≡ true → GivesState store.reads s) → Said keys s left left' said → Audits keys store left left' said
+said_audits keys store s left left' (Ok v) gives (bytes, consumes, says) = Audits.judged s bytes gives consumes says
+said_audits keys store s left left' (Err fault.DiskFailed) gives said = absurd said
+said_audits keys store s left left' (Err (fault.Damaged at)) gives said = absurd said
+said_audits keys store s left left' (Err fault.SourceFailed) gives said = Audits.unread (inr (inl refl))
+said_audits keys store s left left' (Err (fault.Torn at)) gives (bytes, consumes, says) = Audits.judged s bytes gives consumes says
+said_audits keys store s left left' (Err fault.TooLong) gives (bytes, consumes, says) = Audits.judged s bytes gives consumes says
+said_audits keys store s left left' (Err fault.Memory) gives said = Audits.unread (inr (inr refl))
 
 -- what was said where the journal gives none
-unread_audits : (store : Store) (left left' : Option (List ℕ)) (said : Result Verdict AuditFault) (f : JournalFault) → (store.told ≡ true → Opens store.reads (Err f)) → said ≡ Err (of_journal f) → Audits store left left' said
-unread_audits store left left' said journal.DiskFailed opens is = Audits.unread (inl is)
-unread_audits store left left' said (journal.Damaged at) opens is = Audits.damaged at is opens
-unread_audits store left left' said journal.Memory opens is = Audits.unread (inr (inr is))
+unread_audits : (keys : Keys) (store : Store) (left left' : Option (List ℕ)) (said : Result Verdict AuditFault) (f : JournalFault) → (store.told ≡ true → Opens store.reads (Err f)) → said ≡ Err (of_journal f) → Audits keys store left left' said
+unread_audits keys store left left' said journal.DiskFailed opens is = Audits.unread (inl is)
+unread_audits keys store left left' said (journal.Damaged at) opens is = Audits.damaged at is opens
+unread_audits keys store left left' said journal.Memory opens is = Audits.unread (inr (inr is))
 
-pub audits_by : (store : Store) (left left' : Option (List ℕ)) (read : Result CoreState JournalFault) (said : Result Verdict AuditFault) → (store.told ≡ true → Opens store.reads read)
-    → IfOk read (λ core. Said core.state left left' said) → IfErr read (λ f. said ≡ Err (of_journal f)) → Audits store left left' said
-audits_by store left left' (Ok core) said opens says unread = said_audits store core.state left left' said opens says
-audits_by store left left' (Err f) said opens says unread = unread_audits store left left' said f opens unread
+pub audits_by : (keys : Keys) (store : Store) (left left' : Option (List ℕ)) (read : Result CoreState JournalFault) (said : Result Verdict AuditFault) → (store.told ≡ true → Opens store.reads read)
+    → IfOk read (λ core. Said keys core.state left left' said) → IfErr read (λ f. said ≡ Err (of_journal f)) → Audits keys store left left' said
+audits_by keys store left left' (Ok core) said opens says unread = said_audits keys store core.state left left' said opens says
+audits_by keys store left left' (Err f) said opens says unread = unread_audits keys store left left' said f opens unread
 
 -- ---- what of the source was read
 
 -- what is said of a trace is nothing of the journal
-not_of_journal : (s : State) (left left' : Option (List ℕ)) (said : Result Verdict AuditFault) → Said s left left' said → IsOfJournal said → ⊥
-not_of_journal s left left' (Ok v) says is = is
-not_of_journal s left left' (Err fault.DiskFailed) says is = says
-not_of_journal s left left' (Err (fault.Damaged at)) says is = says
-not_of_journal s left left' (Err fault.SourceFailed) says is = is
-not_of_journal s left left' (Err (fault.Torn at)) says is = is
-not_of_journal s left left' (Err fault.TooLong) says is = is
-not_of_journal s left left' (Err fault.Memory) says is = is
+not_of_journal : (keys : Keys) (s : State) (left left' : Option (List ℕ)) (said : Result Verdict AuditFault) → Said keys s left left' said → IsOfJournal said → ⊥
+not_of_journal keys s left left' (Ok v) says is = is
+not_of_journal keys s left left' (Err fault.DiskFailed) says is = says
+not_of_journal keys s left left' (Err (fault.Damaged at)) says is = says
+not_of_journal keys s left left' (Err fault.SourceFailed) says is = is
+not_of_journal keys s left left' (Err (fault.Torn at)) says is = is
+not_of_journal keys s left left' (Err fault.TooLong) says is = is
+not_of_journal keys s left left' (Err fault.Memory) says is = is
 
 -- so nothing was read
-pub first_by : {Source : Type 0} (old new : Source) (left left' : Option (List ℕ)) (read : Result CoreState JournalFault) (said : Result Verdict AuditFault) → IfOk read (λ core. Said core.state left left' said)
+pub first_by : {Source : Type 0} (keys : Keys) (old new : Source) (left left' : Option (List ℕ)) (read : Result CoreState JournalFault) (said : Result Verdict AuditFault) → IfOk read (λ core. Said keys core.state left left' said)
     → IfErr read (λ _. new ≡ old) → IsOfJournal said → new ≡ old
-first_by old new left left' (Ok core) said says same is = absurd (not_of_journal core.state left left' said says is)
-first_by old new left left' (Err f) said says same is = same
+first_by keys old new left left' (Ok core) said says same is = absurd (not_of_journal keys core.state left left' said says is)
+first_by keys old new left left' (Err f) said says same is = same
 
 -- a fault of the journal is none of the source
 no_source : (f : JournalFault) (said : Result Verdict AuditFault) → said ≡ Err (of_journal f) → said ≡ Err fault.SourceFailed → ⊥

@@ -8,6 +8,7 @@ ghost use Rattle.http_wire.specs.Answers.{memory_answer};
 ghost use Rattle.plain_exchange.specs.Step.{step};
 ghost use Rattle.rtb_response.specs.Replies.{answer_of};
 
+use address_keys::Keys;
 use auction_core::{Command, Core, Reply};
 use command_read::{CommandFault, read_command};
 use http_wire::Answer;
@@ -26,18 +27,19 @@ pub fn account(
     alloc: Global,
     core: &mut Core,
     header: &Header,
+    keys: &Keys,
     entry: &Entry,
 ) -> Result<bool, AllocError>
     requires settings { core.old.settings ≡ settings_of header.now }
-    ensures leads { IfOk result (λ accounts. LeadsTo header.now core.old.state entry.now (if accounts then Some core.new.state else None)) }
+    ensures leads { IfOk result (λ accounts. LeadsTo keys.now header.now core.old.state entry.now (if accounts then Some core.new.state else None)) }
     ensures settings { core.new.settings ≡ core.old.settings }
 {
     if tells_memory(entry) {
         return Ok(true);
     }
-    match read_command(alloc, &entry.message) {
+    match read_command(alloc, keys, &entry.message) {
         Ok(command) => {
-            let accounts = account_command(alloc, core, header, entry, &command);
+            let accounts = account_command(alloc, core, header, keys, entry, &command);
             drop(command);
             accounts
         }
@@ -57,16 +59,17 @@ fn account_command(
     alloc: Global,
     core: &mut Core,
     header: &Header,
+    keys: &Keys,
     entry: &Entry,
     command: &Command,
 ) -> Result<bool, AllocError>
     requires valid { IsTrue (is_valid_command command.now) }
     requires settings { core.old.settings ≡ settings_of header.now }
-    ensures leads { IfOk result (λ accounts. accounted header.now core.old.state entry.now (Ok command.now) ≡ (if accounts then Some core.new.state else None)) }
+    ensures leads { IfOk result (λ accounts. accounted keys.now header.now core.old.state entry.now (Ok command.now) ≡ (if accounts then Some core.new.state else None)) }
     ensures settings { core.new.settings ≡ core.old.settings }
 {
     let found = find_for(alloc, core, command)?;
-    let accounts = account_found(alloc, core, header, entry, command, found.as_slice());
+    let accounts = account_found(alloc, core, header, keys, entry, command, found.as_slice());
     drop(found);
     accounts
 }
@@ -78,6 +81,7 @@ pub fn account_found(
     alloc: Global,
     core: &mut Core,
     header: &Header,
+    keys: &Keys,
     entry: &Entry,
     command: &Command,
     found: &[List<u32>],
@@ -85,11 +89,11 @@ pub fn account_found(
     requires valid { IsTrue (is_valid_command command.now) }
     requires found { found.now ≡ found_of core.old.state command.now }
     requires settings { core.old.settings ≡ settings_of header.now }
-    ensures leads { IfOk result (λ accounts. accounted header.now core.old.state entry.now (Ok command.now) ≡ (if accounts then Some core.new.state else None)) }
+    ensures leads { IfOk result (λ accounts. accounted keys.now header.now core.old.state entry.now (Ok command.now) ≡ (if accounts then Some core.new.state else None)) }
     ensures settings { core.new.settings ≡ core.old.settings }
 {
     let reply = carry_out(alloc, core, command, found, entry.moment)?;
-    let accounts = tells_so(alloc, header, entry, command, &reply);
+    let accounts = tells_so(alloc, header, keys, entry, command, &reply);
     drop(reply);
     accounts
 }
@@ -129,29 +133,37 @@ fn find_for(alloc: Global, core: &Core, command: &Command) -> Result<Vec<List<u3
 fn tells_so(
     alloc: Global,
     header: &Header,
+    keys: &Keys,
     entry: &Entry,
     command: &Command,
     reply: &Reply,
 ) -> Result<bool, AllocError>
-    ensures { IfOk result (λ r. r ≡ (tells_failure entry.now || tells entry.now (answer_of (request_of command.now) (Some header.now.public) reply.now))) }
+    ensures { IfOk result (λ r. r ≡ (tells_failure entry.now || tells entry.now (answer_of (request_of command.now) (Some header.now.public) keys.now reply.now))) }
 {
     if tells_failure(entry) {
         return Ok(true);
     }
-    tells_reply(alloc, header, entry, command, reply)
+    tells_reply(alloc, header, keys, entry, command, reply)
 }
 
 // Whether the entry tells the answer to the reply.
 fn tells_reply(
     alloc: Global,
     header: &Header,
+    keys: &Keys,
     entry: &Entry,
     command: &Command,
     reply: &Reply,
 ) -> Result<bool, AllocError>
-    ensures { IfOk result (λ r. r ≡ tells entry.now (answer_of (request_of command.now) (Some header.now.public) reply.now)) }
+    ensures { IfOk result (λ r. r ≡ tells entry.now (answer_of (request_of command.now) (Some header.now.public) keys.now reply.now)) }
 {
-    let answer = write_reply(alloc, request_in(command), reply, Some(&header.public))?;
+    let answer = write_reply(
+        alloc,
+        request_in(command),
+        reply,
+        Some(&header.public),
+        keys,
+    )?;
     let tells = tells_answer(entry, &answer);
     drop(answer);
     Ok(tells)

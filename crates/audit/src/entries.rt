@@ -1,5 +1,6 @@
 //! The entries of a trace, one after the other.
 ghost use Rattle.std.specs.Prelude.{◌≡◌, ◌≢◌, ◌+◌, ◌<◌, ◌≤◌, ◌^◌, ℕ, List, None, Ok, Err, IfOk, Option, Some, if◌then◌else◌, length};
+ghost use Rattle.address_keys.specs.declared.keys.Keys.{Keys as AKeys};
 ghost use Rattle.audit.specs.Accounts.{settings_of};
 ghost use Rattle.audit.specs.Standing.{Goes, IsBefore, IsStanding, Said};
 ghost use Rattle.plain_exchange.specs.State.{State};
@@ -9,6 +10,7 @@ ghost use Rattle.trace.specs.Traces.{IsEntry, entry_bytes};
 use crate::accounting::{account, passes};
 use crate::input::{Input, Next};
 use crate::verdict::{AuditFault, Verdict};
+use address_keys::Keys;
 use auction_core::Core;
 use rtb_num::Source;
 use std::alloc::{AllocError, Global};
@@ -48,16 +50,17 @@ impl Audit {
     pub(crate) fn run<S: Source>(
         &mut self,
         alloc: Global,
+        keys: &Keys,
         source: &mut S,
     ) -> Result<Verdict, AuditFault>
         requires settings { self.old.core.settings ≡ settings_of self.old.header }
         requires few { self.old.entries ≤ 2 ^ 32 }
         requires passed { self.old.passed ≤ self.old.entries }
-        ensures says { (s : State) (left : Option (List ℕ)) → IsStanding s left (S.left source.old) self.old → Said s left (S.left source.new) result }
+        ensures says { (s : State) (left : Option (List ℕ)) → IsStanding keys.now s left (S.left source.old) self.old → Said keys.now s left (S.left source.new) result }
         ensures cause { RisesOnlyWhere (result ≡ Err AuditFault.SourceFailed) (S.faults source.old) (S.faults source.new) }
     {
         while self.entries < MOST_ENTRIES {
-            if let Some(verdict) = self.step(alloc, source)? {
+            if let Some(verdict) = self.step(alloc, keys, source)? {
                 return Ok(verdict);
             }
         }
@@ -68,6 +71,7 @@ impl Audit {
     fn step<S: Source>(
         &mut self,
         alloc: Global,
+        keys: &Keys,
         source: &mut S,
     ) -> Result<Option<Verdict>, AuditFault>
         requires settings { self.old.core.settings ≡ settings_of self.old.header }
@@ -76,12 +80,12 @@ impl Audit {
         ensures counted { result ≡ Ok None → self.new.entries ≡ self.old.entries + 1 }
         ensures settings { self.new.core.settings ≡ settings_of self.new.header }
         ensures passed { self.new.passed ≤ self.new.entries }
-        ensures says { (s : State) (left : Option (List ℕ)) → IsStanding s left (S.left source.old) self.old → Goes s left (S.left source.new) self.new result }
+        ensures says { (s : State) (left : Option (List ℕ)) → IsStanding keys.now s left (S.left source.old) self.old → Goes keys.now s left (S.left source.new) self.new result }
         ensures cause { RisesOnlyWhere (result ≡ Err AuditFault.SourceFailed) (S.faults source.old) (S.faults source.new) }
     {
         match self.input.next::<Entries, S>(alloc, source)? {
             Next::Item(entry, size) => {
-                let judged = self.judge(alloc, &entry, size);
+                let judged = self.judge(alloc, keys, &entry, size);
                 drop(entry);
                 judged
             }
@@ -94,6 +98,7 @@ impl Audit {
     fn judge(
         &mut self,
         alloc: Global,
+        keys: &Keys,
         entry: &Entry,
         size: usize,
     ) -> Result<Option<Verdict>, AuditFault>
@@ -106,9 +111,9 @@ impl Audit {
         ensures settings { self.new.core.settings ≡ settings_of self.new.header }
         ensures passed { self.new.passed ≤ self.new.entries }
         ensures no_source { result ≢ Err AuditFault.SourceFailed }
-        ensures says { (s : State) (left left' : Option (List ℕ)) → IsBefore s left left' entry.now self.old → Goes s left left' self.new result }
+        ensures says { (s : State) (left left' : Option (List ℕ)) → IsBefore keys.now s left left' entry.now self.old → Goes keys.now s left left' self.new result }
     {
-        if !account(alloc, &mut self.core, &self.header, entry)? {
+        if !account(alloc, &mut self.core, &self.header, keys, entry)? {
             return Ok(Some(Verdict::Illegal { at: self.entries }));
         }
         self.entries += 1;
@@ -120,7 +125,7 @@ impl Audit {
     // Behind the most entries nothing may be left.
     fn end<S: Source>(&mut self, alloc: Global, source: &mut S) -> Result<Verdict, AuditFault>
         requires most { self.old.entries ≡ 2 ^ 32 }
-        ensures says { (s : State) (left : Option (List ℕ)) → IsStanding s left (S.left source.old) self.old → Said s left (S.left source.new) result }
+        ensures says { (keys : AKeys) (s : State) (left : Option (List ℕ)) → IsStanding keys s left (S.left source.old) self.old → Said keys s left (S.left source.new) result }
         ensures cause { RisesOnlyWhere (result ≡ Err AuditFault.SourceFailed) (S.faults source.old) (S.faults source.new) }
     {
         if self.input.has_more(alloc, source)? {

@@ -12,6 +12,7 @@ ghost use Rattle.trace.specs.Traces.{IsHeader, header_bytes};
 use crate::entries::Audit;
 use crate::input::{Input, Next};
 use crate::verdict::{AuditFault, Verdict};
+use address_keys::Keys;
 use auction_core::Core;
 use journal_file::{JournalFault, Reading};
 use recovery::replay;
@@ -25,7 +26,7 @@ use trace::{Header, Headers};
 const MOST_SALES: u64 = 4_194_304;
 
 /// Reads the journal on the disk and then the trace, and says whether the trace accounts for itself from the journal's
-/// state on.
+/// state on, where addresses are signed by `keys`.
 ///
 /// Where the journal gives no state nothing is read of the trace. Nothing is written to the disk; it is synced. No more
 /// of the trace is held than one entry, and pieces of about 60 KiB.
@@ -33,15 +34,16 @@ pub fn audit_run<D: Disk, I: Source>(
     alloc: Global,
     disk: D,
     source: &mut I,
+    keys: &Keys,
 ) -> (D, Result<Verdict, AuditFault>)
-    ensures audits { Audits (D.store disk) (I.left source.old) (I.left source.new) result.1 }
+    ensures audits { Audits keys.now (D.store disk) (I.left source.old) (I.left source.new) result.1 }
     ensures first { IsOfJournal result.1 → source.new ≡ source.old }
     ensures unwritten { IsUnwritten (D.store disk) (D.store result.0) }
     ensures disk_cause { RisesOnlyWhere (result.1 ≡ Err AuditFault.DiskFailed) (D.faults disk) (D.faults result.0) }
     ensures source_cause { RisesOnlyWhere (result.1 ≡ Err AuditFault.SourceFailed) (I.faults source.old) (I.faults source.new) }
 {
     let (disk, read) = read_journal(alloc, disk);
-    let said = judge(alloc, read, source);
+    let said = judge(alloc, read, source, keys);
     (disk, said)
 }
 
@@ -73,26 +75,32 @@ fn judge<I: Source>(
     alloc: Global,
     read: Result<Core, JournalFault>,
     source: &mut I,
+    keys: &Keys,
 ) -> Result<Verdict, AuditFault>
-    ensures says { IfOk read (λ core. Said core.state (I.left source.old) (I.left source.new) result) }
+    ensures says { IfOk read (λ core. Said keys.now core.state (I.left source.old) (I.left source.new) result) }
     ensures unread { IfErr read (λ fault. result ≡ Err (of_journal fault)) }
     ensures first { IfErr read (λ _. source.new ≡ source.old) }
     ensures cause { RisesOnlyWhere (result ≡ Err AuditFault.SourceFailed) (I.faults source.old) (I.faults source.new) }
 {
     match read {
-        Ok(core) => judge_trace(alloc, core, source),
+        Ok(core) => judge_trace(alloc, core, source, keys),
         Err(fault) => Err(fault.into()),
     }
 }
 
 // The same, over an exchange.
-fn judge_trace<I: Source>(alloc: Global, core: Core, source: &mut I) -> Result<Verdict, AuditFault>
-    ensures says { Said core.state (I.left source.old) (I.left source.new) result }
+fn judge_trace<I: Source>(
+    alloc: Global,
+    core: Core,
+    source: &mut I,
+    keys: &Keys,
+) -> Result<Verdict, AuditFault>
+    ensures says { Said keys.now core.state (I.left source.old) (I.left source.new) result }
     ensures cause { RisesOnlyWhere (result ≡ Err AuditFault.SourceFailed) (I.faults source.old) (I.faults source.new) }
 {
     let mut input = Input::new(alloc);
     let header = input.next::<Headers, I>(alloc, source);
-    judge_behind(alloc, core, header, input, source)
+    judge_behind(alloc, core, header, input, source, keys)
 }
 
 // The same, of a trace of which this came first.
@@ -102,13 +110,16 @@ fn judge_behind<I: Source>(
     header: Result<Next<Header>, ReadFault>,
     input: Input,
     source: &mut I,
+    keys: &Keys,
 ) -> Result<Verdict, AuditFault>
-    ensures says { (left : Option (List ℕ)) → IfOk header (IsNext IsHeader header_bytes left (I.left source.old) [] input) → Said core.state left (I.left source.new) result }
+    ensures says { (left : Option (List ℕ)) → IfOk header (IsNext IsHeader header_bytes left (I.left source.old) [] input) → Said keys.now core.state left (I.left source.new) result }
     ensures cause { OnOk header (RisesOnlyWhere (result ≡ Err AuditFault.SourceFailed) (I.faults source.old) (I.faults source.new)) }
     ensures no_header { IfErr header (λ fault. (result ≡ Err (of_source fault)) × (source.new ≡ source.old)) }
 {
     match header {
-        Ok(Next::Item(header, size)) => judge_entries(alloc, core, header, size, input, source),
+        Ok(Next::Item(header, size)) => judge_entries(
+            alloc, core, header, size, input, source, keys,
+        ),
         Ok(Next::End) => end_apart(core, input, Err(AuditFault::Torn { at: 0 })),
         Ok(Next::Torn) => end_apart(core, input, Err(AuditFault::Torn { at: 0 })),
         Err(fault) => end_apart(core, input, Err(fault.into())),
@@ -123,14 +134,15 @@ fn judge_entries<I: Source>(
     size: usize,
     input: Input,
     source: &mut I,
+    keys: &Keys,
 ) -> Result<Verdict, AuditFault>
-    ensures says { (left : Option (List ℕ)) → IsNext IsHeader header_bytes left (I.left source.old) [] input (Next.Item header size) → Said core.state left (I.left source.new) result }
+    ensures says { (left : Option (List ℕ)) → IsNext IsHeader header_bytes left (I.left source.old) [] input (Next.Item header size) → Said keys.now core.state left (I.left source.new) result }
     ensures cause { RisesOnlyWhere (result ≡ Err AuditFault.SourceFailed) (I.faults source.old) (I.faults source.new) }
 {
     let mut core = core;
     core.hold_for(header.ttl, MOST_SALES);
     let mut audit = Audit::new(core, header, size as u64, input);
-    let said = audit.run(alloc, source);
+    let said = audit.run(alloc, keys, source);
     drop(audit);
     said
 }

@@ -6,6 +6,7 @@
 ghost use Rattle.std.specs.Prelude.{◌≡◌, IfOk, IfSome, IsTrue};
 ghost use Rattle.auction_core.specs.Draft.{is_simple, is_valid_command};
 
+use address_keys::Keys;
 use case_lines::kept;
 use command_read::{CommandFault, read_command};
 use http_wire::Message;
@@ -54,16 +55,18 @@ pub fn command_of(alloc: Global, target: &[u8], body: &[u8]) -> Result<Option<Co
     ensures valid { IfOk result (λ r. IfSome r (λ c. IsTrue (is_valid_command c))) }
 {
     let message = message_of(alloc, target, body)?;
-    let command = read(alloc, &message);
+    let keys = Keys::none();
+    let command = read(alloc, &keys, &message);
+    drop(keys);
     drop(message);
     command
 }
 
 #[tactic(auto, using(crate::proofs::Valid::valid_as_read))]
-fn read(alloc: Global, message: &Message) -> Result<Option<Command>, AllocError>
+fn read(alloc: Global, keys: &Keys, message: &Message) -> Result<Option<Command>, AllocError>
     ensures valid { IfOk result (λ r. IfSome r (λ c. IsTrue (is_valid_command c))) }
 {
-    match read_command(alloc, message) {
+    match read_command(alloc, keys, message) {
         Ok(command) => Ok(Some(command)),
         Err(CommandFault::Memory) => Err(AllocError),
         Err(refused) => {

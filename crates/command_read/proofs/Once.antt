@@ -1,8 +1,9 @@
 -- A message is read in one way.
 use Rattle.std.proofs.Common.{◌≡◌, ℕ, List, Bool, true, false, Option, Some, None, Result, Err, sym, ap, ◌∙◌, subst}
-use Rattle.command_read.specs.Commands.{IsCommandOf, IsOfBody, IsOfMethod, IsOfPath, IsOfRoute, IsWhereTaken, bad_body, campaign_command, faulty, request_command, said}
+use Rattle.address_keys.specs.declared.keys.Keys.{Keys}
+use Rattle.command_read.specs.Commands.{IsCommandOf, IsOfBody, IsOfMethod, IsOfPath, IsOfRoute, IsWhereOpen, IsWhereTaken, bad_body, campaign_command, faulty, request_command, said}
 use Rattle.command_read.specs.Methods.{method_of, takes}
-use Rattle.command_read.specs.Paths.{methods_of, path_of, route_of}
+use Rattle.command_read.specs.Paths.{methods_of, path_of, place_of}
 use Rattle.command_read.specs.declared.methods.Method.{Method}
 use Rattle.command_read.specs.declared.methods.Method.TheVariants as method
 use Rattle.command_read.specs.declared.paths.Route.{Route}
@@ -42,17 +43,22 @@ one_route (route.Bill n) m body one a b h k = h ∙ sym k
 one_route (route.Lose n) m body one a b h k = h ∙ sym k
 one_route (route.Forget keep) m body one a b h k = h ∙ sym k
 
-one_taken : (taken : Bool) (r : Route) (m : Method) (body : List ℕ) → IsOneThing body → (a b : Result Command Answer) → IsWhereTaken taken r m body a → IsWhereTaken taken r m body b → a ≡ b
-one_taken false r m body one a b h k = h ∙ sym k
-one_taken true r m body one a b h k = one_route r m body one a b h k
+one_open : (may : Bool) (r : Route) (m : Method) (body : List ℕ) → IsOneThing body → (a b : Result Command Answer) → IsWhereOpen may r m body a → IsWhereOpen may r m body b → a ≡ b
+one_open false r m body one a b h k = h ∙ sym k
+one_open true r m body one a b h k = one_route r m body one a b h k
 
-one_path : (path : Option Route) (m : Method) (body : List ℕ) → IsOneThing body → (a b : Result Command Answer) → IsOfPath path m body a → IsOfPath path m body b → a ≡ b
+one_taken : (taken : Bool) (place : Route × Bool) (m : Method) (body : List ℕ) → IsOneThing body → (a b : Result Command Answer)
+    → IsWhereTaken taken place m body a → IsWhereTaken taken place m body b → a ≡ b
+one_taken false place m body one a b h k = h ∙ sym k
+one_taken true place m body one a b h k = one_open place.1 place.0 m body one a b h k
+
+one_path : (place : Option (Route × Bool)) (m : Method) (body : List ℕ) → IsOneThing body → (a b : Result Command Answer) → IsOfPath place m body a → IsOfPath place m body b → a ≡ b
 one_path None m body one a b h k = h ∙ sym k
-one_path (Some r) m body one a b h k = one_taken (takes (methods_of r) m) r m body one a b h k
+one_path (Some place) m body one a b h k = one_taken (takes (methods_of place.0) m) place m body one a b h k
 
-one_method : (m : Option Method) (target body : List ℕ) → IsOneThing body → (a b : Result Command Answer) → IsOfMethod m target body a → IsOfMethod m target body b → a ≡ b
-one_method None target body one a b h k = h ∙ sym k
-one_method (Some m) target body one a b h k = one_path (route_of (path_of target)) m body one a b h k
+one_method : (keys : Keys) (m : Option Method) (target body : List ℕ) → IsOneThing body → (a b : Result Command Answer) → IsOfMethod keys m target body a → IsOfMethod keys m target body b → a ≡ b
+one_method keys None target body one a b h k = h ∙ sym k
+one_method keys (Some m) target body one a b h k = one_path (place_of keys (path_of target)) m body one a b h k
 
-pub one_reading : (message : Message) (bytes : List ℕ) → bytes ≡ message.body → IsOneThing bytes → (a b : Result Command Answer) → IsCommandOf message a → IsCommandOf message b → a ≡ b
-one_reading message bytes e one = one_method (method_of message.method) message.target message.body (subst IsOneThing e one)
+pub one_reading : (keys : Keys) (message : Message) (bytes : List ℕ) → bytes ≡ message.body → IsOneThing bytes → (a b : Result Command Answer) → IsCommandOf keys message a → IsCommandOf keys message b → a ≡ b
+one_reading keys message bytes e one = one_method keys (method_of message.method) message.target message.body (subst IsOneThing e one)

@@ -1,9 +1,10 @@
 -- Each refusal can be written: its status has a reason, and it lists methods exactly at 405.
 use Rattle.std.proofs.Common.{ℕ, List, [], ◌∷◌, Result, Ok, Err, IfErr, refl, arith}
+use Rattle.address_keys.specs.declared.keys.Keys.{Keys}
 use Rattle.campaign.specs.declared.parts.FactParts.{FactParts}
 use Rattle.campaign_read.specs.Campaign.{campaign_faults, campaign_from}
 use Rattle.campaign_read.specs.declared.fault.CampFault.{CampFault}
-use Rattle.command_read.specs.Commands.{IsCommandOf, bad_body, campaign_by, not_allowed, not_found, request_by}
+use Rattle.command_read.specs.Commands.{IsCommandOf, bad_body, campaign_by, forbidden, not_allowed, not_found, request_by}
 use Rattle.command_read.specs.Memory.{IfRefused, UnlessMemory}
 use Rattle.command_read.specs.Paths.{methods_of}
 use Rattle.command_read.specs.declared.fault.CommandFault.{CommandFault}
@@ -35,6 +36,9 @@ both_methods = record { status = refl; allow = refl; no_content = λ e. absurd (
 no_path : IsWritable not_found
 no_path = record { status = refl; allow = refl; no_content = λ e. absurd (omega (arith, e)); not_allowed = λ e. absurd (omega (arith, e)) }
 
+no_token : IsWritable forbidden
+no_token = record { status = refl; allow = refl; no_content = λ e. absurd (omega (arith, e)); not_allowed = λ e. absurd (omega (arith, e)) }
+
 of_body : (body : List ℕ) → IsWritable (bad_body body)
 of_body body = record { status = refl; allow = refl; no_content = λ e. absurd (omega (arith, e)); not_allowed = λ e. absurd (omega (arith, e)) }
 
@@ -61,6 +65,7 @@ each_writes = record {
   any_method = both_methods;
   method = of_methods;
   path = no_path;
+  token = no_token;
   body = of_body;
   auction = λ t. by_request (request_faults t) (request_from t);
   add = λ t. by_campaign command.Add (campaign_faults t) (campaign_from t);
@@ -73,7 +78,7 @@ each_writes = record {
   forget = λ keep. tt;
 }
 
-pub refusals_are_writable : (message : Message) (found : Result Command CommandFault) → UnlessMemory (IsCommandOf message) found → IfErr found (IfRefused IsWritable)
-refusals_are_writable message (Ok c) h = tt
-refusals_are_writable message (Err (fault.Refused a)) h = holds_of_reading Writes each_writes message (Err a) h
-refusals_are_writable message (Err fault.Memory) h = tt
+pub refusals_are_writable : (keys : Keys) (message : Message) (found : Result Command CommandFault) → UnlessMemory (IsCommandOf keys message) found → IfErr found (IfRefused IsWritable)
+refusals_are_writable keys message (Ok c) h = tt
+refusals_are_writable keys message (Err (fault.Refused a)) h = holds_of_reading Writes each_writes keys message (Err a) h
+refusals_are_writable keys message (Err fault.Memory) h = tt

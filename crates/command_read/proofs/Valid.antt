@@ -1,5 +1,6 @@
 -- The request of an auction is valid.
 use Rattle.std.proofs.Common.{◌≡◌, List, [], ◌∷◌, true, Result, Ok, Err, refl, subst}
+use Rattle.address_keys.specs.declared.keys.Keys.{Keys}
 use Rattle.campaign.specs.declared.parts.FactParts.{FactParts}
 use Rattle.campaign_read.specs.Campaign.{campaign_faults, campaign_from}
 use Rattle.campaign_read.specs.declared.fault.CampFault.{CampFault}
@@ -46,6 +47,7 @@ each_is_fine = record {
   any_method = tt;
   method = λ r. tt;
   path = tt;
+  token = tt;
   body = λ text. tt;
   auction = λ t. by_request t (request_faults t) refl;
   add = λ t. by_campaign command.Add (λ facts expr. tt) (campaign_faults t) (campaign_from t);
@@ -58,6 +60,6 @@ each_is_fine = record {
   forget = λ keep. tt;
 }
 
-pub requests_are_valid : (message : Message) (found : Result Command CommandFault) → UnlessMemory (IsCommandOf message) found
+pub requests_are_valid : (keys : Keys) (message : Message) (found : Result Command CommandFault) → UnlessMemory (IsCommandOf keys message) found
     → (r : BidRequest) → found ≡ Ok (command.Auction r) → is_valid r ≡ true
-requests_are_valid message found h r e = holds_of_reading IsFine each_is_fine message (Ok (command.Auction r)) (subst (UnlessMemory (IsCommandOf message)) e h)
+requests_are_valid keys message found h r e = holds_of_reading IsFine each_is_fine keys message (Ok (command.Auction r)) (subst (UnlessMemory (IsCommandOf keys message)) e h)

@@ -1,11 +1,12 @@
 -- The command that a message asks for, or the answer that refuses it: first by its method, then by its path,
--- then by the path's methods, and last by its body.
+-- then by the path's methods, then by its token where addresses are signed, and last by its body.
 use Rattle.std.specs.Prelude.{◌≡◌, ◌≢◌, List, [], ◌∷◌, Bool, true, false, Option, Some, None, Result, Ok, Err, codes, ℕ}
+use Rattle.address_keys.specs.declared.keys.Keys.{Keys}
 use Rattle.campaign.specs.declared.parts.FactParts.{FactParts}
 use Rattle.campaign_read.specs.Campaign.{campaign_faults, campaign_from}
 use Rattle.campaign_read.specs.declared.fault.CampFault.{CampFault}
 use Rattle.command_read.specs.Methods.{method_of, takes}
-use Rattle.command_read.specs.Paths.{methods_of, path_of, route_of}
+use Rattle.command_read.specs.Paths.{methods_of, path_of, place_of}
 use Rattle.command_read.specs.declared.methods.Method.{Method}
 use Rattle.command_read.specs.declared.methods.Method.TheVariants as method
 use Rattle.command_read.specs.declared.paths.Route.{Route}
@@ -36,6 +37,10 @@ not_allowed methods = record { status = 405; allow = methods; body = [] }
 -- section 15.5.5
 abbrev pub not_found : Answer
 not_found = record { status = 404; allow = allow.None; body = error_text (codes "not-found") }
+
+-- section 15.5.4
+abbrev pub forbidden : Answer
+forbidden = record { status = 403; allow = allow.None; body = error_text (codes "forbidden") }
 
 -- section 15.5.1
 abbrev pub bad_body : List ℕ → Answer
@@ -78,18 +83,22 @@ IsOfRoute (route.Bill n) m body found = found ≡ Ok (command.Bill n)
 IsOfRoute (route.Lose n) m body found = found ≡ Ok (command.Lose n)
 IsOfRoute (route.Forget keep) m body found = found ≡ Ok (command.Forget keep)
 
-abbrev pub IsWhereTaken : Bool → Route → Method → List ℕ → Result Command Answer → Type 0
-IsWhereTaken false r m body found = found ≡ Err (not_allowed (methods_of r))
-IsWhereTaken true r m body found = IsOfRoute r m body found
+abbrev pub IsWhereOpen : Bool → Route → Method → List ℕ → Result Command Answer → Type 0
+IsWhereOpen false r m body found = found ≡ Err forbidden
+IsWhereOpen true r m body found = IsOfRoute r m body found
 
-abbrev pub IsOfPath : Option Route → Method → List ℕ → Result Command Answer → Type 0
+abbrev pub IsWhereTaken : Bool → Route × Bool → Method → List ℕ → Result Command Answer → Type 0
+IsWhereTaken false place m body found = found ≡ Err (not_allowed (methods_of place.0))
+IsWhereTaken true place m body found = IsWhereOpen place.1 place.0 m body found
+
+abbrev pub IsOfPath : Option (Route × Bool) → Method → List ℕ → Result Command Answer → Type 0
 IsOfPath None m body found = found ≡ Err not_found
-IsOfPath (Some r) m body found = IsWhereTaken (takes (methods_of r) m) r m body found
+IsOfPath (Some place) m body found = IsWhereTaken (takes (methods_of place.0) m) place m body found
 
-abbrev pub IsOfMethod : Option Method → List ℕ → List ℕ → Result Command Answer → Type 0
-IsOfMethod None target body found = found ≡ Err (not_allowed allow.GetPost)
-IsOfMethod (Some m) target body found = IsOfPath (route_of (path_of target)) m body found
+abbrev pub IsOfMethod : Keys → Option Method → List ℕ → List ℕ → Result Command Answer → Type 0
+IsOfMethod keys None target body found = found ≡ Err (not_allowed allow.GetPost)
+IsOfMethod keys (Some m) target body found = IsOfPath (place_of keys (path_of target)) m body found
 
 -- the command that the message asks for, or its refusal
-abbrev pub IsCommandOf : Message → Result Command Answer → Type 0
-IsCommandOf message found = IsOfMethod (method_of message.method) message.target message.body found
+abbrev pub IsCommandOf : Keys → Message → Result Command Answer → Type 0
+IsCommandOf keys message found = IsOfMethod keys (method_of message.method) message.target message.body found

@@ -4,3 +4,4 @@ pub mod Methods
 pub mod Numbers
 pub mod Paths
 pub mod Posted
+pub mod Signed

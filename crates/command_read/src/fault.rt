@@ -9,7 +9,7 @@ use thiserror::Error;
 /// Why a message is read as no command.
 #[derive(Debug, Drop, Error)]
 pub enum CommandFault {
-    /// The answer that refuses it, with status 400, 404 or 405.
+    /// The answer that refuses it, with status 400, 403, 404 or 405.
     #[error("the message is refused")]
     Refused { refusal: Answer },
     #[error("memory ran out")]

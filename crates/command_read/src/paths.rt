@@ -1,7 +1,7 @@
 //! What a path stands for.
 ghost use Rattle.std.specs.Prelude.{◌≡◌};
 ghost use Rattle.std.specs.List.{prefix_len};
-ghost use Rattle.command_read.specs.Paths.{is_of_path, keep_behind, methods_of, number_behind, numbered_route, path_of, route_of};
+ghost use Rattle.command_read.specs.Paths.{is_of_path, is_open, keep_behind, methods_of, number_behind, numbered_route, path_of, route_of};
 
 use crate::numbers::{number_in, number_up_to};
 use http_wire::Allow;
@@ -32,6 +32,17 @@ impl Route {
             Route::Auction | Route::Campaigns | Route::Pause(_) | Route::Resume(_) => Allow::Post,
             Route::Forget(_) => Allow::Post,
             Route::Campaign(_) | Route::Bill(_) | Route::Lose(_) => Allow::GetPost,
+        }
+    }
+
+    /// Whether it is taken without a token where addresses are signed.
+    pub(crate) fn is_open(self) -> bool
+        ensures { result ≡ is_open self }
+    {
+        match self {
+            Route::Auction | Route::Campaigns | Route::Campaign(_) | Route::Pause(_) => true,
+            Route::Resume(_) | Route::Forget(_) => true,
+            Route::Bill(_) | Route::Lose(_) => false,
         }
     }
 }

@@ -1,6 +1,6 @@
 //! The answers that refuse a message, by status and body.
 ghost use Rattle.std.specs.Prelude.{◌≡◌, ◌≢◌, Err, IfOk, MatchResult, OnOk};
-ghost use Rattle.command_read.specs.Commands.{bad_body, not_allowed, not_found};
+ghost use Rattle.command_read.specs.Commands.{bad_body, forbidden, not_allowed, not_found};
 ghost use Rattle.command_read.specs.declared.fault.CommandFault.TheVariants as fault;
 ghost use Rattle.refusal_text.specs.Refusals.{campaign_fault_text, json_fault_text, request_fault_text};
 
@@ -42,6 +42,18 @@ pub(crate) fn not_found(alloc: Global) -> Result<Answer, AllocError>
     let body = error_text(alloc, b"not-found")?;
     Ok(Answer {
         status: 404,
+        allow: Allow::None,
+        body,
+    })
+}
+
+/// The refusal of what is asked for without the token that opens the path.
+pub(crate) fn forbidden(alloc: Global) -> Result<Answer, AllocError>
+    ensures { IfOk result (λ a. a ≡ forbidden) }
+{
+    let body = error_text(alloc, b"forbidden")?;
+    Ok(Answer {
+        status: 403,
         allow: Allow::None,
         body,
     })

@@ -1,6 +1,7 @@
 -- From the answers of a service to what came of the messages of a link.
 use Rattle.std.proofs.Common.{◌≡◌, inl, ℕ, ◌+◌, List, [], ◌∷◌, ◌++◌, drop, false, refl, sym, ◌∙◌, ap, subst, Option, Some, None}
 use Rattle.std.specs.Prelude.{IfSome, option_map, slice_get}
+use Rattle.address_keys.specs.declared.keys.Keys.{Keys}
 use Rattle.door_worker.specs.Answers.{Answered}
 use Rattle.door_worker.specs.Doors.{HasTalk, IsNow, TakesMoments}
 use Rattle.door_worker.specs.Languages.{Any, Language, rtb}
@@ -43,8 +44,15 @@ moment_now (Some h) moment is = is
 
 -- ---- messages
 
-module _ {S L : Type 0} (A : S → Message → Given → S → Type 0) (p : S → List ℕ) (seat : S → Option Seat) (h : S → Option (Held L))
-    (works : (s : S) (m : Message) (g : Given) (t : S) → A s m g t → Works (rtb (p s)) (seat s) (h s) m g (seat t) (h t))
+-- what the addresses of notices begin with, and the keys
+abbrev pub Spoken : Type 0
+Spoken = List ℕ × Keys
+
+abbrev pub spoken : Spoken → Language
+spoken said = rtb said.0 said.1
+
+module _ {S L : Type 0} (A : S → Message → Given → S → Type 0) (p : S → Spoken) (seat : S → Option Seat) (h : S → Option (Held L))
+    (works : (s : S) (m : Message) (g : Given) (t : S) → A s m g t → Works (spoken (p s)) (seat s) (h s) m g (seat t) (h t))
     (same : (s : S) (m : Message) (g : Given) (t : S) → A s m g t → p t ≡ p s) where
   talked_none : (language : Language) (x y : S) (s : Seat) → seat x ≡ Some s → s.turn ≡ false → y ≡ x → Talked language [] s (h x) (seat y) (h y)
   talked_none language x y s is free e = subst (λ (z : S). Talked language [] s (h x) (seat z) (h z)) (sym e) (record {
@@ -76,16 +84,16 @@ module _ {S L : Type 0} (A : S → Message → Given → S → Type 0) (p : S �
   by_seat : (language : Language) (moment : ℕ) (o : Option Seat) (s : Seat) (m : Message) (g : Given) (o' : Option Seat) → o ≡ Some s → AnswersBy language moment o m g o' → (t : Seat) × (o' ≡ Some t) × AnswersOne language moment s m g t
   by_seat language moment o s m g o' is a = subst (λ (x : Option Seat). AnswersBy language moment x m g o') is a
 
-  talked : (public : List ℕ) (turns : List Turn) (k : ℕ) (x z : S) (s : Seat) (bytes rest : List ℕ) → p x ≡ public → seat x ≡ Some s → s.turn ≡ false → Talks A k x bytes turns z rest → Talked (rtb public) turns s (h x) (seat z) (h z)
-  talked public [] k x z s bytes rest e is free talk = talked_none (rtb public) x z s is free talk.0
-  talked public (turn ∷ turns) k x z s bytes rest e is free (y, used, decides, answers, text, more) =
-      let w : Works (rtb public) (seat x) (h x) turn.message turn.given (seat y) (h y) = subst (λ (q : List ℕ). Works (rtb q) (seat x) (h x) turn.message turn.given (seat y) (h y)) e (works x turn.message turn.given y answers) in
-      let b = by_seat (rtb public) w.moment (seat x) s turn.message turn.given (seat y) is w.answers in
-      talked_then (rtb public) turn turns x y z s b.0 w b.2
-      (talked public turns (k + 1) y z b.0 (drop used bytes) rest (same x turn.message turn.given y answers ∙ e) b.1 (free_is _ _ s b.0 b.2.goes) more)
+  talked : (said : Spoken) (turns : List Turn) (k : ℕ) (x z : S) (s : Seat) (bytes rest : List ℕ) → p x ≡ said → seat x ≡ Some s → s.turn ≡ false → Talks A k x bytes turns z rest → Talked (spoken said) turns s (h x) (seat z) (h z)
+  talked said [] k x z s bytes rest e is free talk = talked_none (spoken said) x z s is free talk.0
+  talked said (turn ∷ turns) k x z s bytes rest e is free (y, used, decides, answers, text, more) =
+      let w : Works (spoken said) (seat x) (h x) turn.message turn.given (seat y) (h y) = subst (λ (q : Spoken). Works (spoken q) (seat x) (h x) turn.message turn.given (seat y) (h y)) e (works x turn.message turn.given y answers) in
+      let b = by_seat (spoken said) w.moment (seat x) s turn.message turn.given (seat y) is w.answers in
+      talked_then (spoken said) turn turns x y z s b.0 w b.2
+      (talked said turns (k + 1) y z b.0 (drop used bytes) rest (same x turn.message turn.given y answers ∙ e) b.1 (free_is _ _ s b.0 b.2.goes) more)
 
   pub served_talked : (x z : S) (s : Seat) (left left' sent sent' : Option (List ℕ)) (steps : ℕ) (end : LinkEnd) → seat x ≡ Some s → s.turn ≡ false
-      → (i : IsServed A x z left left' sent sent' steps end) → Talked (rtb (p x)) i.turns s (h x) (seat z) (h z)
+      → (i : IsServed A x z left left' sent sent' steps end) → Talked (spoken (p x)) i.turns s (h x) (seat z) (h z)
   served_talked x z s left left' sent sent' steps end is free i = talked (p x) i.turns 0 x z s (i.came ++ []) (i.rest ++ []) refl is free (i.talks [])
 
 -- what every answer keeps, a conversation keeps
@@ -123,14 +131,14 @@ module _ {S : Type 0} {A : S → Message → Given → S → Type 0} {x z : S} {
   pub keeps : {F : Type 0} (f : S → F) → ((s : S) (m : Message) (g : Given) (t : S) → A s m g t → f t ≡ f s) → f z ≡ f x
   keeps f same = served_kept A f same x z left left' sent sent' steps end i
 
-  pub talked_by : {L : Type 0} (p : S → List ℕ) (seat : S → Option Seat) (h : S → Option (Held L)) → ((s : S) (m : Message) (g : Given) (t : S) → A s m g t → Works (rtb (p s)) (seat s) (h s) m g (seat t) (h t))
-      → ((s : S) (m : Message) (g : Given) (t : S) → A s m g t → p t ≡ p s) → (s : Seat) → seat x ≡ Some s → s.turn ≡ false → Talked (rtb (p x)) i.turns s (h x) (seat z) (h z)
+  pub talked_by : {L : Type 0} (p : S → Spoken) (seat : S → Option Seat) (h : S → Option (Held L)) → ((s : S) (m : Message) (g : Given) (t : S) → A s m g t → Works (spoken (p s)) (seat s) (h s) m g (seat t) (h t))
+      → ((s : S) (m : Message) (g : Given) (t : S) → A s m g t → p t ≡ p s) → (s : Seat) → seat x ≡ Some s → s.turn ≡ false → Talked (spoken (p x)) i.turns s (h x) (seat z) (h z)
   talked_by p seat h works same s is free = served_talked A p seat h works same x z s left left' sent sent' steps end is free i
 
-pub has_talk : {L : Type 0} (K : Ghosts L) (public : List ℕ) {S : Type 0} {A : S → Message → Given → S → Type 0} {x z : S} (link after : L) (steps : ℕ) (end : LinkEnd)
-    → (i : IsServed A x z (K.left link) (K.left after) (K.sent link) (K.sent after) steps end) → RisesOnlyWhere (end ≡ LinkFailed) (K.faults link) (K.faults after) → HasTalk K (rtb public) link after i.turns
+pub has_talk : {L : Type 0} (K : Ghosts L) (said : Spoken) {S : Type 0} {A : S → Message → Given → S → Type 0} {x z : S} (link after : L) (steps : ℕ) (end : LinkEnd)
+    → (i : IsServed A x z (K.left link) (K.left after) (K.sent link) (K.sent after) steps end) → RisesOnlyWhere (end ≡ LinkFailed) (K.faults link) (K.faults after) → HasTalk K (spoken said) link after i.turns
 unfolding any_served
-has_talk K public {S} {A} {x} {z} link after steps end i cause = record {
+has_talk K said {S} {A} {x} {z} link after steps end i cause = record {
   end = end;
   talk = record { steps = steps; served = any_served A x z (K.left link) (K.left after) (K.sent link) (K.sent after) steps end i; turns_are = refl };
   cause = cause;

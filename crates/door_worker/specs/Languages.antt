@@ -1,6 +1,7 @@
 -- What is said at a door, and in which bytes. The history of an exchange is spoken of in any language; `rtb` is the one
 -- that is served.
 use Rattle.std.specs.Prelude.{◌≡◌, ℕ, List, Option, Some, Result, ⊤}
+use Rattle.address_keys.specs.declared.keys.Keys.{Keys}
 use Rattle.command_read.specs.Commands.{IsCommandOf}
 use Rattle.http_wire.specs.declared.answer.Answer.{Answer}
 use Rattle.http_wire.specs.declared.message.Message.{Message}
@@ -32,6 +33,7 @@ pub record IsTalk (left left' sent sent' : Option (List ℕ)) (turns : List Turn
   pub served : IsServed Any tt tt left left' sent sent' steps end
   pub turns_are : served.turns ≡ turns
 
--- OpenRTB and the paths of campaigns over HTTP, where the addresses of notices begin so
-abbrev pub rtb : List ℕ → Language
-rtb public = record { Asks = IsCommandOf; says = λ request reply. answer_of request (Some public) reply; Carries = IsTalk }
+-- OpenRTB and the paths of campaigns over HTTP, where the addresses of notices begin so, and addresses are signed by these
+-- keys
+abbrev pub rtb : List ℕ → Keys → Language
+rtb public keys = record { Asks = IsCommandOf keys; says = λ request reply. answer_of request (Some public) keys reply; Carries = IsTalk }

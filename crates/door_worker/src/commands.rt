@@ -8,6 +8,7 @@ ghost use Rattle.door_worker.specs.Working.{IsGivenUnread, IsTold};
 ghost use Rattle.http_wire.specs.Answers.{IsWritable};
 ghost use Rattle.session.specs.Talk.{IsGivable};
 
+use address_keys::Keys;
 use auction_core::{Command, Reply};
 use command_read::CommandFault;
 use link_door::Pause;
@@ -38,11 +39,12 @@ pub(crate) fn given_for(
     request: Option<&BidRequest>,
     reply: &Reply,
     public: &Txt,
+    keys: &Keys,
 ) -> Given
-    ensures told { IsTold (option_copied request.entry) (rtb public.now) reply.now result }
+    ensures told { IsTold (option_copied request.entry) (rtb public.now keys.now) reply.now result }
     ensures writable { IsGivable result }
 {
-    match write_reply(alloc, request, reply, Some(public)) {
+    match write_reply(alloc, request, reply, Some(public), keys) {
         Ok(answer) => Given::Text {
             answer,
             entered: true,

@@ -22,8 +22,8 @@ pub(crate) struct Desk<'a, 'e, D: Disk, R: Wait, G: Door, P: Pause> {
 }
 
 impl<'a, 'e, D: Disk, R: Wait, G: Door, P: Pause> Service for Desk<'a, 'e, D, R, G, P> {
-    ghost answers = { λ old message given new. Works (rtb old.tools.now.public.now) old.worker.now.seat (G.held old.door.now) message given new.worker.now.seat (G.held new.door.now)
-        × (new.tools.now.public.now ≡ old.tools.now.public.now) × (new.worker.now.here ≡ old.worker.now.here) × (G.faults new.door.now ≡ G.faults old.door.now)
+    ghost answers = { λ old message given new. Works (rtb old.tools.now.public.now old.tools.now.keys.now) old.worker.now.seat (G.held old.door.now) message given new.worker.now.seat (G.held new.door.now)
+        × (new.tools.now.public.now ≡ old.tools.now.public.now) × (new.tools.now.keys.now ≡ old.tools.now.keys.now) × (new.worker.now.here ≡ old.worker.now.here) × (G.faults new.door.now ≡ G.faults old.door.now)
         × (new.worker.ghost_name ≡ old.worker.ghost_name) × (new.door.ghost_name ≡ old.door.ghost_name) };
 
     fn answer(&mut self, message: &Message) -> Given {
@@ -43,7 +43,7 @@ pub(crate) fn converse<'a, 'e, D: Disk, R: Wait, G: Door, P: Pause, L: Ledger>(
     ensures same_worker { desk.new.worker.ghost_name ≡ desk.old.worker.ghost_name }
     ensures same_door { desk.new.door.ghost_name ≡ desk.old.door.ghost_name }
     ensures here { desk.new.worker.now.here ≡ desk.old.worker.now.here }
-    ensures talked { TalksOn G.Link.Link (rtb desk.old.tools.now.public.now) desk.old.worker.now (G.held desk.old.door.now) link.old link.new desk.new.worker.now (G.held desk.new.door.now) }
+    ensures talked { TalksOn G.Link.Link (rtb desk.old.tools.now.public.now desk.old.tools.now.keys.now) desk.old.worker.now (G.held desk.old.door.now) link.old link.new desk.new.worker.now (G.held desk.new.door.now) }
     ensures faults { G.faults desk.new.door.now ≡ G.faults desk.old.door.now }
 {
     let alloc = desk.tools.alloc;

@@ -8,6 +8,7 @@ ghost use Rattle.rtb_base.specs.Faults.{RisesOnlyWhere};
 
 use crate::desk::{Desk, converse};
 use crate::worker::{Tools, Worker};
+use address_keys::Keys;
 use command_read::Rooms;
 use conj_index::Scratch;
 use exchange_shared::{Exchange, Seat};
@@ -34,7 +35,7 @@ pub enum DoorEnd {
 ///
 /// A message comes at the moment that the door tells once the message was read. `pause` is called between finding the
 /// campaigns of an auction and selling, with the number of the worker. `public` is what the addresses of notices begin
-/// with, as `http://ads.example`.
+/// with, as `http://ads.example`; by `keys` addresses are signed.
 pub fn serve_door<D: Disk, R: Wait, G: Door, P: Pause>(
     exchange: &Exchange<D>,
     rt: &R,
@@ -42,13 +43,14 @@ pub fn serve_door<D: Disk, R: Wait, G: Door, P: Pause>(
     worker: u32,
     pause: &P,
     public: &Txt,
+    keys: &Keys,
     seat: Seat<D>,
     door: &mut G,
 ) -> (Seat<D>, DoorEnd)
     requires seat { MayCall (lock_of exchange.now) seat }
     requires worker { seat.worker ≡ worker }
     ensures seat { MayCall (lock_of exchange.now) result.0 }
-    ensures served { ServesDoor G.Link.Link (rtb public.now) seat (G.held door.old) result.0 (G.held door.new) }
+    ensures served { ServesDoor G.Link.Link (rtb public.now keys.now) seat (G.held door.old) result.0 (G.held door.new) }
     ensures all { result.1 ≡ DoorEnd.Served → LeavesNone (G.held door.old) (G.held door.new) }
     ensures cause { RisesOnlyWhere (result.1 ≡ DoorEnd.Failed) (G.faults door.old) (G.faults door.new) }
 {
@@ -57,6 +59,7 @@ pub fn serve_door<D: Disk, R: Wait, G: Door, P: Pause>(
         alloc,
         pause,
         public,
+        keys,
         number: worker,
     };
     let mut worker = Worker {
@@ -91,7 +94,7 @@ fn serve_links<'e, D: Disk, R: Wait, G: Door, P: Pause>(
 ) -> DoorEnd
     requires seat { IsAt worker.old }
     ensures here { worker.new.here ≡ worker.old.here }
-    ensures served { ServesAt G.Link.Link (rtb tools.now.public.now) worker.old (G.held door.old) worker.new (G.held door.new) }
+    ensures served { ServesAt G.Link.Link (rtb tools.now.public.now tools.now.keys.now) worker.old (G.held door.old) worker.new (G.held door.new) }
     ensures all { result ≡ DoorEnd.Served → LeavesNone (G.held door.old) (G.held door.new) }
     ensures cause { RisesOnlyWhere (result ≡ DoorEnd.Failed) (G.faults door.old) (G.faults door.new) }
 {
@@ -113,7 +116,7 @@ fn serve_next<'e, D: Disk, R: Wait, G: Door, P: Pause>(
 ) -> Option<DoorEnd>
     requires seat { IsAt worker.old }
     ensures here { worker.new.here ≡ worker.old.here }
-    ensures served { ServesAt G.Link.Link (rtb tools.now.public.now) worker.old (G.held door.old) worker.new (G.held door.new) }
+    ensures served { ServesAt G.Link.Link (rtb tools.now.public.now tools.now.keys.now) worker.old (G.held door.old) worker.new (G.held door.new) }
     ensures all { result ≡ Some DoorEnd.Served → LeavesNone (G.held door.old) (G.held door.new) }
     ensures cause { RisesOnlyWhere (result ≡ Some DoorEnd.Failed) (G.faults door.old) (G.faults door.new) }
 {
@@ -149,7 +152,7 @@ fn serve_one<'e, D: Disk, R: Wait, G: Door, P: Pause, L: Ledger>(
     requires some { 0 < blank.parts }
     requires seat { IsAt worker.old }
     ensures here { worker.new.here ≡ worker.old.here }
-    ensures talked { TalksOn G.Link.Link (rtb tools.now.public.now) worker.old (G.held door.old) link result worker.new (G.held door.new) }
+    ensures talked { TalksOn G.Link.Link (rtb tools.now.public.now tools.now.keys.now) worker.old (G.held door.old) link result worker.new (G.held door.new) }
     ensures faults { G.faults door.new ≡ G.faults door.old }
 {
     let mut link = link;

@@ -50,10 +50,10 @@ pub(crate) fn answer<'e, D: Disk, R: Wait, P: Pause>(
 ) -> (Seat<D>, Given)
     requires seat { MayCall (lock_of exchange.now) seat }
     ensures seat { MayCall (lock_of exchange.now) result.0 }
-    ensures answers { AnswersOne (rtb tools.now.public.now) moment seat message.now result.1 result.0 }
+    ensures answers { AnswersOne (rtb tools.now.public.now tools.now.keys.now) moment seat message.now result.1 result.0 }
     ensures writable { IsGivable result.1 }
 {
-    match read_command_in(tools.alloc, rooms, message) {
+    match read_command_in(tools.alloc, rooms, tools.keys, message) {
         Ok(command) => {
             let answered = answer_command(exchange, tools, scratch, seat, &command, moment);
             drop(command);
@@ -74,7 +74,7 @@ fn answer_command<'e, D: Disk, R: Wait, P: Pause>(
     requires seat { MayCall (lock_of exchange.now) seat }
     requires valid { IsTrue (is_valid_command command.now) }
     ensures seat { MayCall (lock_of exchange.now) result.0 }
-    ensures answers { (message : AMessage) → IsCommandOf message (Ok command.now) → AnswersOne (rtb tools.now.public.now) moment seat message result.1 result.0 }
+    ensures answers { (message : AMessage) → IsCommandOf tools.now.keys.now message (Ok command.now) → AnswersOne (rtb tools.now.public.now tools.now.keys.now) moment seat message result.1 result.0 }
     ensures writable { IsGivable result.1 }
 {
     if is_edit(command) && !exchange.is_shared() {
@@ -95,7 +95,7 @@ fn answer_edit<'e, D: Disk, R: Wait, P: Pause>(
     requires seat { MayCall (lock_of exchange.now) seat }
     requires edit { is_edit command.now ≡ true }
     ensures seat { MayCall (lock_of exchange.now) result.0 }
-    ensures answers { (message : AMessage) → IsCommandOf message (Ok command.now) → AnswersOne (rtb tools.now.public.now) moment seat message result.1 result.0 }
+    ensures answers { (message : AMessage) → IsCommandOf tools.now.keys.now message (Ok command.now) → AnswersOne (rtb tools.now.public.now tools.now.keys.now) moment seat message result.1 result.0 }
     ensures writable { IsGivable result.1 }
 {
     let (seat, changed) = exchange.change(tools.rt, seat, command, moment);
@@ -121,7 +121,7 @@ fn tell_edit<'e, D: Disk, R: Wait, P: Pause>(
     requires seat { MayCall (lock_of exchange.now) seat }
     requires order { IsOrdered seat.origin seat.seen }
     ensures seat { MayCall (lock_of exchange.now) result.0 }
-    ensures told { Tells (rtb tools.now.public.now) command.now settled.reply seat result.1 result.0 }
+    ensures told { Tells (rtb tools.now.public.now tools.now.keys.now) command.now settled.reply seat result.1 result.0 }
     ensures order { IsOrdered result.0.origin result.0.seen }
     ensures writable { IsGivable result.1 }
 {
@@ -142,7 +142,7 @@ fn answer_in_turn<'e, D: Disk, R: Wait, P: Pause>(
     requires seat { MayCall (lock_of exchange.now) seat }
     requires valid { IsTrue (is_valid_command command.now) }
     ensures seat { MayCall (lock_of exchange.now) result.0 }
-    ensures answers { (message : AMessage) → IsCommandOf message (Ok command.now) → AnswersOne (rtb tools.now.public.now) moment seat message result.1 result.0 }
+    ensures answers { (message : AMessage) → IsCommandOf tools.now.keys.now message (Ok command.now) → AnswersOne (rtb tools.now.public.now tools.now.keys.now) moment seat message result.1 result.0 }
     ensures writable { IsGivable result.1 }
 {
     let (seat, settled) = enter(exchange, tools, scratch, seat, command, moment);
@@ -365,7 +365,7 @@ fn conclude<'e, D: Disk, R: Wait, P: Pause>(
     requires upto { settled.upto ≡ effects_in seat.origin seat.seen }
     requires durable { settled.durable ≡ stable seat.seen }
     ensures seat { MayCall (lock_of exchange.now) result.0 }
-    ensures concluded { Concludes (rtb tools.now.public.now) command.now settled.reply seat result.1 result.0 }
+    ensures concluded { Concludes (rtb tools.now.public.now tools.now.keys.now) command.now settled.reply seat result.1 result.0 }
     ensures order { IsOrdered result.0.origin result.0.seen }
     ensures writable { IsGivable result.1 }
 {
@@ -394,7 +394,7 @@ fn make_durable<'e, D: Disk, R: Wait, P: Pause>(
     requires upto { upto ≡ effects_in seat.origin seat.seen }
     requires durable { durable ≡ stable seat.seen }
     ensures seat { MayCall (lock_of exchange.now) result.0 }
-    ensures concluded { Concludes (rtb tools.now.public.now) command.now reply.now seat result.1 result.0 }
+    ensures concluded { Concludes (rtb tools.now.public.now tools.now.keys.now) command.now reply.now seat result.1 result.0 }
     ensures order { IsOrdered result.0.origin result.0.seen }
     ensures writable { IsGivable result.1 }
 {
@@ -418,7 +418,7 @@ fn tell<'e, D: Disk, R: Wait, P: Pause>(
     requires seat { MayCall (lock_of exchange.now) seat }
     requires order { IsOrdered seat.origin seat.seen }
     ensures seat { MayCall (lock_of exchange.now) result.0 }
-    ensures told { Tells (rtb tools.now.public.now) command.now reply.now seat result.1 result.0 }
+    ensures told { Tells (rtb tools.now.public.now tools.now.keys.now) command.now reply.now seat result.1 result.0 }
     ensures order { IsOrdered result.0.origin result.0.seen }
     ensures writable { IsGivable result.1 }
 {
@@ -433,7 +433,13 @@ fn tell<'e, D: Disk, R: Wait, P: Pause>(
     match published {
         Ok(()) => (
             seat,
-            given_for(tools.alloc, request_in(command), reply, tools.public),
+            given_for(
+                tools.alloc,
+                request_in(command),
+                reply,
+                tools.public,
+                tools.keys,
+            ),
         ),
         Err(AllocError) => (seat, Given::MemoryLate),
     }

@@ -5,6 +5,7 @@ ghost use Rattle.door_worker.specs.Working.{AnswersBy};
 ghost use Rattle.session.specs.Talk.{IsGivable};
 
 use crate::messages::answer;
+use address_keys::Keys;
 use command_read::Rooms;
 use conj_index::Scratch;
 use exchange_shared::{Exchange, Seat};
@@ -25,6 +26,7 @@ pub(crate) struct Tools<'e, R: Wait, P: Pause> {
     pub alloc: Global,
     pub pause: &'e P,
     pub public: &'e Txt,
+    pub keys: &'e Keys,
     pub number: u32,
 }
 
@@ -58,7 +60,7 @@ impl<'e, D: Disk> Worker<'e, D> {
         moment: u64,
     ) -> Given
         ensures here { self.new.here ≡ self.old.here }
-        ensures answers { AnswersBy (rtb tools.now.public.now) moment self.old.seat message.now result self.new.seat }
+        ensures answers { AnswersBy (rtb tools.now.public.now tools.now.keys.now) moment self.old.seat message.now result self.new.seat }
         ensures writable { IsGivable result }
     {
         let Some(seat) = self.seat.take() else {

@@ -78,7 +78,13 @@ fn world_with(alloc: Global, journal: &[u8], file: &[u8]) -> Result<MemWorld, Al
     let from = disk_of(alloc, journal, b"", b"");
     let into = disk_of(alloc, file, b"", b"");
     match both(alloc, from, into) {
-        Ok(disks) => Ok(MemWorld::new(alloc, List::new(alloc), disks, List::new(alloc))),
+        Ok(disks) => Ok(MemWorld::new(
+            alloc,
+            List::new(alloc),
+            disks,
+            List::new(alloc),
+            List::new(alloc),
+        )),
         Err(AllocError) => Err(AllocError),
     }
 }

@@ -1,4 +1,5 @@
 //! What is told of replies and answers.
+use address_keys::Keys;
 use http_wire::{Allow, Answer};
 use plain_exchange::Reply;
 use rtb_num::{Txt, write_decimal};
@@ -14,7 +15,14 @@ pub fn put_reply(
     public: Option<&Txt>,
     out: &mut Txt,
 ) -> Result<(), AllocError> {
-    let answer = write_reply(alloc, request, reply, public)?;
+    let keys = Keys::none();
+    let answer = write_reply(alloc, request, reply, public, &keys);
+    drop(keys);
+    put_written(answer, out)
+}
+
+fn put_written(answer: Result<Answer, AllocError>, out: &mut Txt) -> Result<(), AllocError> {
+    let answer = answer?;
     let written = put_answer(&answer, out);
     drop(answer);
     written

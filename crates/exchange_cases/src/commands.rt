@@ -1,6 +1,7 @@
 //! Calls of `command_read` and `rtb_response`: what a message asks for, and the answer to a reply.
 use crate::answers::{put_answer, put_reply};
 use crate::sent::message_of;
+use address_keys::Keys;
 use budget_book::Totals;
 use campaign::Facts;
 use campaign_store::Limit;
@@ -53,7 +54,9 @@ fn put_asked(
 }
 
 fn put_reading(alloc: Global, message: &Message, out: &mut Txt) -> Result<(), AllocError> {
-    let read = read_command(alloc, message);
+    let keys = Keys::none();
+    let read = read_command(alloc, &keys, message);
+    drop(keys);
     let written = put_read(&read, out);
     drop(read);
     written

@@ -17,6 +17,7 @@ use std::thread::Threads;
 ///
 /// - `journal BYTES` and `file BYTES`: what the world's first disk has, and its second; `source BYTES`: what is read.
 /// - `links LINK // ..`: a door with these links, as `links.rt` says; such a field for each door, also without a link.
+/// - `key BYTES`: what the first file of a key has; a second such field is that of the next one.
 /// - `moments N ..`: those of each door, of which the last repeats; without it 1000.
 /// - `world N ..`, `disk N ..`, `disk2 N ..`, `door N ..`, `link N ..`, `reads N ..`, `writes N ..`: the numbers, from 1
 ///   on, of the calls that fail, of the world, the disks, the first door, each link, the source and the sink.

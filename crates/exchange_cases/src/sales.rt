@@ -1,6 +1,7 @@
 //! Calls of `rtb_response` for impressions that were sold.
 use crate::answers::put_reply;
 use crate::sent::message_of;
+use address_keys::Keys;
 use bumpalo::Bump;
 use campaign_read::read_campaign;
 use campaign_store::{SharedRecord, make_record};
@@ -79,7 +80,10 @@ fn put_response(
     public: Option<&Txt>,
     out: &mut Txt,
 ) -> Result<(), AllocError> {
-    match read_command(alloc, message).ok() {
+    let keys = Keys::none();
+    let read = read_command(alloc, &keys, message);
+    drop(keys);
+    match read.ok() {
         Some(command) => {
             let written = put_response_to(alloc, &command, reply, public, out);
             drop(command);

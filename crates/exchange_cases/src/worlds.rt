@@ -1,4 +1,4 @@
-//! The world of a run, in memory: two disks, and the doors that its fields say.
+//! The world of a run, in memory: two disks, and the doors and the keys that its fields say.
 ghost use Rattle.std.specs.Prelude.{◌≢◌, [], IfOk};
 
 use crate::fields::{field, numbers};
@@ -12,10 +12,33 @@ use std::alloc::{AllocError, Global};
 /// The world of these fields.
 pub fn world_of(alloc: Global, args: &[Txt]) -> Result<MemWorld, AllocError> {
     let fails = numbers(alloc, args, b"world ");
-    match (disks_of(alloc, args), doors_of(alloc, args), fails) {
-        (Ok(disks), Ok(doors), Ok(fails)) => Ok(MemWorld::new(alloc, doors, disks, fails)),
+    match (
+        disks_of(alloc, args),
+        doors_of(alloc, args),
+        keys_of(alloc, args),
+        fails,
+    ) {
+        (Ok(disks), Ok(doors), Ok(keys), Ok(fails)) => {
+            Ok(MemWorld::new(alloc, doors, disks, keys, fails))
+        }
         _ => Err(AllocError),
     }
+}
+
+// The text of each field of a key, in their order.
+fn keys_of(alloc: Global, args: &[Txt]) -> Result<List<Txt>, AllocError> {
+    let mut keys = List::new(alloc);
+    let filled = put_keys(alloc, args, &mut keys);
+    kept(keys, filled)
+}
+
+fn put_keys(alloc: Global, args: &[Txt], keys: &mut List<Txt>) -> Result<(), AllocError> {
+    for arg in args {
+        if let Some(text) = arg.as_bytes().strip_prefix(b"key ".as_slice()) {
+            keys.push(Txt::from_slice(alloc, text)?)?;
+        }
+    }
+    Ok(())
 }
 
 fn disks_of(alloc: Global, args: &[Txt]) -> Result<List<MemDisk>, AllocError> {

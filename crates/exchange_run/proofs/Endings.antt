@@ -2,7 +2,7 @@
 use Rattle.std.proofs.Common.{◌≡◌, ◌≢◌, ◌⊎◌, inl, inr, sym, ℕ, ◌<◌, List, [], ◌∷◌, ◌++◌, length, ap, ◌∙◌, append_assoc, refl, arith}
 use Rattle.rtb_io.specs.Statuses.{code_of}
 use Rattle.rtb_io.specs.declared.status.Status.{Status}
-use Rattle.rtb_io.specs.declared.status.Status.TheVariants.{Done, Refused, Usage, NoDoor, NoDisk, JournalFailed, Damaged, NotWritten, DoorFailed, Memory, NotRead, LastWriteFailed, NotEmpty, WriteFailed, TraceTorn, TraceTooLong}
+use Rattle.rtb_io.specs.declared.status.Status.TheVariants.{Done, Refused, Usage, NoDoor, NoDisk, JournalFailed, Damaged, NotWritten, DoorFailed, Memory, NotRead, LastWriteFailed, NotEmpty, WriteFailed, TraceTorn, TraceTooLong, NoKey}
 
 pub not_written : (s : Status) → code_of s ≡ code_of NotWritten → s ≡ NotWritten
 not_written Done e = cc
@@ -21,6 +21,7 @@ not_written NotEmpty e = cc
 not_written WriteFailed e = cc
 not_written TraceTorn e = cc
 not_written TraceTooLong e = cc
+not_written NoKey e = cc
 
 pub in_four : (o a b c d : List ℕ) → (((o ++ a) ++ b) ++ c) ++ d ≡ o ++ (((a ++ b) ++ c) ++ d)
 in_four o a b c d =
@@ -47,6 +48,7 @@ usage NotEmpty e = cc
 usage WriteFailed e = cc
 usage TraceTorn e = cc
 usage TraceTooLong e = cc
+usage NoKey e = cc
 
 pub not_read : (s : Status) → code_of s ≡ code_of NotRead → s ≡ NotRead
 not_read Done e = cc
@@ -65,6 +67,7 @@ not_read NotEmpty e = cc
 not_read WriteFailed e = cc
 not_read TraceTorn e = cc
 not_read TraceTooLong e = cc
+not_read NoKey e = cc
 
 -- a reply is neither
 pub no_usage : (s t : Status) → (t ≡ Done) ⊎ (t ≡ Refused) → s ≡ t → s ≡ Usage → ⊥

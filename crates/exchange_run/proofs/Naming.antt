@@ -1,5 +1,6 @@
 -- A run that ends as usage is one of words that are of no command.
 use Rattle.std.proofs.Common.{◌≡◌, ◌∙◌, ℕ, List, Option, None, Some, Bool, true, false, ap, arith, inl, inr, refl, sym, Result, Ok, Err}
+use Rattle.address_keys.specs.declared.keys.Keys.{Keys}
 use Rattle.audit.specs.declared.verdict.AuditFault.{AuditFault}
 use Rattle.audit.specs.declared.verdict.AuditFault.TheVariants as unsaid
 use Rattle.audit.specs.declared.verdict.Verdict.{Verdict}
@@ -28,6 +29,7 @@ use Rattle.run_commands.specs.Journals.{EndsAt}
 use Rattle.run_commands.specs.Make as make
 use Rattle.run_commands.specs.Recover as recover
 use Rattle.run_commands.specs.Serve as serve
+use Rattle.run_words.specs.declared.audit.AuditOptions.{AuditOptions}
 use Rattle.run_words.specs.declared.compact.CompactOptions.{CompactOptions}
 use Rattle.run_words.specs.declared.follow.FollowOptions.{FollowOptions}
 use Rattle.run_words.specs.declared.make.MakeOptions.{MakeOptions}
@@ -65,16 +67,20 @@ no_usage_behind ending.LastWriteFailed w w' code h e = no_usage status.LastWrite
 no_usage_behind ending.Memory w w' code h e = no_usage status.Memory _ w w' code h (λ n. omega (arith, n)) e
 
 module _ {World Disk Door Link : Type 0} (W : WorldGhosts World Door Disk Link) (G : DiskGhosts Disk) (H : DoorGhosts Door Link) (K : LinkGhosts Link) (options : ServeOptions) where
-  no_usage_announced : (disk disk' : Disk) (doors doors' : List Door) (past : History) (w w' : Option (List ℕ)) (code : ℕ) → serve.Announces G H K options disk disk' doors doors' past w w' code → code ≡ 2 → ⊥
-  no_usage_announced disk disk' doors doors' past w w' code (serve.unannounced idle same is went) e = omega (arith, is, e)
-  no_usage_announced disk disk' doors doors' past w w' code (serve.served ran) e = no_usage_behind ran.end ran.announced w' code ran.ends e
+  no_usage_announced : (keys : Keys) (disk disk' : Disk) (doors doors' : List Door) (past : History) (w w' : Option (List ℕ)) (code : ℕ) → serve.Announces G H K options keys disk disk' doors doors' past w w' code → code ≡ 2 → ⊥
+  no_usage_announced keys disk disk' doors doors' past w w' code (serve.unannounced idle same is went) e = omega (arith, is, e)
+  no_usage_announced keys disk disk' doors doors' past w w' code (serve.served ran) e = no_usage_behind ran.end ran.announced w' code ran.ends e
+
+  no_usage_with : (keys : Keys) (v v' : World) (w w' : Option (List ℕ)) (code : ℕ) (doors' : List Door) (back : Option Disk) (past : Option History) → serve.ServesWith W G H K options keys v v' w w' code doors' back past → code ≡ 2 → ⊥
+  no_usage_with keys v v' w w' code doors' back past (serve.no_disk a b c d ends) e = no_usage status.NoDisk _ w w' code ends (λ n. omega (arith, n)) e
+  no_usage_with keys v v' w w' code doors' back past (serve.not_opened disk disk' a fault b c d f ends) e = no_usage_at fault w w' code ends e
+  no_usage_with keys v v' w w' code doors' back past (serve.no_doors disk disk' history between a fault b c d f g ends) e = no_usage_without fault w w' code ends e
+  no_usage_with keys v v' w w' code doors' back past (serve.opened disk disk' history between doors a b announces c d) e = no_usage_announced keys disk disk' doors doors' history w w' code announces e
 
   no_usage_serving : (v v' : World) (w w' : Option (List ℕ)) (code : ℕ) (doors' : List Door) (back : Option Disk) (past : Option History) → serve.Serves W G H K options v v' w w' code doors' back past → code ≡ 2 → ⊥
   no_usage_serving v v' w w' code doors' back past (serve.starved a b c d ends) e = no_usage status.Memory _ w w' code ends (λ n. omega (arith, n)) e
-  no_usage_serving v v' w w' code doors' back past (serve.no_disk a b c d ends) e = no_usage status.NoDisk _ w w' code ends (λ n. omega (arith, n)) e
-  no_usage_serving v v' w w' code doors' back past (serve.not_opened disk disk' a fault b c d f ends) e = no_usage_at fault w w' code ends e
-  no_usage_serving v v' w w' code doors' back past (serve.no_doors disk disk' history between a fault b c d f g ends) e = no_usage_without fault w w' code ends e
-  no_usage_serving v v' w w' code doors' back past (serve.opened disk disk' history between doors a b announces c d) e = no_usage_announced disk disk' doors doors' history w w' code announces e
+  no_usage_serving v v' w w' code doors' back past (serve.no_key a b c d ends) e = no_usage status.NoKey _ w w' code ends (λ n. omega (arith, n)) e
+  no_usage_serving v v' w w' code doors' back past (serve.keyed keys between gives with_keys) e = no_usage_with keys between v' w w' code doors' back past with_keys e
 
 -- ---- follow
 
@@ -109,10 +115,14 @@ no_usage_judged (Err unsaid.TooLong) w w' code h e = no_usage status.TraceTooLon
 no_usage_judged (Err unsaid.Memory) w w' code h e = no_usage status.Memory _ w w' code h (λ n. omega (arith, n)) e
 
 module _ {World Disk Door Link : Type 0} (W : WorldGhosts World Door Disk Link) (G : DiskGhosts Disk) where
-  no_usage_auditing : (path : List ℕ) (v v' : World) (l l' : Option (List ℕ)) (f f' : ℕ) (w w' : Option (List ℕ)) (code : ℕ) (back : Option Disk) → audit.RunsAudit W G path v v' l l' f f' w w' code back → code ≡ 2 → ⊥
-  no_usage_auditing path v v' l l' f f' w w' code back (audit.starved a b c d ends) e = no_usage status.Memory _ w w' code ends (λ n. omega (arith, n)) e
-  no_usage_auditing path v v' l l' f f' w w' code back (audit.no_disk a b c d ends) e = no_usage status.NoDisk _ w w' code ends (λ n. omega (arith, n)) e
-  no_usage_auditing path v v' l l' f f' w w' code back (audit.audited disk disk' a b judged) e = no_usage_judged judged.said w w' code judged.ends e
+  no_usage_audited : (path : List ℕ) (keys : Keys) (v v' : World) (l l' : Option (List ℕ)) (f f' : ℕ) (w w' : Option (List ℕ)) (code : ℕ) (back : Option Disk) → audit.RunsAuditWith W G path keys v v' l l' f f' w w' code back → code ≡ 2 → ⊥
+  no_usage_audited path keys v v' l l' f f' w w' code back (audit.no_disk a b c d ends) e = no_usage status.NoDisk _ w w' code ends (λ n. omega (arith, n)) e
+  no_usage_audited path keys v v' l l' f f' w w' code back (audit.audited disk disk' a b judged) e = no_usage_judged judged.said w w' code judged.ends e
+
+  no_usage_auditing : (o : AuditOptions) (v v' : World) (l l' : Option (List ℕ)) (f f' : ℕ) (w w' : Option (List ℕ)) (code : ℕ) (back : Option Disk) → audit.RunsAudit W G o v v' l l' f f' w w' code back → code ≡ 2 → ⊥
+  no_usage_auditing o v v' l l' f f' w w' code back (audit.starved a b c d ends) e = no_usage status.Memory _ w w' code ends (λ n. omega (arith, n)) e
+  no_usage_auditing o v v' l l' f f' w w' code back (audit.no_key a b c d ends) e = no_usage status.NoKey _ w w' code ends (λ n. omega (arith, n)) e
+  no_usage_auditing o v v' l l' f f' w w' code back (audit.keyed keys between gives with_keys) e = no_usage_audited o.journal keys between v' l l' f f' w w' code back with_keys e
 
 -- ---- make
 
@@ -176,7 +186,7 @@ module _ {World Disk Door Link : Type 0} (W : WorldGhosts World Door Disk Link) 
   no_usage_line (line.Follow options) (inl its) e = no_usage_following W G H K options v v' w w' code back.doors back.disk its.follows e
   no_usage_line (line.Follow options) (inr starved) e = no_usage_starved starved e
   no_usage_line line.Which its e = no_usage_planned l l' f f' w w' code its.plans e
-  no_usage_line (line.Audit options) its e = no_usage_auditing W G options.journal v v' l l' f f' w w' code back.disk its.audits e
+  no_usage_line (line.Audit options) its e = no_usage_auditing W G options v v' l l' f f' w w' code back.disk its.audits e
   no_usage_line (line.Make options) its e = no_usage_made options w w' code its.makes e
   no_usage_line (line.Help topic) its e = no_usage_shown w w' code its.shown e
   no_usage_line line.Version its e = no_usage_shown w w' code its.shown e

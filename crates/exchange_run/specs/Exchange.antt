@@ -1,6 +1,7 @@
 -- The exchange of the command `try`, and what it answers to a bid request.
 use Rattle.std.specs.Prelude.{ℕ, ◌^◌, List, [], ◌∷◌, ◌++◌, map, true, false, Option, Some, None, codes, decimal}
 use Rattle.std.specs.List.{enumerate_from}
+use Rattle.address_keys.specs.Tokens.{no_keys}
 use Rattle.campaign.specs.declared.parts.FactParts.{FactParts}
 use Rattle.plain_exchange.specs.declared.commands.Command.TheVariants.{Auction}
 use Rattle.plain_exchange.specs.declared.commands.Reply.{Reply}
@@ -61,5 +62,5 @@ reply_at_opening campaigns r = (step settings 0 (opening campaigns) (Auction r))
 
 -- the bid response where it sold, without addresses of notices, and else `no-bid`
 abbrev pub line_for : BidRequest → Reply → List ℕ
-line_for r (reply.Sold sold) = response_text None r sold
+line_for r (reply.Sold sold) = response_text None no_keys r sold
 line_for r _ = codes "no-bid"

@@ -133,9 +133,10 @@ module _ {World Disk Door Link : Type 0} (W : WorldGhosts World Door Disk Link) 
     pub one_disk : back.other ≡ None
     pub serves : Serves W G H K options w w' written written' code back.doors back.disk back.past
 
-  -- no door was asked for
+  -- no door was asked for, and no key
   pub record IsRecovery (options : RecoverOptions) : Type 0 where
     pub doors_left : W.doors_left w' ≡ W.doors_left w
+    pub keys_left : W.keys_left w' ≡ W.keys_left w
     pub no_doors : back.doors ≡ []
     pub one_disk : back.other ≡ None
     pub no_past : back.past ≡ None
@@ -143,6 +144,7 @@ module _ {World Disk Door Link : Type 0} (W : WorldGhosts World Door Disk Link) 
 
   pub record IsCompaction (options : CompactOptions) : Type 0 where
     pub doors_left : W.doors_left w' ≡ W.doors_left w
+    pub keys_left : W.keys_left w' ≡ W.keys_left w
     pub no_doors : back.doors ≡ []
     pub no_past : back.past ≡ None
     pub compacts : RunsCompact G options (W.asked w) (W.asked w') (W.disks_left w) (W.disks_left w') (W.faults w) (W.faults w') written written' code back.disk back.other
@@ -157,7 +159,7 @@ module _ {World Disk Door Link : Type 0} (W : WorldGhosts World Door Disk Link) 
     pub no_doors : back.doors ≡ []
     pub one_disk : back.other ≡ None
     pub no_past : back.past ≡ None
-    pub audits : RunsAudit W G options.journal w w' left left' faults faults' written written' code back.disk
+    pub audits : RunsAudit W G options w w' left left' faults faults' written written' code back.disk
 
 -- The others ask for nothing of the world.
 module _ {World Disk Door : Type 0} (w w' : World) (written written' : Option (List ℕ)) (code : ℕ) (back : Back Door Disk) where

@@ -1,5 +1,6 @@
 //! What the exchange answers to a bid request.
-ghost use Rattle.std.specs.Prelude.{◌≡◌, ◌≤◌, ◌<◌, ◌^◌, false, length, IfOk, IsSome, IsTrue};
+ghost use Rattle.std.specs.Prelude.{◌≡◌, ◌≤◌, ◌<◌, ◌^◌, false, length, IfOk, IsSome, IsTrue, None};
+ghost use Rattle.address_keys.specs.Tokens.{no_keys};
 ghost use Rattle.auction_core.specs.Draft.{found_of, is_simple, is_valid_command};
 ghost use Rattle.exchange_run.specs.Exchange.{line_for, reply_at_opening, settings};
 ghost use Rattle.exchange_run.specs.Making.{campaigns_named, first_reply};
@@ -7,12 +8,15 @@ ghost use Rattle.exchange_run.specs.Words.{campaigns_of};
 ghost use Rattle.plain_exchange.specs.declared.commands.Command.TheVariants.{Auction};
 ghost use Rattle.plain_exchange.specs.State.{empty};
 ghost use Rattle.plain_exchange.specs.Step.{step};
+ghost use Rattle.rtb_response.specs.Response.{response_text};
 ghost use Rattle.rtb_types.specs.declared.request.BidRequest.{BidRequest as Request};
 ghost use Rattle.rtb_types.specs.Valid.{is_valid};
 
 use crate::opening::add_campaigns;
+use address_keys::Keys;
 use auction_core::{Command, Core, Reply};
 use live_index::{find_by_index, index_of_live};
+use plain_exchange::Sold;
 use rtb_base::Steps;
 use rtb_num::{List, Txt};
 use rtb_response::write_response;
@@ -71,9 +75,23 @@ fn line_for(alloc: Global, request: &BidRequest, reply: &Reply) -> Result<Txt, A
     ensures { IfOk result (λ t. t ≡ line_for request.now reply.now) }
 {
     match reply {
-        Reply::Sold(sold) => write_response(alloc, request, sold, None),
+        Reply::Sold(sold) => unsigned_response(alloc, request, sold),
         _ => Txt::from_slice(alloc, b"no-bid"),
     }
+}
+
+// The bid response, whose notices have no address.
+fn unsigned_response(
+    alloc: Global,
+    request: &BidRequest,
+    sold: &List<Sold>,
+) -> Result<Txt, AllocError>
+    ensures { IfOk result (λ t. t ≡ response_text None no_keys request.now sold.now) }
+{
+    let keys = Keys::none();
+    let text = write_response(alloc, request, sold, None, &keys);
+    drop(keys);
+    text
 }
 
 // The reply to the first command.

@@ -1,13 +1,14 @@
 -- What messages come to, one after the other.
 use Rattle.std.proofs.Common.{◌≡◌, inl, inr, ℕ, ◌+◌, List, [], ◌∷◌, ◌++◌, drop, cond, true, false, refl, sym, ◌∙◌, ap, subst, arith}
-use Rattle.std.specs.Prelude.{Result, Err}
+use Rattle.std.specs.Prelude.{◌⊎◌, Result, Err, Some}
 use Rattle.std.proofs.lemmas.List.Sums.{sum_by-append}
 use Rattle.follower.specs.Doors.{Follows, is_store_failed, store_failed}
 use Rattle.follower.specs.Following.{CatchesUp, IsWithin}
-use Rattle.follower.specs.Reporting.{IsAnswer, IsPlain, IsReport, change, not_found, nothing, read_only, report, starved}
+use Rattle.follower.specs.Reporting.{AsksFor, IsAnswer, IsPlain, IsReport, change, not_found, nothing, read_only, report, starved}
 use Rattle.follower.specs.declared.follower.Follower.{Follower}
 use Rattle.follower.proofs.Standing.{goes_none, goes_then}
 use Rattle.http_wire.specs.declared.answer.Answer.{Answer}
+use Rattle.http_wire.specs.declared.message.Message.{Message}
 use Rattle.journal_file.specs.declared.faults.JournalFault.{JournalFault}
 use Rattle.journal_file.specs.declared.faults.JournalFault.TheVariants as fault
 use Rattle.rtb_disk.specs.Stores.{Store}
@@ -21,6 +22,11 @@ counted l m = sum_by-append _ l m
 
 count_is : (turn : Turn) (g : Given) → turn.given ≡ g → store_failed (turn ∷ []) ≡ cond (is_store_failed g) 1 0
 count_is turn g is = omega (arith, ap {B = ℕ} (λ (x : Given). cond (is_store_failed x) 1 0) is)
+
+-- a report, or want of memory before the journal was read
+pub reported_or_starved : {D : Type 0} (G : Ghosts D) (n : ℕ) (message : Message) (gave : Given) (old new : Follower D) → AsksFor message (Some n) → IsReport G n old new gave ⊎ ((gave ≡ given.Memory) × (new ≡ old)) → IsAnswer G old message gave new
+reported_or_starved G n message gave old new asks (inl r) = report n asks r
+reported_or_starved G n message gave old new asks (inr (is, same)) = starved is same
 
 module _ {D : Type 0} (G : Ghosts D) where
   pub follows_none : (f : Follower D) → Follows G [] f f
@@ -50,7 +56,8 @@ module _ {D : Type 0} (G : Ghosts D) where
   of_report turn n f f' (given.Text answer false) is (inl (c, a)) = quiet turn f f' _ c (count_is turn (given.Text answer false) is)
   of_report turn n f f' (given.Text answer false) is (inr (at, c, a)) = quiet turn f f' _ c (count_is turn (given.Text answer false) is)
   of_report turn n f f' given.StoreFailed is c = failed turn f f' c (count_is turn given.StoreFailed is)
-  of_report turn n f f' given.Memory is (r, c, other) = quiet turn f f' r c (count_is turn given.Memory is)
+  of_report turn n f f' given.Memory is (inl c) = quiet turn f f' _ c (count_is turn given.Memory is)
+  of_report turn n f f' given.Memory is (inr c) = quiet turn f f' _ c (count_is turn given.Memory is)
   of_report turn n f f' given.MemoryLate is r = absurd r
 
   of_plain : (turn : Turn) (plain : Answer) (f f' : Follower D) (g : Given) → turn.given ≡ g → IsPlain G plain f f' g → Follows G (turn ∷ []) f f'

@@ -1,21 +1,21 @@
 -- Steps of a catching up, by what the disk showed in them.
 use Rattle.std.proofs.Common.{◌≡◌, inl, inr, ℕ, ◌+◌, ◌-◌, ◌<◌, ◌≤◌, List, [], ◌∷◌, ◌++◌, length, take, drop, Bool, true, false, Some, None, refl, sym, ◌∙◌, ap, subst, arith, append_assoc, length-append, length-drop, take-append-drop}
-use Rattle.std.specs.Prelude.{◌⊎◌, Result, Ok, Err, not, option_and_then}
+use Rattle.std.specs.Prelude.{◌⊎◌, Option, Result, Ok, Err, not, option_and_then}
 use Rattle.std.proofs.lemmas.List.{append-nil, drop-drop, drop_at, length-take-le, take_all}
 use Rattle.auction_core.specs.declared.fault.ApplyFault.{ApplyFault}
 use Rattle.auction_core.specs.declared.fault.ApplyFault.TheVariants as apply
 use Rattle.effects.specs.Bytes.{IsDecoded}
 use Rattle.follower.specs.Following.{IsShownBy, Lead}
-use Rattle.follower.specs.Moving.{AreWhole, IsBegun, IsRefused, IsTurn, Moves, Passes, Spot, spot}
+use Rattle.follower.specs.Moving.{AreWhole, IsBegun, IsBlockAlone, IsOpenAlone, IsRefused, IsTurn, Moves, Passes, Spot, spot}
 use Rattle.follower.specs.Passing.{IsCarried, begins_shut, at_gate}
 use Rattle.follower.specs.Seen.{AreCarried, AreFrom, AreOfBlock, IsSeen, SeesBadBlock, SeesEnd, SeesHead, Since, StartsAt}
 use Rattle.follower.specs.declared.follower.Follower.{Follower}
 use Rattle.follower.proofs.Effects.{none_led}
 use Rattle.follower.proofs.Standing.{same_effects}
-use Rattle.journal_file.proofs.Shown.{at_behind, end_behind, shows_at, shows_before, was_before, was_behind, was_first}
+use Rattle.journal_file.proofs.Shown.{at_behind, end_behind, none_short, shows_at, shows_before, was_before, was_behind, was_first}
 use Rattle.journal_file.specs.Blocks.{block_bytes}
 use Rattle.journal_file.specs.Damage.{HasBlock}
-use Rattle.journal_file.specs.Shows.{IsBlockShown, IsShownAt, ShowsBlock, ShowsShut, WasShown}
+use Rattle.journal_file.specs.Shows.{IsBlockShown, IsShownAt, ShowsBlock, ShowsCut, ShowsMore, ShowsShort, ShowsShut, TellsCut, WasShown}
 use Rattle.journal_file.specs.declared.faults.JournalFault.{JournalFault}
 use Rattle.journal_file.specs.declared.faults.JournalFault.TheVariants as fault
 use Rattle.plain_exchange.specs.declared.changes.Effect.{Effect}
@@ -148,12 +148,12 @@ moves_more s f g h a b = record {
 pub refused_more : (s : List Shown) (f g h : Spot) (e : JournalFault) → Passes s f g → IsRefused s g h e → IsRefused s f h e
 refused_more s f g h (fault.Damaged at) a (b, place, bad) = (moves_more s f g h a b, place, bad)
 refused_more s f g h fault.DiskFailed a b = moves_more s f g h a b
-refused_more s f g h fault.Memory a b = moves_more s f g h a b
+refused_more s f g h fault.Memory a (b, alone) = (moves_more s f g h a b, alone)
 
 refused_behind : (t s : List Shown) (f g : Spot) (e : JournalFault) → IsRefused s f g e → IsRefused (t ++ s) f g e
 refused_behind t s f g (fault.Damaged at) (b, place, bad) = (moves_behind t s f g b, place, bad_behind t s g.gate g.done g.state bad)
 refused_behind t s f g fault.DiskFailed b = moves_behind t s f g b
-refused_behind t s f g fault.Memory b = moves_behind t s f g b
+refused_behind t s f g fault.Memory (b, alone) = (moves_behind t s f g b, since_behind t s alone)
 
 pub passes_then : (s t : List Shown) (f g h : Spot) → Passes s f g → Passes t g h → Passes (s ++ t) f h
 passes_then s t f g h a b = passes_more (s ++ t) f g h (passes_before s t f g a) (passes_behind s t g h b)
@@ -168,7 +168,10 @@ turn_then s t f g h (Err e) a b = refused_then s t f g h e a b
 
 -- ---- a block
 
-module _ (s : List Shown) (f g : Spot) (payload : List ℕ) (b : Since (ShowsBlock f.gate payload) s) where
+module _ (s : List Shown) (f g : Spot) (payload : List ℕ) (w : Since (IsBlockAlone f.gate payload) s) where
+  b : Since (ShowsBlock f.gate payload) s
+  b = (w.0, w.1, w.2, w.3.0)
+
   pub payload_passed : (done : ℕ) (r : Result Unit ApplyFault) → IsCarried payload f.done done f.state g.state f.count g.count r → Ok tt ≡ at_gate f.gate r → g.gate ≡ f.gate + 9 + length payload → g.done ≡ 0 → Passes s f g
   payload_passed done (Ok u) (inl c) e place zero =
       let m = c.applies.more in
@@ -213,7 +216,8 @@ module _ (s : List Shown) (f g : Spot) (payload : List ℕ) (b : Since (ShowsBlo
       subst (IsRefused s f g) (sym what) (moved (Err apply.Unfit) c same, sym same, inr (payload, subst (λ n. Since (ShowsBlock n payload) s) (sym same) b, unfit c))
   payload_refused (Err apply.Memory) e c is same =
       let what : e ≡ fault.Memory = cc is in
-      subst (IsRefused s f g) (sym what) (moved (Err apply.Memory) c same)
+      let alone : Since (IsOpenAlone f.gate) s = (w.0, w.1, w.2, (w.3.0.gate_open, w.3.1)) in
+      subst (IsRefused s f g) (sym what) (moved (Err apply.Memory) c same, subst (λ n. Since (IsOpenAlone n) s) (sym same) alone)
 
 -- ---- blocks in bytes that one call showed
 
@@ -228,16 +232,17 @@ module _ (first asked gate : ℕ) (read front rest : List ℕ) (is : read ≡ fr
     place_is = place;
   }
 
-  pub block_in : (payload : List ℕ) → HasBlock payload rest → Since (ShowsBlock gate payload) (bytes_from first asked read ∷ [])
-  block_in payload has = (
-    [],
-    bytes_from first asked read ∷ [],
-    refl,
-    record {
-      gate_open = record { first = bytes_from first asked read; later = []; begins = refl; is_open = shown_in (1 ∷ []) (block_bytes payload ++ has.gate ∷ has.rest) has.there };
-      block = shows_at (bytes_from first asked read ∷ []) gate (1 ∷ block_bytes payload) (shown_in (1 ∷ block_bytes payload) (has.gate ∷ has.rest) has.there);
-    },
-  )
+  -- no call came behind that one, so none showed that a block is not whole
+  not_cut : ShowsCut gate (bytes_from first asked read ∷ []) → ⊥
+  not_cut cut = none_short gate (subst (ShowsShort gate) (sym (ap (drop 1) cut.gate_open.begins)) cut.short)
+
+  pub block_in : (payload : List ℕ) → HasBlock payload rest → Since (IsBlockAlone gate payload) (bytes_from first asked read ∷ [])
+  block_in payload has =
+      let b : ShowsBlock gate payload (bytes_from first asked read ∷ []) = record {
+        gate_open = record { first = bytes_from first asked read; later = []; begins = refl; is_open = shown_in (1 ∷ []) (block_bytes payload ++ has.gate ∷ has.rest) has.there };
+        block = shows_at (bytes_from first asked read ∷ []) gate (1 ∷ block_bytes payload) (shown_in (1 ∷ block_bytes payload) (has.gate ∷ has.rest) has.there);
+      } in
+      ([], bytes_from first asked read ∷ [], refl, (b, not_cut))
 
   -- behind a block
   pub next_in : (next : ℕ) (payload : List ℕ) → next ≡ gate + 9 + length payload → 9 + length payload < length rest → (front' : List ℕ) × (read ≡ front' ++ take (length rest - (9 + length payload)) (drop (9 + length payload) rest)) × (next ≡ first + length front')
@@ -260,13 +265,24 @@ read_turn first asked read front rest f g true is place e a = (a, shut_in first 
 
 -- ---- a block that was read by itself
 
-pub found_shown : (gate next : ℕ) (s : List Shown) (before out : List ℕ) → before ≡ [] → IsBlockShown gate s before out (Ok (Some next)) → Since (ShowsBlock gate out) s
-found_shown gate next s before out none (payload, b, is, all) = ([], s, refl, subst (λ p. ShowsBlock gate p s) (sym (all ∙ ap (λ l. l ++ payload) none)) b)
+-- two facts of what one call showed
+pub shown_both : {P Q : List Shown → Type 0} (old new : Option (List Shown)) → ShowsMore old new P → ShowsMore old new Q → ShowsMore old new (λ s. P s × Q s)
+shown_both {P} {Q} old new p q = λ before e.
+    let a = p before e in
+    let b = q before e in
+    let same : before ++ b.0 ≡ before ++ a.0 = cc (a.1, b.1) in
+    let is : b.0 ≡ a.0 = sym (drop_at before b.0 (length before) refl) ∙ ap (drop (length before)) same ∙ drop_at before a.0 (length before) refl in
+    (a.0, a.1, (a.2, subst Q is b.2))
 
-pub not_found_shown : (f : Spot) (s : List Shown) (before out : List ℕ) (e : JournalFault) → IsBlockShown f.gate s before out (Err e) → IsRefused s f f e
-not_found_shown f s before out (fault.Damaged at) (cut, is, same) = (moves_none s f, is, inl ([], s, refl, cut))
-not_found_shown f s before out fault.DiskFailed same = moves_none s f
-not_found_shown f s before out fault.Memory same = moves_none s f
+pub found_shown : (gate next : ℕ) (s : List Shown) (before out : List ℕ) → before ≡ [] → IsBlockShown gate s before out (Ok (Some next)) → TellsCut gate s (Ok (Some next)) → Since (IsBlockAlone gate out) s
+found_shown gate next s before out none (payload, b, is, all) tells =
+    let whole = subst (λ p. ShowsBlock gate p s) (sym (all ∙ ap (λ l. l ++ payload) none)) b in
+    ([], s, refl, (whole, λ cut. cc (tells cut)))
+
+pub not_found_shown : (f : Spot) (s : List Shown) (before out : List ℕ) (e : JournalFault) → IsBlockShown f.gate s before out (Err e) → TellsCut f.gate s (Err e) → IsRefused s f f e
+not_found_shown f s before out (fault.Damaged at) (cut, is, same) tells = (moves_none s f, is, inl ([], s, refl, cut))
+not_found_shown f s before out fault.DiskFailed same tells = moves_none s f
+not_found_shown f s before out fault.Memory (opens, same) tells = (moves_none s f, ([], s, refl, (opens, λ cut. cc (tells cut))))
 
 -- ---- a catching up
 
@@ -311,7 +327,7 @@ module _ {D : Type 0} (size : ℕ) (s : List Shown) (old new : Follower D) (stat
     why = inr (same ∙ zero, place, head_behind _ (length_was size ∷ []) s head);
   }
   begun_refused fault.DiskFailed same = record { effects = []; lead = lead_none; are = inl (refl, same, done); why = tt }
-  begun_refused fault.Memory same = record { effects = []; lead = lead_none; are = inl (refl, same, done); why = tt }
+  begun_refused fault.Memory none = absurd none
 
   -- and what was shown of blocks behind that
   module _ (t : List Shown) (last : Follower D) (starts : StartsAt s old.gate new.gate) (begun : 0 < new.gate) where
@@ -349,4 +365,4 @@ module _ {D : Type 0} (size : ℕ) (s : List Shown) (old new : Follower D) (stat
       why = inl (rises m, place, bad_behind (length_was size ∷ s) t last.gate last.done last.core.state bad);
     }
     passed_to_refusal fault.DiskFailed m = record { effects = m.effects; lead = lead_since m; are = carried_then m; why = tt }
-    passed_to_refusal fault.Memory m = record { effects = m.effects; lead = lead_since m; are = carried_then m; why = tt }
+    passed_to_refusal fault.Memory (m, alone) = record { effects = m.effects; lead = lead_since m; are = carried_then m; why = (rises m, since_behind (length_was size ∷ s) t alone) }

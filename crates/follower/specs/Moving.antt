@@ -1,11 +1,11 @@
 -- What a step of a catching up did, by what its disk showed in it. Private.
 use Rattle.std.specs.Prelude.{◌≡◌, ℕ, ◌+◌, List, [], ◌∷◌, ◌++◌, length, drop, Bool, true, false, Result, Ok, Err}
 use Rattle.follower.specs.Following.{Lead}
-use Rattle.follower.specs.Seen.{AreFrom, IsSeen, SeesBadBlock, SeesHead, StartsAt}
+use Rattle.follower.specs.Seen.{AreFrom, IsSeen, SeesBadBlock, SeesHead, Since, StartsAt}
 use Rattle.follower.specs.declared.follower.Follower.{Follower}
 use Rattle.journal_file.specs.Blocks.{IsTornCreation, journal_names}
 use Rattle.journal_file.specs.Damage.{IsForeign}
-use Rattle.journal_file.specs.Shows.{ShowsShut}
+use Rattle.journal_file.specs.Shows.{ShowsBlock, ShowsCut, ShowsOpen, ShowsShut}
 use Rattle.journal_file.specs.declared.faults.JournalFault.{JournalFault}
 use Rattle.journal_file.specs.declared.faults.JournalFault.TheVariants as fault
 use Rattle.plain_exchange.specs.declared.changes.Effect.{Effect}
@@ -42,11 +42,19 @@ pub record Moves (shown : List Shown) (old new : Spot) : Type 0 where
   pub lead : Lead old.state new.state old.count new.count effects
   pub are : AreFrom shown old.gate old.done blocks effects new.gate new.done
 
+-- the gate was shown open, and not that its block is not whole
+abbrev pub IsOpenAlone : ℕ → List Shown → Type 0
+IsOpenAlone gate shown = ShowsOpen gate shown × (ShowsCut gate shown → ⊥)
+
+-- the block was shown, and not that it is not whole
+abbrev pub IsBlockAlone : ℕ → List ℕ → List Shown → Type 0
+IsBlockAlone gate payload shown = ShowsBlock gate payload shown × (ShowsCut gate shown → ⊥)
+
 -- a step that was refused
 abbrev pub IsRefused : List Shown → Spot → Spot → JournalFault → Type 0
 IsRefused shown old new (fault.Damaged at) = Moves shown old new × (at ≡ new.gate) × SeesBadBlock shown new.gate new.done new.state
 IsRefused shown old new fault.DiskFailed = Moves shown old new
-IsRefused shown old new fault.Memory = Moves shown old new
+IsRefused shown old new fault.Memory = Moves shown old new × Since (IsOpenAlone new.gate) shown
 
 -- Whole blocks were carried out, and there may be more, or the gate behind them is shut; or it was refused.
 abbrev pub IsTurn : List Shown → Spot → Spot → Result Bool JournalFault → Type 0
@@ -60,4 +68,4 @@ IsBegun shown old new (Ok true) = StartsAt shown old.gate new.gate
 IsBegun shown old new (Ok false) = (old.gate ≡ 0) × (new.gate ≡ old.gate) × SeesHead IsTornCreation shown
 IsBegun shown old new (Err (fault.Damaged at)) = (old.gate ≡ 0) × (new.gate ≡ old.gate) × (at ≡ 0) × SeesHead (IsForeign journal_names) shown
 IsBegun shown old new (Err fault.DiskFailed) = new.gate ≡ old.gate
-IsBegun shown old new (Err fault.Memory) = new.gate ≡ old.gate
+IsBegun shown old new (Err fault.Memory) = ⊥

@@ -1,13 +1,13 @@
 -- What a follower answers to a message.
-use Rattle.std.specs.Prelude.{◌≡◌, ◌⊎◌, ℕ, true, false, List, [], ◌∷◌, ◌++◌, Option, Some, None, Result, Ok, Err, codes}
+use Rattle.std.specs.Prelude.{◌≡◌, ◌⊎◌, ℕ, true, false, List, [], ◌∷◌, ◌++◌, Option, Some, None, Ok, Err, codes}
 use Rattle.std.specs.Option.{option_map_or}
+use Rattle.address_keys.specs.Tokens.{no_keys}
 use Rattle.command_read.specs.Commands.{IsCommandOf}
 use Rattle.follower.specs.Following.{CatchesUp, count_in, report_of, state_in}
 use Rattle.follower.specs.declared.follower.FollowReport.{FollowReport}
 use Rattle.follower.specs.declared.follower.Follower.{Follower}
 use Rattle.http_wire.specs.declared.answer.Answer.{Answer}
 use Rattle.http_wire.specs.declared.message.Message.{Message}
-use Rattle.journal_file.specs.declared.faults.JournalFault.{JournalFault}
 use Rattle.journal_file.specs.declared.faults.JournalFault.TheVariants as fault
 use Rattle.json_out.specs.Texts.{Member}
 use Rattle.plain_exchange.specs.declared.commands.Command.TheVariants as command
@@ -46,19 +46,19 @@ damaged_at at = object_answer 500 (damaged_members at)
 
 -- the message asks for the report of campaign n, or of none
 abbrev pub AsksFor : Message → Option ℕ → Type 0
-AsksFor message (Some n) = IsCommandOf message (Ok (command.Report n))
-AsksFor message None = (n : ℕ) → IsCommandOf message (Ok (command.Report n)) → ⊥
+AsksFor message (Some n) = IsCommandOf no_keys message (Ok (command.Report n))
+AsksFor message None = (n : ℕ) → IsCommandOf no_keys message (Ok (command.Report n)) → ⊥
 
 module _ {D : Type 0} (G : Ghosts D) where
-  -- The report of campaign n: the follower caught up first, and where it could not that is answered. A disk that failed is
-  -- told as that, and never as want of memory.
+  -- The report of campaign n: the follower caught up first, and where it could not that is answered. A disk that failed and
+  -- damage are told as that, and never as want of memory, which is told of a catching up that ended by it and of a report.
   abbrev pub IsReport : ℕ → Follower D → Follower D → Given → Type 0
   IsReport n old new (given.Text answer true) = ⊥
   IsReport n old new (given.Text answer false) =
       (CatchesUp G old new (Ok (count_in new)) × (answer ≡ found_answer (state_in new) n (count_in new)))
       ⊎ ((at : ℕ) × CatchesUp G old new (Err (fault.Damaged at)) × (answer ≡ damaged_at at))
   IsReport n old new given.StoreFailed = CatchesUp G old new (Err fault.DiskFailed)
-  IsReport n old new given.Memory = (caught : Result ℕ JournalFault) × CatchesUp G old new caught × (caught ≡ Err fault.DiskFailed → ⊥)
+  IsReport n old new given.Memory = CatchesUp G old new (Ok (count_in new)) ⊎ CatchesUp G old new (Err fault.Memory)
   IsReport n old new given.MemoryLate = ⊥
 
   -- This answer, or want of memory for it; nothing was read.

@@ -5,7 +5,7 @@ use Rattle.effects.specs.Bytes.{IsDecoded}
 use Rattle.journal_file.specs.Blocks.{IsTornCreation, journal_names}
 use Rattle.journal_file.specs.Damage.{IsForeign}
 use Rattle.journal_file.specs.Openings.{HasHeader}
-use Rattle.journal_file.specs.Shows.{ShowsBlock, ShowsCut, ShowsShut, WasShown}
+use Rattle.journal_file.specs.Shows.{ShowsBlock, ShowsCut, ShowsOpen, ShowsShut, WasShown}
 use Rattle.journal_file.specs.declared.faults.JournalFault.{JournalFault}
 use Rattle.journal_file.specs.declared.faults.JournalFault.TheVariants as fault
 use Rattle.plain_exchange.specs.declared.changes.Effect.{Effect}
@@ -66,9 +66,14 @@ SeesDamage shown gate done s at =
     ((0 < gate) × (at ≡ gate) × SeesBadBlock shown gate done s)
     ⊎ ((gate ≡ 0) × (at ≡ 0) × SeesHead (IsForeign journal_names) shown)
 
+-- Its gate was shown open, and nothing since then that the block is not whole. So neither that nor a file that is no journal
+-- is told as want of memory; of effects that do not fit, behind a whole block, this says nothing.
+abbrev pub SeesNoCut : List Shown → ℕ → Type 0
+SeesNoCut shown gate = (0 < gate) × Since (λ since. ShowsOpen gate since × (ShowsCut gate since → ⊥)) shown
+
 -- why it ended there
 abbrev pub SeesWhy : List Shown → ℕ → ℕ → State → Result ℕ JournalFault → Type 0
 SeesWhy shown gate done s (Ok count) = SeesEnd shown gate
 SeesWhy shown gate done s (Err (fault.Damaged at)) = SeesDamage shown gate done s at
 SeesWhy shown gate done s (Err fault.DiskFailed) = Unit {0}
-SeesWhy shown gate done s (Err fault.Memory) = Unit {0}
+SeesWhy shown gate done s (Err fault.Memory) = SeesNoCut shown gate

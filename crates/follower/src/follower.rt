@@ -43,12 +43,12 @@ impl<D: Disk> Follower<D> {
     ghost use Rattle.std.specs.Prelude.{◌≡◌, ◌⊎◌, ◌+◌, ◌<◌, ◌≤◌, ◌^◌, ℕ, List, [], ◌∷◌, drop, true, false, Ok, Err, IfOk, IsTrue, MatchResult, OnOk, Result, Some, is_some, length, option_map};
     ghost use Rattle.auction_core.specs.declared.fault.ApplyFault.{ApplyFault};
     ghost use Rattle.follower.specs.Following.{CatchesUp, GoesOn, IsCaughtUp, IsShownBy, IsWithin, count_in, disk_in, report_of, state_in};
-    ghost use Rattle.follower.specs.Moving.{IsBegun, IsRefused, IsTurn, Passes, spot};
+    ghost use Rattle.follower.specs.Moving.{IsBegun, IsBlockAlone, IsRefused, IsTurn, Passes, spot};
     ghost use Rattle.follower.specs.Passing.{IsCarried, Turns, at_gate};
     ghost use Rattle.follower.specs.Seen.{Since};
     ghost use Rattle.journal_file.specs.Damage.{HasBlock};
     ghost use Rattle.journal_file.specs.Pieces.{BeginsFrom};
-    ghost use Rattle.journal_file.specs.Shows.{ShowsBlock, ShowsMore, ShowsShut};
+    ghost use Rattle.journal_file.specs.Shows.{ShowsMore, ShowsShut};
     ghost use Rattle.plain_exchange.specs.State.{Campaign, campaign_at, empty};
     ghost use Rattle.recovery.specs.Damage.{IsDamagedAt};
     ghost use Rattle.rtb_base.specs.Faults.{RisesOnlyWhere};
@@ -140,17 +140,13 @@ impl<D: Disk> Follower<D> {
         ensures same { D.store self.new.disk ≡ D.store self.old.disk }
         ensures cause { RisesOnlyWhere (result ≡ Err JournalFault.DiskFailed) (D.faults self.old.disk) (D.faults self.new.disk) }
     {
-        for _ in 0..u64::MAX {
-            if self.gate >= size {
-                return Ok(());
-            }
+        while self.gate < size {
             let more = self.pass_piece(size)?;
             if !more {
                 return Ok(());
             }
         }
-        // No disk has so many blocks.
-        Err(JournalFault::Memory)
+        Ok(())
     }
 
     // Reads from the gate on in one call, no further than the size, and carries out the blocks that are there whole. Where
@@ -163,6 +159,7 @@ impl<D: Disk> Follower<D> {
         requires inside { self.old.gate < size }
         requires small { size < 2 ^ 63 }
         ensures begun { 0 < self.new.gate }
+        ensures on { result ≡ Ok true → self.old.gate < self.new.gate }
         ensures goes { GoesOn self.old self.new }
         ensures turns { (D.store self.old.disk).told ≡ true → length (D.store self.old.disk).reads < 2 ^ 64 → IsWithin (D.store self.old.disk).reads self.old → Turns (D.store self.old.disk).reads self.new result }
         ensures shows { ShowsMore (D.shown self.old.disk) (D.shown self.new.disk) (λ shown. IsTurn shown (spot self.old) (spot self.new) result) }
@@ -185,6 +182,7 @@ impl<D: Disk> Follower<D> {
         requires begun { 0 < self.old.gate }
         requires low { self.old.gate + length room.old < 2 ^ 64 }
         ensures begun { 0 < self.new.gate }
+        ensures on { IfOk result (λ _. self.old.gate ≤ self.new.gate) }
         ensures goes { GoesOn self.old self.new }
         ensures turns { (D.store self.old.disk).told ≡ true → length (D.store self.old.disk).reads < 2 ^ 64 → IsWithin (D.store self.old.disk).reads self.old → Turns (D.store self.old.disk).reads self.new result }
         ensures shows { ShowsMore (D.shown self.old.disk) (D.shown self.new.disk) (λ shown. IsTurn shown (spot self.old) (spot self.new) result) }
@@ -201,6 +199,7 @@ impl<D: Disk> Follower<D> {
         requires begun { 0 < self.old.gate }
         requires low { self.old.gate + length read.now < 2 ^ 64 }
         ensures begun { 0 < self.new.gate }
+        ensures on { IfOk result (λ _. self.old.gate ≤ self.new.gate) }
         ensures goes { GoesOn self.old self.new }
         ensures turns { (reads : List ℕ) → length reads < 2 ^ 64 → BeginsFrom self.old.gate read.now reads → IsWithin reads self.old → Turns reads self.new result }
         ensures shows { (asked : ℕ) → IsTurn (bytes_from self.old.gate asked read.now ∷ []) (spot self.old) (spot self.new) result }
@@ -220,6 +219,7 @@ impl<D: Disk> Follower<D> {
     fn pass_block(&mut self) -> Result<bool, JournalFault>
         requires begun { 0 < self.old.gate }
         ensures begun { 0 < self.new.gate }
+        ensures on { result ≡ Ok true → self.old.gate < self.new.gate }
         ensures goes { GoesOn self.old self.new }
         ensures turns { (D.store self.old.disk).told ≡ true → length (D.store self.old.disk).reads < 2 ^ 64 → IsWithin (D.store self.old.disk).reads self.old → Turns (D.store self.old.disk).reads self.new result }
         ensures shows { ShowsMore (D.shown self.old.disk) (D.shown self.new.disk) (λ shown. IsTurn shown (spot self.old) (spot self.new) result) }
@@ -244,7 +244,7 @@ impl<D: Disk> Follower<D> {
         ensures begun { 0 < self.new.gate }
         ensures goes { GoesOn self.old self.new }
         ensures turns { (reads : List ℕ) → length reads < 2 ^ 64 → HasBlock payload.now (drop self.old.gate reads) → IsWithin reads self.old → MatchResult result (λ _. IsWithin reads self.new) (λ e. Turns reads self.new (Err e)) }
-        ensures shows { (shown : List Shown) → Since (ShowsBlock self.old.gate payload.now) shown → MatchResult result (λ _. Passes shown (spot self.old) (spot self.new)) (IsRefused shown (spot self.old) (spot self.new)) }
+        ensures shows { (shown : List Shown) → Since (IsBlockAlone self.old.gate payload.now) shown → MatchResult result (λ _. Passes shown (spot self.old) (spot self.new)) (IsRefused shown (spot self.old) (spot self.new)) }
         ensures place { OnOk result (self.new.gate ≡ next) }
         ensures disk { self.new.disk ≡ self.old.disk }
         ensures quiet { result ≡ Err JournalFault.DiskFailed → ⊥ }

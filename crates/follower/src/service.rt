@@ -4,8 +4,9 @@ ghost use Rattle.follower.specs.Reading.{report_asked};
 ghost use Rattle.follower.specs.Reporting.{AsksFor};
 ghost use Rattle.http_wire.specs.Answers.{IsWritable};
 
-use crate::answers::{damaged_answer, report_answer};
+use crate::answers::{damaged_answer, report_answer, room_for_damage};
 use crate::follower::Follower;
+use address_keys::Keys;
 use command_read::{CommandFault, message_has_one_reading, read_command};
 use http_wire::{Answer, Message};
 use journal_file::JournalFault;
@@ -38,8 +39,9 @@ impl<D: Disk> Service for Follower<D> {
 fn asked_for(alloc: Global, message: &Message) -> Result<Option<u64>, AllocError>
     ensures { IfOk result (AsksFor message.now) }
 {
-    message_has_one_reading(message);
-    match read_command(alloc, message) {
+    let keys = Keys::none();
+    message_has_one_reading(&keys, message);
+    match read_command(alloc, &keys, message) {
         Ok(command) => {
             let asked = report_in(&command);
             drop(command);
@@ -63,20 +65,34 @@ fn report_in(command: &Command) -> Option<u64>
 }
 
 impl<D: Disk> Follower<D> {
-    ghost use Rattle.std.specs.Prelude.{◌≡◌, IfOk};
+    ghost use Rattle.std.specs.Prelude.{◌≡◌, ◌⊎◌, ◌≤◌, [], vec_capacity, vec_len, IfOk};
     ghost use Rattle.follower.specs.Following.{state_in};
     ghost use Rattle.follower.specs.Reporting.{IsReport, found_answer};
     ghost use Rattle.session.specs.Talk.{IsGivable};
 
-    // The report of campaign `n` behind what the journal says now.
+    // The report of campaign `n` behind what the journal says now, or want of memory before anything was read.
     fn report_to(&mut self, n: u64) -> Given
+        ensures reports { IsReport D.Disk n self.old self.new result ⊎ ((result ≡ Given.Memory) × (self.new ≡ self.old)) }
+        ensures givable { IsGivable result }
+    {
+        match room_for_damage(self.alloc) {
+            Ok(room) => self.report_with(n, room),
+            Err(_) => Given::Memory,
+        }
+    }
+
+    // The same, with room for the answer of damage.
+    fn report_with(&mut self, n: u64, room: Vec<u8>) -> Given
+        requires empty { room.items ≡ [] }
+        requires len { vec_len room ≡ 0 }
+        requires room { 80 ≤ vec_capacity room }
         ensures reports { IsReport D.Disk n self.old self.new result }
         ensures givable { IsGivable result }
     {
         match self.catch_up() {
             Ok(effects) => given(self.found(n, effects)),
             Err(JournalFault::DiskFailed) => Given::StoreFailed,
-            Err(JournalFault::Damaged { at }) => given(damaged_answer(self.alloc, at)),
+            Err(JournalFault::Damaged { at }) => given(Ok(damaged_answer(room, at))),
             Err(JournalFault::Memory) => Given::Memory,
         }
     }

@@ -15,6 +15,7 @@ status_text n =
     else (if n == 201 then codes "201 Created"
     else (if n == 204 then codes "204 No Content"
     else (if n == 400 then codes "400 Bad Request"
+    else (if n == 403 then codes "403 Forbidden"
     else (if n == 404 then codes "404 Not Found"
     else (if n == 405 then codes "405 Method Not Allowed"
     else (if n == 409 then codes "409 Conflict"
@@ -24,11 +25,11 @@ status_text n =
     else (if n == 431 then codes "431 Request Header Fields Too Large"
     else (if n == 500 then codes "500 Internal Server Error"
     else (if n == 501 then codes "501 Not Implemented"
-    else (if n == 503 then codes "503 Service Unavailable" else [])))))))))))))
+    else (if n == 503 then codes "503 Service Unavailable" else []))))))))))))))
 
 -- the statuses that have a reason
 abbrev pub statuses : List ℕ
-statuses = 200 ∷ 201 ∷ 204 ∷ 400 ∷ 404 ∷ 405 ∷ 409 ∷ 410 ∷ 413 ∷ 415 ∷ 431 ∷ 500 ∷ 501 ∷ 503 ∷ []
+statuses = 200 ∷ 201 ∷ 204 ∷ 400 ∷ 403 ∷ 404 ∷ 405 ∷ 409 ∷ 410 ∷ 413 ∷ 415 ∷ 431 ∷ 500 ∷ 501 ∷ 503 ∷ []
 
 abbrev pub status_line : ℕ → List ℕ
 status_line n = codes "HTTP/1.1 " ++ status_text n ++ crlf

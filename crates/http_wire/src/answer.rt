@@ -27,7 +27,7 @@ pub struct Answer {
 
 /// Appends the text of the answer, all or nothing. `closes`: the link ends behind it.
 ///
-/// The status is 200, 201, 204, 400, 404, 405, 409, 410, 413, 415, 431, 500, 501 or 503.
+/// The status is 200, 201, 204, 400, 403, 404, 405, 409, 410, 413, 415, 431, 500, 501 or 503.
 pub fn write_answer(answer: &Answer, closes: bool, out: &mut Txt) -> Result<(), AllocError>
     requires { IsWritable answer.now }
     ensures ok { OnOk result (out.new ≡ out.old ++ answer_text answer.now closes) }
@@ -225,6 +225,7 @@ fn status_line(status: u16) -> &'static [u8]
         201 => b"HTTP/1.1 201 Created\r\n",
         204 => b"HTTP/1.1 204 No Content\r\n",
         400 => b"HTTP/1.1 400 Bad Request\r\n",
+        403 => b"HTTP/1.1 403 Forbidden\r\n",
         404 => b"HTTP/1.1 404 Not Found\r\n",
         405 => b"HTTP/1.1 405 Method Not Allowed\r\n",
         409 => b"HTTP/1.1 409 Conflict\r\n",

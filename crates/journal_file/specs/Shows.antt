@@ -60,12 +60,13 @@ abbrev pub ShowsShut : ℕ → List Shown → Type 0
 ShowsShut gate shown = IsEndShown shown gate ⊎ ((byte : ℕ) × (byte ≢ 1) × IsShownAt shown gate (byte ∷ []))
 
 -- It was shown that a block and the next gate are not all there: the length, or what is no number where the block's size
--- stands, or the size and a length too small for it, or the size and that nothing more stands before its end.
+-- stands, or the size and a length too small for it, or the size and that nothing more stands before its end. A size is a
+-- number of eight bytes, so what was shown of it is of one size alone.
 pub data ShowsShort (gate : ℕ) (shown : List Shown) : Type 0 where
   no_room : (end : ℕ) → end < gate + 10 → WasShown shown (length_was end) → ShowsShort gate shown
   no_size : (word : List ℕ) → ((n : ℕ) (rest : List ℕ) → FitsEight n → word ≡ eight_bytes n ++ rest → ⊥) → WasShown shown (bytes_from (gate + 1) 8 word) → ShowsShort gate shown
-  too_long : (size end : ℕ) → IsShownAt shown (gate + 1) (eight_bytes size) → end < gate + 10 + size → WasShown shown (length_was end) → ShowsShort gate shown
-  ended : (size at : ℕ) → IsShownAt shown (gate + 1) (eight_bytes size) → at < gate + 9 + size → IsEndShown shown at → ShowsShort gate shown
+  too_long : (size end : ℕ) → FitsEight size → IsShownAt shown (gate + 1) (eight_bytes size) → end < gate + 10 + size → WasShown shown (length_was end) → ShowsShort gate shown
+  ended : (size at : ℕ) → FitsEight size → IsShownAt shown (gate + 1) (eight_bytes size) → at < gate + 9 + size → IsEndShown shown at → ShowsShort gate shown
 
 -- the first call showed the gate open, and those behind it that its block is not there whole
 pub record ShowsCut (gate : ℕ) (shown : List Shown) : Type 0 where
@@ -78,4 +79,9 @@ IsBlockShown gate shown before out (Ok (Some next)) = (payload : List ℕ) × Sh
 IsBlockShown gate shown before out (Ok None) = ShowsShut gate shown × (out ≡ before)
 IsBlockShown gate shown before out (Err (fault.Damaged at)) = ShowsCut gate shown × (at ≡ gate) × (out ≡ before)
 IsBlockShown gate shown before out (Err fault.DiskFailed) = out ≡ before
-IsBlockShown gate shown before out (Err fault.Memory) = out ≡ before
+IsBlockShown gate shown before out (Err fault.Memory) = ShowsOpen gate shown × (out ≡ before)
+
+-- Damage that was shown is answered as that, whatever else was shown: not as a block or the end, and neither as a failed disk
+-- nor as want of memory.
+abbrev pub TellsCut : ℕ → List Shown → Result (Option ℕ) JournalFault → Type 0
+TellsCut gate shown result = ShowsCut gate shown → result ≡ Err (fault.Damaged gate)

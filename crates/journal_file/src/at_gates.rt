@@ -4,8 +4,8 @@ ghost use Rattle.rtb_base.specs.Faults.{CountsErrors, RisesOnlyWhere};
 ghost use Rattle.byte_fields.specs.Encodings.{eight_bytes};
 ghost use Rattle.journal_file.specs.Damage.{IsBlockAt, IsShut};
 ghost use Rattle.journal_file.specs.Gates.{begins_open};
-ghost use Rattle.journal_file.specs.Showing.{IsBehindShown, IsGateShown, IsNumberShown, IsRestShown, IsSizeShown};
-ghost use Rattle.journal_file.specs.Shows.{IsBlockShown, ShowsMore};
+ghost use Rattle.journal_file.specs.Showing.{IsBehindShown, IsGateSeen, IsNumberSeen, IsRestShown, IsSizeShown};
+ghost use Rattle.journal_file.specs.Shows.{IsBlockShown, ShowsMore, TellsCut};
 ghost use Rattle.journal_file.specs.Sizes.{IsSizeAt, IsWholeSize};
 
 use crate::faults::JournalFault;
@@ -33,6 +33,7 @@ pub fn block_at<D: Disk>(
     ensures place { (at : ℕ) → result ≡ Err (JournalFault.Damaged at) → at ≡ gate }
     // By what this call was shown alone, so also where another writer appends meanwhile.
     ensures shows { ShowsMore (D.shown disk.old) (D.shown disk.new) (λ more. IsBlockShown gate more out.old out.new result) }
+    ensures cut { ShowsMore (D.shown disk.old) (D.shown disk.new) (λ more. TellsCut gate more result) }
     ensures same { D.store disk.new ≡ D.store disk.old }
     ensures cause { RisesOnlyWhere (result ≡ Err JournalFault.DiskFailed) (D.faults disk.old) (D.faults disk.new) }
 {
@@ -46,7 +47,7 @@ pub fn block_at<D: Disk>(
 fn is_open<D: Disk>(disk: &mut D, gate: u64) -> Result<bool, Failed>
     ensures open { (D.store disk.old).told ≡ true → result ≡ Ok true → (rest : List ℕ) × (drop gate (D.store disk.old).reads ≡ 1 ∷ rest) }
     ensures shut { (D.store disk.old).told ≡ true → result ≡ Ok false → IsShut (drop gate (D.store disk.old).reads) }
-    ensures shows { ShowsMore (D.shown disk.old) (D.shown disk.new) (λ more. IfOk result (IsGateShown gate more)) }
+    ensures shows { ShowsMore (D.shown disk.old) (D.shown disk.new) (λ more. IsGateSeen gate more result) }
     ensures same { D.store disk.new ≡ D.store disk.old }
     ensures cause { CountsErrors (D.faults disk.old) (D.faults disk.new) result }
 {
@@ -92,7 +93,7 @@ fn whole_size<D: Disk>(disk: &mut D, gate: u64) -> Result<Option<u64>, Failed>
     ensures whole { (D.store disk.old).told ≡ true → IfOk result (λ found. (rest : List ℕ) → drop gate (D.store disk.old).reads ≡ 1 ∷ rest → IsWholeSize rest found) }
     ensures inside { (D.store disk.old).told ≡ true → IfOk result (λ found. IfSome found (λ size. gate + 9 + size < length (D.store disk.old).reads)) }
     ensures fits { IfOk result (λ found. IfSome found (λ size. gate + 10 + size < 2 ^ 63)) }
-    ensures shows { ShowsMore (D.shown disk.old) (D.shown disk.new) (λ more. IfOk result (IsSizeShown gate more)) }
+    ensures shows { ShowsMore (D.shown disk.old) (D.shown disk.new) (λ more. IsSizeShown gate more result) }
     ensures same { D.store disk.new ≡ D.store disk.old }
     ensures cause { CountsErrors (D.faults disk.old) (D.faults disk.new) result }
 {
@@ -111,7 +112,7 @@ fn whole_size<D: Disk>(disk: &mut D, gate: u64) -> Result<Option<u64>, Failed>
 // The length at the place; none where the disk ends first.
 fn size_at<D: Disk>(disk: &mut D, place: u64) -> Result<Option<u64>, Failed>
     ensures size { (D.store disk.old).told ≡ true → IfOk result (IsSizeAt (drop place (D.store disk.old).reads)) }
-    ensures shows { ShowsMore (D.shown disk.old) (D.shown disk.new) (λ more. IfOk result (IsNumberShown place more)) }
+    ensures shows { ShowsMore (D.shown disk.old) (D.shown disk.new) (λ more. IsNumberSeen place more result) }
     ensures same { D.store disk.new ≡ D.store disk.old }
     ensures cause { CountsErrors (D.faults disk.old) (D.faults disk.new) result }
 {

@@ -1,5 +1,5 @@
 //! The payload of a block, read from the disk.
-ghost use Rattle.std.specs.Prelude.{◌≡◌, ◌≢◌, ◌+◌, ◌<◌, ◌≤◌, ◌^◌, ◌++◌, ℕ, List, length, drop, take, true, false, Ok, Err, IfOk};
+ghost use Rattle.std.specs.Prelude.{◌≡◌, ◌≢◌, ◌+◌, ◌<◌, ◌≤◌, ◌^◌, ◌++◌, ℕ, List, length, drop, take, true, false, Ok, Err};
 ghost use Rattle.rtb_base.specs.Faults.{Rose};
 ghost use Rattle.journal_file.specs.Showing.{ArePayloadShown};
 ghost use Rattle.journal_file.specs.Shows.{ShowsMore};
@@ -45,7 +45,7 @@ pub(crate) fn read_payload<D: Disk>(
     ensures short { (D.store disk.old).told ≡ true → result ≡ Ok false → length (D.store disk.old).reads < place + count }
     ensures front { (more : List ℕ) × (out.new ≡ out.old ++ more) }
     ensures long { result ≡ Ok true → length out.new ≡ length out.old + count }
-    ensures shows { ShowsMore (D.shown disk.old) (D.shown disk.new) (λ more. IfOk result (ArePayloadShown place count more out.old out.new)) }
+    ensures shows { ShowsMore (D.shown disk.old) (D.shown disk.new) (λ more. ArePayloadShown place count more out.old out.new result) }
     ensures same { D.store disk.new ≡ D.store disk.old }
     ensures no_less { D.faults disk.old ≤ D.faults disk.new }
     ensures failed { result ≡ Err ReadFault.Failed → Rose (D.faults disk.old) (D.faults disk.new) }

@@ -16,6 +16,8 @@ pub enum Asked {
     DiskToRead { path: Txt },
     /// So many doors at this address, whose links wait for their peers so many milliseconds.
     Doors { address: Txt, n: u32, patience: u64 },
+    /// The text of the key with this name.
+    Key { path: Txt },
 }
 
 /// Notes that a disk is asked for. Where memory is refused the list is as it was.
@@ -43,6 +45,15 @@ pub(crate) fn note_disk_to_read(asked: &mut List<Asked>, path: &Txt) -> Result<(
 {
     let path = path.copy()?;
     asked.push(Asked::DiskToRead { path })
+}
+
+/// Notes that the text of a key is asked for. Where memory is refused the list is as it was.
+pub(crate) fn note_key(asked: &mut List<Asked>, path: &Txt) -> Result<(), AllocError>
+    ensures ok { OnOk result (asked.new ≡ asked.old ++ asked_for.Key path.now ∷ []) }
+    ensures err { OnErr result (asked.new ≡ asked.old) }
+{
+    let path = path.copy()?;
+    asked.push(Asked::Key { path })
 }
 
 /// Notes that doors are asked for. Where memory is refused the list is as it was.

@@ -1,15 +1,15 @@
 //! A world in memory, whose calls fail as they are told to.
-ghost use Rattle.std.specs.Prelude.{◌≡◌, true, false, ◌∷◌, [], Some, Err, length, take, drop, ◌<◌, ◌≤◌, IfErr, IfOk, OnOk, OnErr, MatchResult};
+ghost use Rattle.std.specs.Prelude.{◌≡◌, true, false, ◌∷◌, [], Some, Err, length, map, take, drop, ◌<◌, ◌≤◌, IfErr, IfOk, OnOk, OnErr, MatchResult};
 ghost use Rattle.rtb_base.specs.Calls.{no_calls, one_call_later};
 ghost use Rattle.std.specs.Result.{is_err};
-ghost use Rattle.link_door.specs.MemoryWorld.{lacks, lacks_there};
+ghost use Rattle.link_door.specs.MemoryWorld.{key_front, lacks, lacks_there};
 ghost use Rattle.rtb_disk.specs.Memory.{store_of};
 ghost use Rattle.rtb_base.specs.Faults.{CountsErrors, RisesOnlyWhere, RoseAtMost};
 ghost use Rattle.link_door.specs.Worlds.{Asks, HandsOut};
 ghost use Rattle.link_door.specs.declared.asked.Asked.TheVariants as asked_for;
 ghost use Rattle.link_door.specs.declared.world.WorldFault.TheVariants.{Memory as memory};
 
-use crate::asked::{Asked, note_disk, note_disk_there, note_disk_to_read, note_doors};
+use crate::asked::{Asked, note_disk, note_disk_there, note_disk_to_read, note_doors, note_key};
 use crate::memory_door::MemDoor;
 use crate::world::{World, WorldFault};
 use rtb_disk::MemDisk;
@@ -20,23 +20,25 @@ use std::mem;
 
 /// A world in memory, where the calls whose numbers are listed fail.
 ///
-/// Calls of `doors` and `disk` are numbered together. Addresses and names are kept and else passed over:
-/// doors and disks are handed out in their order. A call that asks for more than are left fails too, and so
-/// does one of `disk` that finds no memory to keep the name.
+/// Its calls are numbered together. Addresses and names are kept and else passed over: doors, disks and texts of keys are
+/// handed out in their order. A call that asks for more than are left fails too, and so does one that finds no memory to
+/// keep the name.
 #[derive(Drop)]
 pub struct MemWorld {
     doors: Vec<MemDoor>,
     disks: Vec<MemDisk>,
+    keys: Vec<Txt>,
     asked: List<Asked>,
     calls: Calls,
 }
 
 impl Model for MemWorld {
-    ghost use Rattle.link_door.specs.MemoryWorld.{WorldState};
+    ghost use Rattle.std.specs.Prelude.{map};
+    ghost use Rattle.link_door.specs.MemoryWorld.{WorldState, key_front};
 
     ghost Value = { WorldState };
 
-    ghost view = { λ w. record { doors = w.doors.items; disks = w.disks.items; asked = w.asked; calls = w.calls } };
+    ghost view = { λ w. record { doors = w.doors.items; disks = w.disks.items; keys = map key_front w.keys.items; asked = w.asked; calls = w.calls } };
 }
 
 impl MemWorld {
@@ -45,13 +47,15 @@ impl MemWorld {
         alloc: Global,
         doors: List<MemDoor>,
         disks: List<MemDisk>,
+        keys: List<Txt>,
         fails: List<u64>,
     ) -> MemWorld
-        ensures { result ≡ record { doors = doors; disks = disks; asked = []; calls = no_calls fails } }
+        ensures { result ≡ record { doors = doors; disks = disks; keys = map key_front keys; asked = []; calls = no_calls fails } }
     {
         MemWorld {
             doors: doors.into_vec(),
             disks: disks.into_vec(),
+            keys: keys.into_vec(),
             asked: List::new(alloc),
             calls: Calls::new(fails),
         }
@@ -81,6 +85,8 @@ impl World for MemWorld {
 
     ghost disks_left = { λ w. Some w.disks };
 
+    ghost keys_left = { λ w. Some w.keys };
+
     ghost asked = { λ w. w.asked };
 
     ghost faults = { λ w. w.calls.faults };
@@ -103,6 +109,7 @@ impl World for MemWorld {
     fn disk_to_read(&mut self, path: &Txt) -> Result<MemDisk, Failed>
         ensures disks { MatchResult result (λ disk. HandsOut (Some self.old.disks) (Some self.new.disks) (disk ∷ [])) (λ _. self.new.disks ≡ self.old.disks) }
         ensures doors { self.new.doors ≡ self.old.doors }
+        ensures keys { self.new.keys ≡ self.old.keys }
         ensures asks { Asks self.old.asked self.new.asked (asked_for.DiskToRead path.now) result }
         ensures cause { CountsErrors self.old.calls.faults self.new.calls.faults result }
 
@@ -123,6 +130,7 @@ impl World for MemWorld {
     fn disk(&mut self, path: &Txt) -> Result<MemDisk, Failed>
         ensures disks { MatchResult result (λ disk. HandsOut (Some self.old.disks) (Some self.new.disks) (disk ∷ [])) (λ _. self.new.disks ≡ self.old.disks) }
         ensures doors { self.new.doors ≡ self.old.doors }
+        ensures keys { self.new.keys ≡ self.old.keys }
         ensures asks { Asks self.old.asked self.new.asked (asked_for.Disk path.now) result }
         ensures cause { CountsErrors self.old.calls.faults self.new.calls.faults result }
 
@@ -144,6 +152,7 @@ impl World for MemWorld {
         ensures long { IfOk result (λ disk. (store_of disk).told ≡ true → 0 < length (store_of disk).reads) }
         ensures disks { MatchResult result (λ disk. HandsOut (Some self.old.disks) (Some self.new.disks) (disk ∷ [])) (λ _. self.new.disks ≡ self.old.disks) }
         ensures doors { self.new.doors ≡ self.old.doors }
+        ensures keys { self.new.keys ≡ self.old.keys }
         ensures asks { Asks self.old.asked self.new.asked (asked_for.DiskThere path.now) result }
         ensures cause { CountsErrors self.old.calls.faults self.new.calls.faults result }
 
@@ -159,6 +168,25 @@ impl World for MemWorld {
             return Err(Failed);
         }
         Ok(take_first(&mut self.disks))
+    }
+
+    fn key(&mut self, path: &Txt) -> Result<Txt, Failed>
+        ensures keys { MatchResult result (λ text. HandsOut (Some self.old.keys) (Some self.new.keys) (text ∷ [])) (λ _. self.new.keys ≡ self.old.keys) }
+        ensures most { IfOk result (λ text. length text ≤ 65) }
+        ensures doors { self.new.doors ≡ self.old.doors }
+        ensures disks { self.new.disks ≡ self.old.disks }
+        ensures asks { Asks self.old.asked self.new.asked (asked_for.Key path.now) result }
+        ensures cause { CountsErrors self.old.calls.faults self.new.calls.faults result }
+
+        // A call fails where it is told to, and where none is left.
+        ensures told { OnOk result (lacks self.old.calls self.old.keys 1 ≡ false) }
+        ensures calls { self.new.calls ≡ one_call_later self.old.calls (is_err result) }
+    {
+        if self.calls.begin() || self.keys.is_empty() || note_key(&mut self.asked, path).is_err() {
+            self.calls.count_fault();
+            return Err(Failed);
+        }
+        Ok(take_text(&mut self.keys))
     }
 }
 
@@ -190,4 +218,15 @@ fn take_first<T: Drop>(items: &mut Vec<T>) -> T
     ensures { items.old.items ≡ result ∷ items.new.items }
 {
     items.remove(0)
+}
+
+// Takes the first text, of which the front is read.
+fn take_text(texts: &mut Vec<Txt>) -> Txt
+    requires { 0 < length texts.old.items }
+    ensures first { map key_front texts.old.items ≡ result ∷ map key_front texts.new.items }
+    ensures most { length result ≤ 65 }
+{
+    let mut text = take_first(texts);
+    text.truncate(65);
+    text
 }

@@ -1,11 +1,11 @@
 //! The network, the files and the clock of the system.
-ghost use Rattle.std.specs.Prelude.{◌≡◌, ◌≤◌, [], None, length, IfOk};
+ghost use Rattle.std.specs.Prelude.{◌≡◌, ◌≤◌, [], None, length, IfOk, IfSome};
 ghost use Rattle.rtb_base.specs.Faults.{one_more};
 
-use crate::asked::{Asked, note_disk, note_disk_there, note_disk_to_read, note_doors};
+use crate::asked::{Asked, note_disk, note_disk_there, note_disk_to_read, note_doors, note_key};
 use crate::tcp::TcpDoor;
 use crate::world::{World, WorldFault};
-use rtb_disk::FileDisk;
+use rtb_disk::{Disk, FileDisk};
 use rtb_num::{Failed, List, Txt};
 use std::alloc::{AllocError, Global};
 use std::io;
@@ -61,6 +61,8 @@ impl<'r, R: Wait + Sync> World for OsWorld<'r, R> {
 
     ghost disks_left = { λ _. None };
 
+    ghost keys_left = { λ _. None };
+
     ghost asked = { λ w. w.asked };
 
     ghost faults = { λ w. w.faults };
@@ -110,6 +112,16 @@ impl<'r, R: Wait + Sync> World for OsWorld<'r, R> {
         if note_disk_there(&mut self.asked, path).is_ok() {
             if let Some(disk) = open_there(self.rt, path) {
                 return Ok(disk);
+            }
+        }
+        self.count_fault();
+        Err(Failed)
+    }
+
+    fn key(&mut self, path: &Txt) -> Result<Txt, Failed> {
+        if note_key(&mut self.asked, path).is_ok() {
+            if let Some(text) = text_of_key(self.rt, path) {
+                return Ok(text);
             }
         }
         self.count_fault();
@@ -186,4 +198,48 @@ fn open_there<'r>(rt: &'r HostRuntime, path: &Txt) -> Option<FileDisk<'r>> {
 fn open_to_read<'r>(rt: &'r HostRuntime, path: &Txt) -> Option<FileDisk<'r>> {
     let path = str::from_utf8(path.as_bytes()).ok()?;
     FileDisk::open_to_read(rt, path).ok()
+}
+
+// As many bytes of a key's file are read: one more than a key has tells that it is too long.
+const KEY_ROOM: usize = 65;
+
+// The first bytes of the file, which is only read. Where it cannot be, it says why, as where they are no key.
+fn text_of_key(rt: &HostRuntime, path: &Txt) -> Option<Txt>
+    ensures { IfSome result (λ text. length text ≤ 65) }
+{
+    let mut bytes = [0; KEY_ROOM];
+    let count = read_front(rt, path, &mut bytes)?;
+    if !is_key_length(count) {
+        complain(rt, path, "a key has 32 to 64 bytes");
+    }
+    Txt::from_slice(rt.alloc(), &bytes[..count]).ok()
+}
+
+// A key has 32 to 64 bytes.
+fn is_key_length(count: usize) -> bool {
+    32 <= count && count <= 64
+}
+
+// Moves the first bytes of the file to the front of `out`, and tells how many. What is no file, as a folder or a pipe,
+// is not opened.
+fn read_front(rt: &HostRuntime, path: &Txt, out: &mut [u8]) -> Option<usize>
+    ensures { IfSome result (λ n. n ≤ length out.new) }
+{
+    let mut disk = open_to_read(rt, path)?;
+    let before = disk.length().ok();
+    let count = disk.read(0, out).ok();
+    let after = disk.length().ok();
+    drop(disk);
+    if before != after {
+        complain(rt, path, "it changed while it was read");
+        return None;
+    }
+    count
+}
+
+// Says what is wrong with the file.
+fn complain(rt: &HostRuntime, path: &Txt, why: &str) {
+    if let Ok(path) = str::from_utf8(path.as_bytes()) {
+        let _ = eprintln!(rt; "rtbx: {path}: {why}");
+    }
 }

@@ -1,5 +1,5 @@
-//! The outside of a program: where its doors and disks come from.
-ghost use Rattle.std.specs.Prelude.{◌≡◌, ◌<◌, ℕ, ◌∷◌, [], Err, true, length, List, Option, IfOk, MatchResult};
+//! The outside of a program: where its doors, disks and keys come from.
+ghost use Rattle.std.specs.Prelude.{◌≡◌, ◌<◌, ◌≤◌, ℕ, ◌∷◌, [], Err, true, length, List, Option, IfOk, MatchResult};
 ghost use Rattle.rtb_base.specs.Faults.{CountsErrors, RisesOnlyWhere, RoseAtMost};
 ghost use Rattle.link_door.specs.Worlds.{Asks, HandsOut};
 ghost use Rattle.link_door.specs.declared.asked.Asked.{Asked};
@@ -31,16 +31,18 @@ impl From<AllocError> for WorldFault {
     }
 }
 
-/// The outside of a program: where its doors and disks come from.
+/// The outside of a program: where its doors, disks and keys come from.
 pub trait World {
     type Door: Door + Drop + Send;
 
     type Disk: Disk + Send;
 
-    // The doors and the disks that are left, where that is known.
+    // The doors, the disks and the texts of keys that are left, where that is known.
     ghost doors_left: { Self → Option (List Self.Door) };
 
     ghost disks_left: { Self → Option (List Self.Disk) };
+
+    ghost keys_left: { Self → Option (List (List ℕ)) };
 
     // What it was asked for so far, in order.
     ghost asked: { Self → List Asked };
@@ -60,6 +62,7 @@ pub trait World {
         ensures count { IfOk result (λ doors. length doors ≡ n) }
         ensures doors { MatchResult result (HandsOut (doors_left self.old) (doors_left self.new)) (λ _. doors_left self.new ≡ doors_left self.old) }
         ensures disks { disks_left self.new ≡ disks_left self.old }
+        ensures keys { keys_left self.new ≡ keys_left self.old }
         ensures asks { Asks (asked self.old) (asked self.new) (asked_for.Doors address.now n patience) result }
         ensures cause { RisesOnlyWhere (result ≡ Err WorldFault.Failed) (faults self.old) (faults self.new) }
         ensures once { RoseAtMost 1 (faults self.old) (faults self.new) };
@@ -68,6 +71,7 @@ pub trait World {
     fn disk_to_read(&mut self, path: &Txt) -> Result<Self::Disk, Failed>
         ensures disks { MatchResult result (λ disk. HandsOut (disks_left self.old) (disks_left self.new) (disk ∷ [])) (λ _. disks_left self.new ≡ disks_left self.old) }
         ensures doors { doors_left self.new ≡ doors_left self.old }
+        ensures keys { keys_left self.new ≡ keys_left self.old }
         ensures asks { Asks (asked self.old) (asked self.new) (asked_for.DiskToRead path.now) result }
         ensures cause { CountsErrors (faults self.old) (faults self.new) result };
 
@@ -75,6 +79,7 @@ pub trait World {
     fn disk(&mut self, path: &Txt) -> Result<Self::Disk, Failed>
         ensures disks { MatchResult result (λ disk. HandsOut (disks_left self.old) (disks_left self.new) (disk ∷ [])) (λ _. disks_left self.new ≡ disks_left self.old) }
         ensures doors { doors_left self.new ≡ doors_left self.old }
+        ensures keys { keys_left self.new ≡ keys_left self.old }
         ensures asks { Asks (asked self.old) (asked self.new) (asked_for.Disk path.now) result }
         ensures cause { CountsErrors (faults self.old) (faults self.new) result };
 
@@ -83,6 +88,16 @@ pub trait World {
         ensures long { IfOk result (λ disk. (Self.Disk.store disk).told ≡ true → 0 < length (Self.Disk.store disk).reads) }
         ensures disks { MatchResult result (λ disk. HandsOut (disks_left self.old) (disks_left self.new) (disk ∷ [])) (λ _. disks_left self.new ≡ disks_left self.old) }
         ensures doors { doors_left self.new ≡ doors_left self.old }
+        ensures keys { keys_left self.new ≡ keys_left self.old }
         ensures asks { Asks (asked self.old) (asked self.new) (asked_for.DiskThere path.now) result }
+        ensures cause { CountsErrors (faults self.old) (faults self.new) result };
+
+    /// The text of the key with this name: its first 65 bytes at most, one more than a key has.
+    fn key(&mut self, path: &Txt) -> Result<Txt, Failed>
+        ensures keys { MatchResult result (λ text. HandsOut (keys_left self.old) (keys_left self.new) (text ∷ [])) (λ _. keys_left self.new ≡ keys_left self.old) }
+        ensures most { IfOk result (λ text. length text ≤ 65) }
+        ensures doors { doors_left self.new ≡ doors_left self.old }
+        ensures disks { disks_left self.new ≡ disks_left self.old }
+        ensures asks { Asks (asked self.old) (asked self.new) (asked_for.Key path.now) result }
         ensures cause { CountsErrors (faults self.old) (faults self.new) result };
 }

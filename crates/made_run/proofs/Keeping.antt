@@ -1,6 +1,7 @@
 -- An auction leaves the campaigns as they are.
 use Rattle.std.proofs.Common.{◌≡◌, ◌∙◌, ℕ, ◌+◌, Bool, true, false, ◌||◌, List, [], ◌∷◌, length, Option, Some, None, refl, ap, sym, subst}
 use Rattle.std.specs.Prelude.{IfOk, Result, Ok, Err, if◌then◌else◌, nat_lt}
+use Rattle.address_keys.specs.declared.keys.Keys.{Keys}
 use Rattle.auction_core.specs.Core.{listed}
 use Rattle.audit.specs.Accounts.{account, answer_at, passes, settings_of, state_behind, tells, tells_failure}
 use Rattle.conj_index.specs.Content.{IsIndexOf}
@@ -33,17 +34,17 @@ kept_by : (x after s : State) (b : Bool) → listed x ≡ listed s → (if b the
 kept_by x after s true kept is = ap listed (sym (some_is x after is)) ∙ kept
 kept_by x after s false kept is = cc
 
-account_keeps : (h : Header) (s after : State) (e : Entry) (r : BidRequest) → account h s e (Ok (command.Auction r)) ≡ Some after → listed after ≡ listed s
+account_keeps : (keys : Keys) (h : Header) (s after : State) (e : Entry) (r : BidRequest) → account keys h s e (Ok (command.Auction r)) ≡ Some after → listed after ≡ listed s
 unfolding state_behind
-account_keeps h s after e r is =
-    kept_by (state_behind h s e.moment (command.Auction r)) after s (tells_failure e || tells e (answer_at h s e.moment (command.Auction r)))
+account_keeps keys h s after e r is =
+    kept_by (state_behind h s e.moment (command.Auction r)) after s (tells_failure e || tells e (answer_at keys h s e.moment (command.Auction r)))
     (auction_keeps (settings_of h) e.moment r (swept e.moment s) (awards_of (settings_of h) e.moment r (swept e.moment s))) is
 
-pub all_keep : {E : Type 0} (h : Header) (s after : State) (e : Entry) (c : Command) (r : BidRequest) (found : Result Bool E) → c ≡ command.Auction r
-    → IfOk found (λ accounts. account h s e (Ok c) ≡ (if accounts then Some after else None)) → IfOk found (λ accounts. accounts ≡ true → listed after ≡ listed s)
-all_keep h s after e c r (Ok true) is leads = λ holds. account_keeps h s after e r (subst (λ (d : Command). account h s e (Ok d) ≡ Some after) is leads)
-all_keep h s after e c r (Ok false) is leads = λ holds. absurd (cc holds)
-all_keep h s after e c r (Err fault) is leads = leads
+pub all_keep : {E : Type 0} (keys : Keys) (h : Header) (s after : State) (e : Entry) (c : Command) (r : BidRequest) (found : Result Bool E) → c ≡ command.Auction r
+    → IfOk found (λ accounts. account keys h s e (Ok c) ≡ (if accounts then Some after else None)) → IfOk found (λ accounts. accounts ≡ true → listed after ≡ listed s)
+all_keep keys h s after e c r (Ok true) is leads = λ holds. account_keeps keys h s after e r (subst (λ (d : Command). account keys h s e (Ok d) ≡ Some after) is leads)
+all_keep keys h s after e c r (Ok false) is leads = λ holds. absurd (cc holds)
+all_keep keys h s after e c r (Err fault) is leads = leads
 
 -- so an index of them stays one
 pub fits_on : {E : Type 0} (index : Index) (s after : State) (found : Result Bool E) → Fits (Some index) s → IfOk found (λ accounts. accounts ≡ true → listed after ≡ listed s) → IfOk found (λ accounts. accounts ≡ true → Fits (Some index) after)

@@ -6,6 +6,8 @@ use Rattle.std.specs.Option.{option_map}
 use Rattle.std.proofs.lemmas.List.{flat_map_more, map-append}
 use Rattle.std.proofs.lemmas.List.Elements.{All-append, All-cons, All-nil}
 use Rattle.std.proofs.lemmas.List.Sums.{sum_by-append}
+use Rattle.address_keys.specs.Tokens.{no_keys}
+use Rattle.address_keys.specs.declared.keys.Keys.{Keys}
 use Rattle.audit.proofs.Judging.{accounts_more}
 use Rattle.audit.specs.Accounts.{LeadsTo, passes}
 use Rattle.http_wire.specs.declared.message.Message.{Message}
@@ -52,15 +54,16 @@ none_before n = omega arith
 status_more : (status : ℕ) (es : List Entry) (e : Entry) → with_status status (es ++ e ∷ []) ≡ with_status status es + one_if status e
 status_more status es e = sum_by-append (one_if status) es (e ∷ []) ∙ ap (λ (n : ℕ). with_status status es + n) (none_before (one_if status e))
 
-pub one_more : (old new : Gathering) (e : Entry) → IsReady old → LeadsTo old.header old.core.state e (Some new.core.state) → passes e ≡ false → new.trace ≡ option_map (λ t. t ++ entry_bytes e) old.trace → new.sold ≡ old.sold + one_if 200 e
+pub one_more : (old new : Gathering) (e : Entry) → IsReady old → LeadsTo old.keys old.header old.core.state e (Some new.core.state) → passes e ≡ false → new.trace ≡ option_map (λ t. t ++ entry_bytes e) old.trace → new.sold ≡ old.sold + one_if 200 e
     → new.no_bid ≡ old.no_bid + one_if 204 e → (posts : List (ℕ × Message)) → IsSoFar posts old → IsSoFar (posts ++ post_of e ∷ []) new
 one_more old new e ready leads answered trace sold no_bid posts far =
-    let led = subst (λ (h : Header). LeadsTo h old.core.state e (Some new.core.state)) ready.header_is leads in
+    let unsigned = subst (λ (k : Keys). LeadsTo k old.header old.core.state e (Some new.core.state)) ready.keys_are leads in
+    let led = subst (λ (h : Header). LeadsTo no_keys h old.core.state e (Some new.core.state)) ready.header_is unsigned in
     record {
       entries = far.entries ++ e ∷ [];
       run = record {
         messages = map-append post_of far.entries (e ∷ []) ∙ ap (λ (l : List (ℕ × Message)). l ++ post_of e ∷ []) far.run.messages;
-        account = accounts_more header empty old.core.state new.core.state far.entries e far.run.account led;
+        account = accounts_more no_keys header empty old.core.state new.core.state far.entries e far.run.account led;
         answered = All-append Answers far.entries (e ∷ []) far.run.answered (All-cons Answers e [] answered (All-nil Answers));
       };
       trace_is = kept_more old.trace new.trace far.entries e far.trace_is trace;

@@ -2,6 +2,7 @@
 -- without campaigns, with the answer that an exchange of one thread gives.
 use Rattle.std.specs.Prelude.{◌≡◌, ℕ, ◌+◌, ◌==◌, ◌&&◌, Bool, nat_lt, zero, suc, All, List, [], ◌∷◌, ◌++◌, map, count_by, sum_by, false, if◌then◌else◌, codes, decimal}
 use Rattle.std.specs.List.{flat_map}
+use Rattle.address_keys.specs.Tokens.{no_keys}
 use Rattle.audit.specs.Accounts.{Accounts, passes}
 use Rattle.budget_book.specs.Sales.{is_held}
 use Rattle.budget_book.specs.declared.sales.SaleRow.{SaleRow}
@@ -60,10 +61,10 @@ abbrev pub post_of : Entry → ℕ × Message
 post_of e = (e.moment, e.message)
 
 -- These entries have these messages at their moments, in their order, and account for their answers from an exchange
--- without campaigns on, and none of them tells of memory or of the store; and this is the state behind them.
+-- without campaigns and without keys on, and none of them tells of memory or of the store; and this is the state behind them.
 pub record IsRunOf (posts : List (ℕ × Message)) (entries : List Entry) (behind : State) : Type 0 where
   pub messages : map post_of entries ≡ posts
-  pub account : Accounts header empty entries behind
+  pub account : Accounts no_keys header empty entries behind
   pub answered : All (λ (e : Entry). passes e ≡ false) entries
 
 -- ---- what is made of it

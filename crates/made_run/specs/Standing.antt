@@ -1,5 +1,6 @@
 -- A run as far as it was gathered. Only private clauses cite this file.
 use Rattle.std.specs.Prelude.{◌≡◌, ℕ, IfSome, List, Option, None, Some, ⊤}
+use Rattle.address_keys.specs.Tokens.{no_keys}
 use Rattle.auction_core.specs.Core.{listed}
 use Rattle.conj_index.specs.Content.{IsIndexOf}
 use Rattle.conj_index.specs.declared.index.Index.{Index}
@@ -10,9 +11,10 @@ use Rattle.made_run.specs.declared.gathering.Gathering.{Gathering}
 use Rattle.plain_exchange.specs.State.{State}
 use Rattle.trace.specs.declared.entry.Entry.{Entry}
 
--- an exchange that holds sales for as long as the header says
+-- an exchange that holds sales for as long as the header says, where no address is signed
 pub record IsReady (g : Gathering) : Type 0 where
   pub header_is : g.header ≡ header
+  pub keys_are : g.keys ≡ no_keys
   pub settings : g.core.settings ≡ record { ttl = 300000; limit = 4194304 }
 
 -- the answers to these messages were gathered

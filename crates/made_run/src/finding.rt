@@ -9,6 +9,7 @@ ghost use Rattle.live_index.specs.Reached.{live_expressions};
 ghost use Rattle.made_run.specs.Standing.{Fits};
 ghost use Rattle.plain_exchange.specs.State.{State};
 
+use address_keys::Keys;
 use auction_core::{Command, Core};
 use audit::{account, account_found};
 use command_read::{CommandFault, Rooms, read_command_in};
@@ -63,18 +64,19 @@ pub(crate) fn accounts_for(
     core: &mut Core,
     index: Option<&Index>,
     header: &Header,
+    keys: &Keys,
     entry: &Entry,
 ) -> Result<bool, AllocError>
     requires answered { passes entry.now ≡ false }
     requires settings { core.old.settings ≡ settings_of header.now }
     requires fits { Fits (option_copied index) core.old.state }
-    ensures leads { IfOk result (λ accounts. LeadsTo header.now core.old.state entry.now (if accounts then Some core.new.state else None)) }
+    ensures leads { IfOk result (λ accounts. LeadsTo keys.now header.now core.old.state entry.now (if accounts then Some core.new.state else None)) }
     ensures settings { core.new.settings ≡ core.old.settings }
     ensures fits { IfOk result (λ accounts. accounts ≡ true → Fits (option_copied index.entry) core.new.state) }
 {
     match index {
-        Some(index) => accounts_by(alloc, room, core, index, header, entry),
-        None => accounts_by_look(alloc, core, header, entry),
+        Some(index) => accounts_by(alloc, room, core, index, header, keys, entry),
+        None => accounts_by_look(alloc, core, header, keys, entry),
     }
 }
 
@@ -84,13 +86,14 @@ fn accounts_by_look(
     alloc: Global,
     core: &mut Core,
     header: &Header,
+    keys: &Keys,
     entry: &Entry,
 ) -> Result<bool, AllocError>
     requires settings { core.old.settings ≡ settings_of header.now }
-    ensures leads { IfOk result (λ accounts. LeadsTo header.now core.old.state entry.now (if accounts then Some core.new.state else None)) }
+    ensures leads { IfOk result (λ accounts. LeadsTo keys.now header.now core.old.state entry.now (if accounts then Some core.new.state else None)) }
     ensures settings { core.new.settings ≡ core.old.settings }
 {
-    account(alloc, core, header, entry)
+    account(alloc, core, header, keys, entry)
 }
 
 // Whether the entry of a request accounts for its answer, by the index.
@@ -100,19 +103,22 @@ fn accounts_by(
     core: &mut Core,
     index: &Index,
     header: &Header,
+    keys: &Keys,
     entry: &Entry,
 ) -> Result<bool, AllocError>
     requires answered { passes entry.now ≡ false }
     requires settings { core.old.settings ≡ settings_of header.now }
     requires index { IsIndexOf (live_expressions (listed core.old.state)) index.now }
-    ensures leads { IfOk result (λ accounts. LeadsTo header.now core.old.state entry.now (if accounts then Some core.new.state else None)) }
+    ensures leads { IfOk result (λ accounts. LeadsTo keys.now header.now core.old.state entry.now (if accounts then Some core.new.state else None)) }
     ensures settings { core.new.settings ≡ core.old.settings }
     ensures listed { IfOk result (λ accounts. accounts ≡ true → listed core.new.state ≡ listed core.old.state) }
 {
-    match read_command_in(alloc, &mut room.rooms, &entry.message) {
+    match read_command_in(alloc, &mut room.rooms, keys, &entry.message) {
         Ok(command) => {
             let scratch = &mut room.scratch;
-            let accounts = accounts_command(alloc, scratch, core, index, header, entry, &command);
+            let accounts = accounts_command(
+                alloc, scratch, core, index, header, keys, entry, &command,
+            );
             drop(command);
             accounts
         }
@@ -131,13 +137,14 @@ fn accounts_command(
     core: &mut Core,
     index: &Index,
     header: &Header,
+    keys: &Keys,
     entry: &Entry,
     command: &Command,
 ) -> Result<bool, AllocError>
     requires valid { IsTrue (is_valid_command command.now) }
     requires settings { core.old.settings ≡ settings_of header.now }
     requires index { IsIndexOf (live_expressions (listed core.old.state)) index.now }
-    ensures leads { IfOk result (λ accounts. accounted header.now core.old.state entry.now (Ok command.now) ≡ (if accounts then Some core.new.state else None)) }
+    ensures leads { IfOk result (λ accounts. accounted keys.now header.now core.old.state entry.now (Ok command.now) ≡ (if accounts then Some core.new.state else None)) }
     ensures settings { core.new.settings ≡ core.old.settings }
     ensures listed { IfOk result (λ accounts. accounts ≡ true → listed core.new.state ≡ listed core.old.state) }
 {
@@ -145,7 +152,7 @@ fn accounts_command(
         return Err(AllocError);
     };
     let found = found_by::<Brand>(alloc, scratch, index, command, Blank::new(1))?;
-    let accounts = account_found(alloc, core, header, entry, command, found.as_slice());
+    let accounts = account_found(alloc, core, header, keys, entry, command, found.as_slice());
     drop(found);
     accounts
 }

@@ -17,6 +17,7 @@ use crate::finding::{Room, accounts_for, index_of};
 use crate::posting::{CAMPAIGNS, blank_request, next_campaign, next_request};
 use crate::reserving::{plus, reserved_in};
 use crate::run::{Made, PUBLIC, SALES, TTL};
+use address_keys::Keys;
 use auction_core::Core;
 use audit::passes;
 use conj_index::Index;
@@ -32,6 +33,8 @@ pub(crate) struct Gathering {
     core: Core,
     room: Room,
     header: Header,
+    // None: no address is signed.
+    keys: Keys,
     trace: Option<Txt>,
     sold: u64,
     no_bid: u64,
@@ -76,6 +79,7 @@ fn begin(alloc: Global, keeps: bool) -> Result<Gathering, AllocError>
         core: Core::new(alloc, TTL, SALES),
         room: Room::new(alloc),
         header: Header { ttl: TTL, public },
+        keys: Keys::none(),
         trace,
         sold: 0,
         no_bid: 0,
@@ -110,6 +114,7 @@ fn made_of(gathering: Gathering, reserved: Result<Nanos, AllocError>) -> Result<
         core,
         room,
         header,
+        keys,
         trace,
         sold,
         no_bid,
@@ -117,6 +122,7 @@ fn made_of(gathering: Gathering, reserved: Result<Nanos, AllocError>) -> Result<
     drop(core);
     drop(room);
     drop(header);
+    drop(keys);
     match reserved {
         Ok(reserved) => with_trace(trace, sold, no_bid, reserved),
         Err(AllocError) => {
@@ -319,6 +325,7 @@ impl Gathering {
             &mut self.core,
             index,
             &self.header,
+            &self.keys,
             entry,
         )?;
         self.sold = counted(self.sold, has_status(entry, 200))?;
@@ -347,11 +354,12 @@ fn judge(
     core: &mut Core,
     index: Option<&Index>,
     header: &Header,
+    keys: &Keys,
     entry: &Entry,
 ) -> Result<(), AllocError>
     requires settings { core.old.settings ≡ settings_of header.now }
     requires fits { Fits (option_copied index) core.old.state }
-    ensures leads { OnOk result (LeadsTo header.now core.old.state entry.now (Some core.new.state)) }
+    ensures leads { OnOk result (LeadsTo keys.now header.now core.old.state entry.now (Some core.new.state)) }
     ensures answered { OnOk result (passes entry.now ≡ false) }
     ensures settings { core.new.settings ≡ core.old.settings }
     ensures fits { OnOk result (Fits (option_copied index.entry) core.new.state) }
@@ -359,7 +367,7 @@ fn judge(
     if passes(entry) {
         return Err(AllocError);
     }
-    let accounts = accounts_for(alloc, room, core, index, header, entry)?;
+    let accounts = accounts_for(alloc, room, core, index, header, keys, entry)?;
     if !accounts {
         return Err(AllocError);
     }

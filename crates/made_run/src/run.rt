@@ -8,6 +8,7 @@ use crate::answers::Tells;
 use crate::disk::RunDisk;
 use crate::gathering::{count, gather};
 use crate::serving::Server;
+use address_keys::Keys;
 use exchange_shared::{Exchange, Seat};
 use rtb_base::Steps;
 use rtb_disk::Disk;
@@ -77,6 +78,7 @@ fn make<R: Wait>(
     ensures counted { keeps ≡ false → IfOk result (λ made. IsCounted start requests made) }
 {
     let public = Txt::from_slice(alloc, PUBLIC)?;
+    let keys = Keys::none();
     let disk = RunDisk::new(alloc);
     make_on::<RunDisk, Brand, R>(
         alloc,
@@ -85,6 +87,7 @@ fn make<R: Wait>(
         requests,
         keeps,
         &public,
+        &keys,
         disk,
         Blank::new(1),
     )
@@ -98,6 +101,7 @@ fn make_on<D: Disk + Drop, L: Ledger, R: Wait>(
     requests: u32,
     keeps: bool,
     public: &Txt,
+    keys: &Keys,
     disk: D,
     blank: Blank,
 ) -> Result<Made, AllocError>
@@ -110,7 +114,9 @@ fn make_on<D: Disk + Drop, L: Ledger, R: Wait>(
     let mut steps = Steps::<L>::new(blank);
     match Exchange::start(alloc, disk, TTL, SALES, &mut steps) {
         Ok((exchange, seat)) => {
-            let made = make_with(alloc, rt, start, requests, keeps, public, &exchange, seat);
+            let made = make_with(
+                alloc, rt, start, requests, keeps, public, keys, &exchange, seat,
+            );
             drop(exchange);
             made
         }
@@ -129,6 +135,7 @@ fn make_with<D: Disk + Drop, R: Wait>(
     requests: u32,
     keeps: bool,
     public: &Txt,
+    keys: &Keys,
     exchange: &Exchange<D>,
     seat: Seat<D>,
 ) -> Result<Made, AllocError>
@@ -137,7 +144,7 @@ fn make_with<D: Disk + Drop, R: Wait>(
     ensures made { keeps ≡ true → IfOk result (λ made. IsMade start requests made) }
     ensures counted { keeps ≡ false → IfOk result (λ made. IsCounted start requests made) }
 {
-    let mut server = Server::new(alloc, rt, exchange, seat, public, start, requests);
+    let mut server = Server::new(alloc, rt, exchange, seat, public, keys, start, requests);
     let made = made_by(alloc, start, requests, keeps, &mut server);
     drop(server);
     made

@@ -5,6 +5,7 @@ ghost use Rattle.exchange_shared.specs.Seats.{MayCall, lock_of};
 
 use crate::answers::{Tells, tell_at};
 use crate::posting::CAMPAIGNS;
+use address_keys::Keys;
 use door_worker::{DoorEnd, serve_door};
 use exchange_shared::{Exchange, Seat};
 use link_door::{Door, MemDoor, MemLink, NoPause};
@@ -21,6 +22,7 @@ use std::sync::Wait;
 pub(crate) struct Server<'e, D: Disk, R: Wait> {
     rt: &'e R,
     public: &'e Txt,
+    keys: &'e Keys,
     clerk: Clerk<'e, D>,
     // What comes on the links that were not made yet.
     links: Links,
@@ -32,13 +34,14 @@ pub(crate) struct Server<'e, D: Disk, R: Wait> {
 
 impl<'e, D: Disk, R: Wait> Server<'e, D, R> {
     /// Nothing was served yet of the run of the start, with so many requests. `public` is what the addresses of notices
-    /// begin with.
+    /// begin with, and by `keys` they are signed.
     pub(crate) fn new(
         alloc: Global,
         rt: &'e R,
         exchange: &'e Exchange<D>,
         seat: Seat<D>,
         public: &'e Txt,
+        keys: &'e Keys,
         start: u64,
         requests: u32,
     ) -> Server<'e, D, R>
@@ -48,6 +51,7 @@ impl<'e, D: Disk, R: Wait> Server<'e, D, R> {
         Server {
             rt,
             public,
+            keys,
             clerk: Clerk {
                 exchange,
                 seat: Some(seat),
@@ -69,7 +73,9 @@ impl<'e, D: Disk, R: Wait> Server<'e, D, R> {
     // Serves the link of the door, and lets the one before go.
     fn serve(&mut self, alloc: Global, door: MemDoor) -> Result<(), AllocError> {
         let mut door = door;
-        let end = self.clerk.serve(alloc, self.rt, self.public, &mut door);
+        let end = self
+            .clerk
+            .serve(alloc, self.rt, self.public, self.keys, &mut door);
         drop(mem::replace(&mut self.door, Some(door)));
         self.place = 0;
         match end {
@@ -117,12 +123,13 @@ impl<'e, D: Disk> Clerk<'e, D> {
         alloc: Global,
         rt: &R,
         public: &Txt,
+        keys: &Keys,
         door: &mut MemDoor,
     ) -> DoorEnd {
         let Some(seat) = self.seat.take() else {
             return DoorEnd::Failed;
         };
-        let (seat, end) = serve_with(self.exchange, rt, alloc, public, seat, door);
+        let (seat, end) = serve_with(self.exchange, rt, alloc, public, keys, seat, door);
         match mem::replace(&mut self.seat, Some(seat)) {
             None => end,
             Some(_) => unreachable!(),
@@ -136,6 +143,7 @@ fn serve_with<D: Disk, R: Wait>(
     rt: &R,
     alloc: Global,
     public: &Txt,
+    keys: &Keys,
     seat: Seat<D>,
     door: &mut MemDoor,
 ) -> (Seat<D>, DoorEnd)
@@ -144,7 +152,7 @@ fn serve_with<D: Disk, R: Wait>(
     ensures seat { MayCall (lock_of exchange.now) result.0 }
     ensures first { result.0.worker ≡ 0 }
 {
-    serve_door(exchange, rt, alloc, 0, &NoPause, public, seat, door)
+    serve_door(exchange, rt, alloc, 0, &NoPause, public, keys, seat, door)
 }
 
 // What was sent on the one link of the door.

@@ -5,6 +5,7 @@ ghost use Rattle.exchange_shared.specs.Seats.{MayCall, lock_of};
 ghost use Rattle.hist_lock.specs.Views.{first_seat};
 
 use crate::{next_bytes, put_number};
+use address_keys::Keys;
 use case_lines::{kept, paired};
 use exchange_shared::{Exchange, Seat};
 use link_door::{MemDoor, MemLink, NoPause};
@@ -49,6 +50,7 @@ pub fn serve<R: Threads + Wait + Sync>(
     line: &mut Txt,
 ) -> Result<(), AllocError> {
     let public = Txt::from_slice(rt.alloc(), b"http://ads.example")?;
+    let keys = Keys::none();
     let disk = disk_of(rt, path)?;
     let mut doors = List::new(rt.alloc());
     let filled = put_doors(rt, each, times, workers, &mut doors);
@@ -57,6 +59,7 @@ pub fn serve<R: Threads + Wait + Sync>(
         threads,
         rt.alloc(),
         &public,
+        &keys,
         disk,
         doors,
         Blank::new(1),
@@ -137,6 +140,7 @@ fn serve_disk<'a, R: Threads + Wait + Sync, L: Ledger>(
     threads: &R,
     alloc: Global,
     public: &Txt,
+    keys: &Keys,
     disk: FileDisk<'a>,
     doors: List<MemDoor>,
     blank: Blank,
@@ -148,7 +152,9 @@ fn serve_disk<'a, R: Threads + Wait + Sync, L: Ledger>(
 {
     let mut steps = Steps::<L>::new(blank);
     match Exchange::start(alloc, disk, TTL, SALES, &mut steps) {
-        Ok((exchange, seat)) => serve_all(threads, alloc, public, exchange, seat, doors, line),
+        Ok((exchange, seat)) => serve_all(
+            threads, alloc, public, keys, exchange, seat, doors, line,
+        ),
         Err(refused) => {
             drop(refused);
             drop(doors);
@@ -161,6 +167,7 @@ fn serve_all<'a, R: Threads + Wait + Sync>(
     threads: &R,
     alloc: Global,
     public: &Txt,
+    keys: &Keys,
     exchange: Exchange<FileDisk<'a>>,
     seat: Seat<FileDisk<'a>>,
     doors: List<MemDoor>,
@@ -175,7 +182,9 @@ fn serve_all<'a, R: Threads + Wait + Sync>(
         drop(doors);
         return Err(AllocError);
     }
-    let pool = serve_doors(exchange, threads, alloc, &NoPause, public, seat, doors);
+    let pool = serve_doors(
+        exchange, threads, alloc, &NoPause, public, keys, seat, doors,
+    );
     let told = put_answers(pool.doors.as_slice(), line);
     drop(pool);
     told

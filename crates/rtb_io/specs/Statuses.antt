@@ -1,7 +1,7 @@
 -- The numbers with which a program ends.
 use Rattle.std.specs.Prelude.{ℕ}
 use Rattle.rtb_io.specs.declared.status.Status.{Status}
-use Rattle.rtb_io.specs.declared.status.Status.TheVariants.{Done, Refused, Usage, NoDoor, NoDisk, JournalFailed, Damaged, NotWritten, DoorFailed, Memory, NotRead, LastWriteFailed, NotEmpty, WriteFailed, TraceTorn, TraceTooLong}
+use Rattle.rtb_io.specs.declared.status.Status.TheVariants.{Done, Refused, Usage, NoDoor, NoDisk, JournalFailed, Damaged, NotWritten, DoorFailed, Memory, NotRead, LastWriteFailed, NotEmpty, WriteFailed, TraceTorn, TraceTooLong, NoKey}
 
 abbrev pub code_of : Status → ℕ
 code_of Done = 0
@@ -20,3 +20,4 @@ code_of NotEmpty = 12
 code_of WriteFailed = 13
 code_of TraceTorn = 14
 code_of TraceTooLong = 15
+code_of NoKey = 16

@@ -37,6 +37,8 @@ pub enum Status {
     TraceTorn,
     /// A trace has more entries than may be.
     TraceTooLong,
+    /// A file that is to have a key was not read, or has none.
+    NoKey,
 }
 
 impl Status {
@@ -61,6 +63,7 @@ impl Status {
             Status::WriteFailed => 13,
             Status::TraceTorn => 14,
             Status::TraceTooLong => 15,
+            Status::NoKey => 16,
         }
     }
 }

@@ -5,6 +5,7 @@ use Rattle.std.specs.Str.{bytes_eq}
 use Rattle.std.proofs.lemmas.List.{map-append}
 use Rattle.std.proofs.lemmas.List.Elements.{filter-append}
 use Rattle.std.proofs.lemmas.Slice.Eq.{bytes_eq-Decides}
+use Rattle.address_keys.specs.declared.keys.Keys.{Keys}
 use Rattle.plain_exchange.specs.declared.commands.Sold.{Sold}
 use Rattle.rtb_response.specs.Response.{bid_text, is_of_seat, seat_bids, seat_of, seats_of}
 use Rattle.rtb_types.specs.declared.request.BidRequest.{BidRequest}
@@ -13,12 +14,12 @@ chosen : {A B : Type 0} (f : A → B) (b : Bool) (x : A) → map f (cond b (x �
 chosen f true x = refl
 chosen f false x = refl
 
-pub bids_push : (public : Option (List ℕ)) (r : BidRequest) (sold : List Sold) (s : Sold) (seat : List ℕ)
-    → seat_bids public r (sold ++ s ∷ []) seat ≡ seat_bids public r sold seat ++ cond (is_of_seat seat s) (bid_text public r s ∷ []) []
-bids_push public r sold s seat =
-    ap (map (bid_text public r)) (filter-append (is_of_seat seat) sold (s ∷ []))
-    ∙ map-append (bid_text public r) (filter (is_of_seat seat) sold) (cond (is_of_seat seat s) (s ∷ []) [])
-    ∙ ap (λ l. seat_bids public r sold seat ++ l) (chosen (bid_text public r) (is_of_seat seat s) s)
+pub bids_push : (public : Option (List ℕ)) (keys : Keys) (r : BidRequest) (sold : List Sold) (s : Sold) (seat : List ℕ)
+    → seat_bids public keys r (sold ++ s ∷ []) seat ≡ seat_bids public keys r sold seat ++ cond (is_of_seat seat s) (bid_text public keys r s ∷ []) []
+bids_push public keys r sold s seat =
+    ap (map (bid_text public keys r)) (filter-append (is_of_seat seat) sold (s ∷ []))
+    ∙ map-append (bid_text public keys r) (filter (is_of_seat seat) sold) (cond (is_of_seat seat s) (s ∷ []) [])
+    ∙ ap (λ l. seat_bids public keys r sold seat ++ l) (chosen (bid_text public keys r) (is_of_seat seat s) s)
 
 bytes_swapped : (a b : List ℕ) → bytes_eq a b ≡ bytes_eq b a
 bytes_swapped a b = by (bytes_eq a b) (bytes_eq b a) (λ h. (bytes_eq-Decides b a).1 (sym ((bytes_eq-Decides a b).0 h))) (λ h. (bytes_eq-Decides a b).1 (sym ((bytes_eq-Decides b a).0 h)))

@@ -1,6 +1,8 @@
 -- The answer to each reply: its status (RFC 9110, section 15), and its body.
-use Rattle.std.specs.Prelude.{ℕ, Bool, List, [], ◌∷◌, Option, codes, decimal, if◌then◌else◌}
+use Rattle.std.specs.Prelude.{ℕ, Bool, List, [], ◌∷◌, ◌++◌, Option, codes, decimal, if◌then◌else◌}
 use Rattle.std.specs.Option.{option_map_or}
+use Rattle.address_keys.specs.Tokens.{token}
+use Rattle.address_keys.specs.declared.keys.Keys.{Keys}
 use Rattle.budget_book.specs.declared.sales.Totals.{Totals}
 use Rattle.campaign_store.specs.declared.limit.Limit.{Limit}
 use Rattle.campaign_store.specs.declared.limit.Limit.TheVariants as limit
@@ -29,6 +31,10 @@ number_member name n = (name, decimal n)
 -- a campaign by its number
 abbrev pub campaign_answer : ℕ → ℕ → Answer
 campaign_answer status n = object_answer status (number_member (codes "campaign") n ∷ [])
+
+-- a campaign that was added, by its number, and the token that opens its paths where addresses are signed
+abbrev pub added_answer : Keys → ℕ → Answer
+added_answer keys n = object_answer 201 (number_member (codes "campaign") n ∷ option_map_or (λ key. text_member (codes "token") (token key (codes "/campaign/" ++ decimal n)) ∷ []) keys.key [])
 
 -- a sale by its number, and what has become of it
 abbrev pub sale_answer : ℕ → List ℕ → Answer
@@ -72,23 +78,23 @@ limit_word limit.Values = codes "values"
 limit_word limit.TextBytes = codes "text-bytes"
 
 -- what is answered to a reply, of which one that sold is to this request; `public` is what the addresses of
--- notices begin with
-abbrev pub answer_of : Option BidRequest → Option (List ℕ) → Reply → Answer
-answer_of request public reply.NoBid = no_content
-answer_of request public (reply.Sold sold) = answer 200 (option_map_or (λ r. response_text public r sold) request [])
-answer_of request public (reply.Added n) = campaign_answer 201 n
-answer_of request public (reply.Changed n) = campaign_answer 200 n
-answer_of request public (reply.Paused n) = campaign_answer 200 n
-answer_of request public (reply.Resumed n) = campaign_answer 200 n
-answer_of request public (reply.Reported n live bid budget totals) = object_answer 200 (report_members n live bid budget totals)
-answer_of request public (reply.Billed sale) = sale_answer sale (codes "billed")
-answer_of request public (reply.Lost sale) = sale_answer sale (codes "lost")
-answer_of request public (reply.Trimmed sales forgotten) = trimmed_answer sales forgotten
-answer_of request public reply.NoSuchCampaign = error_answer 404 (codes "no-such-campaign") []
-answer_of request public reply.NoSuchSale = error_answer 404 (codes "no-such-sale") []
-answer_of request public reply.WasLost = error_answer 409 (codes "was-lost") []
-answer_of request public reply.WasBilled = error_answer 409 (codes "was-billed") []
-answer_of request public reply.WasExpired = error_answer 410 (codes "was-expired") []
-answer_of request public reply.Forgotten = error_answer 410 (codes "forgotten") []
-answer_of request public (reply.BelowCommitted committed) = error_answer 409 (codes "below-committed") ((codes "committed", nanos_text committed) ∷ [])
-answer_of request public (reply.Full limit) = error_answer 503 (codes "full") (text_member (codes "limit") (limit_word limit) ∷ [])
+-- notices begin with, and by the keys they are signed
+abbrev pub answer_of : Option BidRequest → Option (List ℕ) → Keys → Reply → Answer
+answer_of request public keys reply.NoBid = no_content
+answer_of request public keys (reply.Sold sold) = answer 200 (option_map_or (λ r. response_text public keys r sold) request [])
+answer_of request public keys (reply.Added n) = added_answer keys n
+answer_of request public keys (reply.Changed n) = campaign_answer 200 n
+answer_of request public keys (reply.Paused n) = campaign_answer 200 n
+answer_of request public keys (reply.Resumed n) = campaign_answer 200 n
+answer_of request public keys (reply.Reported n live bid budget totals) = object_answer 200 (report_members n live bid budget totals)
+answer_of request public keys (reply.Billed sale) = sale_answer sale (codes "billed")
+answer_of request public keys (reply.Lost sale) = sale_answer sale (codes "lost")
+answer_of request public keys (reply.Trimmed sales forgotten) = trimmed_answer sales forgotten
+answer_of request public keys reply.NoSuchCampaign = error_answer 404 (codes "no-such-campaign") []
+answer_of request public keys reply.NoSuchSale = error_answer 404 (codes "no-such-sale") []
+answer_of request public keys reply.WasLost = error_answer 409 (codes "was-lost") []
+answer_of request public keys reply.WasBilled = error_answer 409 (codes "was-billed") []
+answer_of request public keys reply.WasExpired = error_answer 410 (codes "was-expired") []
+answer_of request public keys reply.Forgotten = error_answer 410 (codes "forgotten") []
+answer_of request public keys (reply.BelowCommitted committed) = error_answer 409 (codes "below-committed") ((codes "committed", nanos_text committed) ∷ [])
+answer_of request public keys (reply.Full limit) = error_answer 503 (codes "full") (text_member (codes "limit") (limit_word limit) ∷ [])

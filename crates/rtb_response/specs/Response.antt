@@ -3,6 +3,8 @@ use Rattle.std.specs.Prelude.{ℕ, ℤ, not, Bool, List, [], ◌∷◌, ◌++◌
 use Rattle.std.specs.Fmt.{signed_decimal}
 use Rattle.std.specs.Option.{option_map_or, option_to_list}
 use Rattle.std.specs.Str.{bytes_eq}
+use Rattle.address_keys.specs.Tokens.{token}
+use Rattle.address_keys.specs.declared.keys.Keys.{Keys}
 use Rattle.campaign.specs.declared.parts.FactParts.{FactParts}
 use Rattle.campaign.specs.Kept.{size_of}
 use Rattle.json_out.specs.Strings.{string_text}
@@ -56,9 +58,13 @@ sale_members r s =
     ∷ (codes "price", micros_text s.price)
     ∷ []
 
+-- a path, with its token behind it where addresses are signed
+abbrev pub signed : Keys → List ℕ → List ℕ
+signed keys path = path ++ option_map_or (λ key. 47 ∷ token key path) keys.key []
+
 -- the addresses at which the sale is billed and lost, where it is known with what they begin
-abbrev pub notice_members : Option (List ℕ) → ℕ → List Member
-notice_members public n = option_map_or (λ p. text_member (codes "burl") (p ++ codes "/bill/" ++ decimal n) ∷ text_member (codes "lurl") (p ++ codes "/lose/" ++ decimal n) ∷ []) public []
+abbrev pub notice_members : Option (List ℕ) → Keys → ℕ → List Member
+notice_members public keys n = option_map_or (λ p. text_member (codes "burl") (p ++ signed keys (codes "/bill/" ++ decimal n)) ∷ text_member (codes "lurl") (p ++ signed keys (codes "/lose/" ++ decimal n)) ∷ []) public []
 
 -- what is shown, and of whom
 abbrev pub ad_members : BidRequest → Sold → List Member
@@ -79,14 +85,14 @@ further_members f deal =
     ++ (optional_array (codes "attr") (map signed_decimal f.attr)
     ++ (optional_text (codes "dealid") deal ++ option_map_or sides_members (size_of f) []))
 
-abbrev pub bid_members : Option (List ℕ) → BidRequest → Sold → List Member
-bid_members public r s =
+abbrev pub bid_members : Option (List ℕ) → Keys → BidRequest → Sold → List Member
+bid_members public keys r s =
     sale_members r s
     ++ (optional_text (codes "adid") s.record.facts.adid
-    ++ (notice_members public s.sale ++ (ad_members r s ++ further_members s.record.facts s.deal)))
+    ++ (notice_members public keys s.sale ++ (ad_members r s ++ further_members s.record.facts s.deal)))
 
-abbrev pub bid_text : Option (List ℕ) → BidRequest → Sold → List ℕ
-bid_text public r s = object_text (bid_members public r s)
+abbrev pub bid_text : Option (List ℕ) → Keys → BidRequest → Sold → List ℕ
+bid_text public keys r s = object_text (bid_members public keys r s)
 
 -- ---- seats (section 4.2.2)
 
@@ -99,17 +105,17 @@ seats_of [] = []
 seats_of (s ∷ sold) = seat_of s ∷ filter (λ seat. not (bytes_eq seat (seat_of s))) (seats_of sold)
 
 -- the bids of a seat, in the order of the impressions
-abbrev pub seat_bids : Option (List ℕ) → BidRequest → List Sold → List ℕ → List (List ℕ)
-seat_bids public r sold seat = map (bid_text public r) (filter (is_of_seat seat) sold)
+abbrev pub seat_bids : Option (List ℕ) → Keys → BidRequest → List Sold → List ℕ → List (List ℕ)
+seat_bids public keys r sold seat = map (bid_text public keys r) (filter (is_of_seat seat) sold)
 
-abbrev pub seat_text : Option (List ℕ) → BidRequest → List Sold → List ℕ → List ℕ
-seat_text public r sold seat = object_text ((codes "bid", array_text (seat_bids public r sold seat)) ∷ text_member (codes "seat") seat ∷ [])
+abbrev pub seat_text : Option (List ℕ) → Keys → BidRequest → List Sold → List ℕ → List ℕ
+seat_text public keys r sold seat = object_text ((codes "bid", array_text (seat_bids public keys r sold seat)) ∷ text_member (codes "seat") seat ∷ [])
 
 -- ---- the response (section 4.2.1)
 
 -- one object a seat
-abbrev pub response_text : Option (List ℕ) → BidRequest → List Sold → List ℕ
-response_text public r sold = object_text (text_member (codes "id") r.id
-    ∷ (codes "seatbid", array_text (map (seat_text public r sold) (seats_of sold)))
+abbrev pub response_text : Option (List ℕ) → Keys → BidRequest → List Sold → List ℕ
+response_text public keys r sold = object_text (text_member (codes "id") r.id
+    ∷ (codes "seatbid", array_text (map (seat_text public keys r sold) (seats_of sold)))
     ∷ text_member (codes "cur") (codes "USD")
     ∷ [])

@@ -8,8 +8,9 @@ ghost use Rattle.json_out.specs.Strings.{string_text};
 ghost use Rattle.json_out.specs.Writer.{put_value, takes_name, takes_value};
 ghost use Rattle.rtb_macros.specs.Macros.{filled_in};
 ghost use Rattle.rtb_num.specs.Amounts.{micros_text};
-ghost use Rattle.rtb_response.specs.Response.{ad_members, bid_text, further_members, imp_id, macro_values as values_of, notice_members, optional_array, optional_text, sale_members, seat_of, sides_members, text_member};
+ghost use Rattle.rtb_response.specs.Response.{ad_members, bid_text, further_members, imp_id, macro_values as values_of, notice_members, optional_array, optional_text, sale_members, seat_of, sides_members, signed, text_member};
 
+use address_keys::Keys;
 use campaign::Facts;
 use json_out::Writer;
 use plain_exchange::Sold;
@@ -25,15 +26,16 @@ pub(crate) fn put_bid(
     request: &BidRequest,
     sale: &Sold,
     public: Option<&Txt>,
+    keys: &Keys,
 ) -> Result<(), AllocError>
     requires { IsTrue (takes_value writer.old) }
-    ensures { OnOk result (writer.new ≡ put_value writer.old (bid_text (option_copied public.entry) request.now sale.now)) }
+    ensures { OnOk result (writer.new ≡ put_value writer.old (bid_text (option_copied public.entry) keys.now request.now sale.now)) }
 {
     let facts = &sale.record.record().facts;
     writer.obj()?;
     put_sale(writer, request, sale)?;
     put_text_if_some(writer, b"adid", facts.adid())?;
-    put_notices(writer, sale.sale, public)?;
+    put_notices(alloc, writer, sale.sale, public, keys)?;
     put_ad(alloc, writer, request, sale)?;
     put_further(writer, facts, sale.deal.as_ref())?;
     writer.end()?;
@@ -75,25 +77,94 @@ fn put_text_if_some(writer: &mut Writer, name: &[u8], text: Option<&Txt>) -> Res
 }
 
 // Writes the addresses of the notices, where it is known with what they begin.
-fn put_notices(writer: &mut Writer, sale: u64, public: Option<&Txt>) -> Result<(), AllocError>
+fn put_notices(
+    alloc: Global,
+    writer: &mut Writer,
+    sale: u64,
+    public: Option<&Txt>,
+    keys: &Keys,
+) -> Result<(), AllocError>
     requires { IsTrue (takes_name writer.old) }
-    ensures ok { OnOk result (writer.new ≡ put_members writer.old (notice_members (option_copied public.entry) sale)) }
+    ensures ok { OnOk result (writer.new ≡ put_members writer.old (notice_members (option_copied public.entry) keys.now sale)) }
     ensures next { OnOk result (IsTrue (takes_name writer.new)) }
 {
     match public {
-        Some(public) => put_addresses(writer, sale, public.as_bytes()),
+        Some(public) => put_addresses(alloc, writer, sale, public.as_bytes(), keys),
         None => Ok(()),
     }
 }
 
-fn put_addresses(writer: &mut Writer, sale: u64, public: &[u8]) -> Result<(), AllocError>
+fn put_addresses(
+    alloc: Global,
+    writer: &mut Writer,
+    sale: u64,
+    public: &[u8],
+    keys: &Keys,
+) -> Result<(), AllocError>
     requires { IsTrue (takes_name writer.old) }
-    ensures ok { OnOk result (writer.new ≡ put_members writer.old ((codes "burl", string_text (public.now ++ codes "/bill/" ++ decimal sale)) ∷ (codes "lurl", string_text (public.now ++ codes "/lose/" ++ decimal sale)) ∷ [])) }
+    ensures ok { OnOk result (writer.new ≡ put_members writer.old (text_member (codes "burl") (public.now ++ signed keys.now (codes "/bill/" ++ decimal sale)) ∷ text_member (codes "lurl") (public.now ++ signed keys.now (codes "/lose/" ++ decimal sale)) ∷ [])) }
     ensures next { OnOk result (IsTrue (takes_name writer.new)) }
 {
-    writer.put_numbered(b"burl", public, b"/bill/", sale)?;
-    writer.put_numbered(b"lurl", public, b"/lose/", sale)?;
+    put_address(alloc, writer, b"burl", public, b"/bill/", sale, keys)?;
+    put_address(alloc, writer, b"lurl", public, b"/lose/", sale, keys)?;
     Ok(())
+}
+
+// Writes the address whose path ends in the number, and in the path's token where addresses are signed.
+fn put_address(
+    alloc: Global,
+    writer: &mut Writer,
+    name: &[u8],
+    public: &[u8],
+    path: &[u8],
+    n: u64,
+    keys: &Keys,
+) -> Result<(), AllocError>
+    requires { IsTrue (takes_name writer.old) }
+    ensures ok { OnOk result (writer.new ≡ put_member writer.old (text_member name.now (public.now ++ signed keys.now (path.now ++ decimal n)))) }
+    ensures next { OnOk result (IsTrue (takes_name writer.new)) }
+{
+    match keys.token(path, n) {
+        Some(token) => put_signed(alloc, writer, name, public, path, n, &token),
+        None => writer.put_numbered(name, public, path, n),
+    }
+}
+
+fn put_signed(
+    alloc: Global,
+    writer: &mut Writer,
+    name: &[u8],
+    public: &[u8],
+    path: &[u8],
+    n: u64,
+    token: &[u8],
+) -> Result<(), AllocError>
+    requires { IsTrue (takes_name writer.old) }
+    ensures ok { OnOk result (writer.new ≡ put_member writer.old (text_member name.now (public.now ++ ((path.now ++ decimal n) ++ 47 ∷ token.now)))) }
+    ensures next { OnOk result (IsTrue (takes_name writer.new)) }
+{
+    let address = signed_address(alloc, public, path, n, token)?;
+    let done = writer.put_text(name, address.as_bytes());
+    drop(address);
+    done
+}
+
+fn signed_address(
+    alloc: Global,
+    public: &[u8],
+    path: &[u8],
+    n: u64,
+    token: &[u8],
+) -> Result<Txt, AllocError>
+    ensures { IfOk result (λ t. t ≡ public.now ++ ((path.now ++ decimal n) ++ 47 ∷ token.now)) }
+{
+    let mut text = Txt::new(alloc);
+    text.extend(public)?;
+    text.extend(path)?;
+    write_decimal(n, &mut text)?;
+    text.push(b'/')?;
+    text.extend(token)?;
+    Ok(text)
 }
 
 // Writes what is shown, and of whom.

@@ -5,10 +5,11 @@ ghost use Rattle.http_wire.specs.Answers.{IsWritable};
 ghost use Rattle.json_out.specs.Inside.{in_object, put_members};
 ghost use Rattle.json_out.specs.Writer.{blank, can_end, end, is_whole, takes_name};
 ghost use Rattle.rtb_num.specs.Amounts.{nanos_text};
-ghost use Rattle.rtb_response.specs.Replies.{answer as answer_with, answer_of, campaign_answer, error_answer, limit_word, object_answer, report_members, sale_answer, state_of, totals_members, trimmed_answer};
+ghost use Rattle.rtb_response.specs.Replies.{added_answer, answer as answer_with, answer_of, campaign_answer, error_answer, limit_word, number_member, object_answer, report_members, sale_answer, state_of, totals_members, trimmed_answer};
 ghost use Rattle.rtb_response.specs.Response.{response_text, text_member};
 
 use crate::response::write_response;
+use address_keys::Keys;
 use budget_book::Totals;
 use campaign_store::Limit;
 use http_wire::{Allow, Answer};
@@ -19,21 +20,22 @@ use rtb_types::BidRequest;
 use std::alloc::{AllocError, Global};
 
 /// The answer to the reply. A reply that sold is one to the request; to any other reply the request plays no
-/// part. `public` is as for `write_response`.
+/// part. `public` and `keys` are as for `write_response`.
 #[tactic(auto, using(crate::proofs::Writable::answers_are_writable))]
 pub fn write_reply(
     alloc: Global,
     request: Option<&BidRequest>,
     reply: &Reply,
     public: Option<&Txt>,
+    keys: &Keys,
 ) -> Result<Answer, AllocError>
-    ensures value { IfOk result (λ a. a ≡ answer_of (option_copied request.entry) (option_copied public.entry) reply.now) }
+    ensures value { IfOk result (λ a. a ≡ answer_of (option_copied request.entry) (option_copied public.entry) keys.now reply.now) }
     ensures writable { IfOk result (λ a. IsWritable a) }
 {
     match reply {
         Reply::NoBid => Ok(answer(204, Txt::new(alloc))),
-        Reply::Sold(sold) => sold_reply(alloc, request, sold, public),
-        Reply::Added { n } => campaign_reply(alloc, 201, *n),
+        Reply::Sold(sold) => sold_reply(alloc, request, sold, public, keys),
+        Reply::Added { n } => added_reply(alloc, *n, keys),
         Reply::Changed { n } => campaign_reply(alloc, 200, *n),
         Reply::Paused { n } => campaign_reply(alloc, 200, *n),
         Reply::Resumed { n } => campaign_reply(alloc, 200, *n),
@@ -73,12 +75,13 @@ fn sold_reply(
     request: Option<&BidRequest>,
     sold: &List<Sold>,
     public: Option<&Txt>,
+    keys: &Keys,
 ) -> Result<Answer, AllocError>
-    ensures { IfOk result (λ a. a ≡ answer_with 200 (option_map_or (λ r. response_text (option_copied public.entry) r sold.now) (option_copied request.entry) [])) }
+    ensures { IfOk result (λ a. a ≡ answer_with 200 (option_map_or (λ r. response_text (option_copied public.entry) keys.now r sold.now) (option_copied request.entry) [])) }
 {
     match request {
         Some(request) => {
-            let body = write_response(alloc, request, sold, public)?;
+            let body = write_response(alloc, request, sold, public, keys)?;
             Ok(answer(200, body))
         }
         None => Ok(answer(200, Txt::new(alloc))),
@@ -114,8 +117,38 @@ fn campaign_reply(alloc: Global, status: u16, n: u32) -> Result<Answer, AllocErr
     Ok(answer)
 }
 
+// A campaign that was added, by its number, and the token that opens its paths where addresses are signed.
+fn added_reply(alloc: Global, n: u32, keys: &Keys) -> Result<Answer, AllocError>
+    ensures { IfOk result (λ a. a ≡ added_answer keys.now n) }
+{
+    match keys.token(b"/campaign/", u64::from(n)) {
+        Some(token) => opened_reply(alloc, n, &token),
+        None => campaign_reply(alloc, 201, n),
+    }
+}
+
 // Mostly enough bytes for an answer of two or three members.
 const FEW: usize = 128;
+
+fn opened_reply(alloc: Global, n: u32, token: &[u8]) -> Result<Answer, AllocError>
+    ensures { IfOk result (λ a. a ≡ object_answer 201 (number_member (codes "campaign") n ∷ text_member (codes "token") token.now ∷ [])) }
+{
+    let mut writer = Writer::with_room(alloc, FEW);
+    let done = put_opened(&mut writer, n, token);
+    closed(201, writer, done)
+}
+
+fn put_opened(writer: &mut Writer, n: u32, token: &[u8]) -> Result<(), AllocError>
+    requires { writer.old ≡ blank }
+    ensures ends { OnOk result (IsTrue (can_end writer.new)) }
+    ensures whole { OnOk result (IsTrue (is_whole (end writer.new))) }
+    ensures value { OnOk result (answer_with 201 (end writer.new).text ≡ object_answer 201 (number_member (codes "campaign") n ∷ text_member (codes "token") token.now ∷ [])) }
+{
+    writer.obj()?;
+    writer.put_number(b"campaign", u64::from(n))?;
+    writer.put_text(b"token", token)?;
+    Ok(())
+}
 
 fn sale_reply(alloc: Global, sale: u64, state: &[u8]) -> Result<Answer, AllocError>
     ensures { IfOk result (λ a. a ≡ sale_answer sale state.now) }

@@ -7,6 +7,7 @@ ghost use Rattle.json_out.specs.Writer.{blank, is_whole, put_value, takes_value}
 ghost use Rattle.rtb_response.specs.Response.{bid_text, is_of_seat, response_text, seat_bids, seat_of as seat_of_sale, seat_text, seats_of};
 
 use crate::bid::put_bid;
+use address_keys::Keys;
 use json_out::Writer;
 use plain_exchange::Sold;
 use rtb_num::{List, Txt};
@@ -17,17 +18,18 @@ use std::alloc::{AllocError, Global};
 /// first, and in it the seat's bids in the order of the impressions.
 ///
 /// `public` is what the addresses of notices begin with, as `http://ads.example`; without it bids have no
-/// `burl` and `lurl`. Each seat takes one pass over the sales.
+/// `burl` and `lurl`. By `keys` these are signed. Each seat takes one pass over the sales.
 pub fn write_response(
     alloc: Global,
     request: &BidRequest,
     sold: &List<Sold>,
     public: Option<&Txt>,
+    keys: &Keys,
 ) -> Result<Txt, AllocError>
-    ensures { IfOk result (λ t. t ≡ response_text (option_copied public.entry) request.now sold.now) }
+    ensures { IfOk result (λ t. t ≡ response_text (option_copied public.entry) keys.now request.now sold.now) }
 {
     let mut writer = Writer::with_room(alloc, room_for(sold.len()));
-    let done = put_response(alloc, &mut writer, request, sold.as_slice(), public);
+    let done = put_response(alloc, &mut writer, request, sold.as_slice(), public, keys);
     finished(writer, done)
 }
 
@@ -49,15 +51,16 @@ fn put_response(
     request: &BidRequest,
     sold: &[Sold],
     public: Option<&Txt>,
+    keys: &Keys,
 ) -> Result<(), AllocError>
     requires { writer.old ≡ blank }
     ensures whole { OnOk result (IsTrue (is_whole writer.new)) }
-    ensures text { OnOk result (writer.new.text ≡ response_text (option_copied public.entry) request.now sold.now) }
+    ensures text { OnOk result (writer.new.text ≡ response_text (option_copied public.entry) keys.now request.now sold.now) }
 {
     writer.obj()?;
     writer.put_text(b"id", request.id.as_bytes())?;
     writer.name(b"seatbid")?;
-    put_seats(alloc, writer, request, sold, public)?;
+    put_seats(alloc, writer, request, sold, public, keys)?;
     writer.put_text(b"cur", b"USD")?;
     writer.end()?;
     Ok(())
@@ -79,13 +82,23 @@ fn put_seats(
     request: &BidRequest,
     sold: &[Sold],
     public: Option<&Txt>,
+    keys: &Keys,
 ) -> Result<(), AllocError>
     requires { IsTrue (takes_value writer.old) }
-    ensures { OnOk result (writer.new ≡ put_value writer.old (array_text (map (seat_text (option_copied public.entry) request.now sold.now) (seats_of sold.now)))) }
+    ensures { OnOk result (writer.new ≡ put_value writer.old (array_text (map (seat_text (option_copied public.entry) keys.now request.now sold.now) (seats_of sold.now)))) }
 {
     writer.arr()?;
     for (place, sale) in sold.iter().enumerate() {
-        put_new_seat(alloc, writer, request, sold, public, &sold[..place], sale)?;
+        put_new_seat(
+            alloc,
+            writer,
+            request,
+            sold,
+            public,
+            keys,
+            &sold[..place],
+            sale,
+        )?;
     }
     writer.end()?;
     Ok(())
@@ -98,17 +111,18 @@ fn put_new_seat(
     request: &BidRequest,
     sold: &[Sold],
     public: Option<&Txt>,
+    keys: &Keys,
     before: &[Sold],
     sale: &Sold,
 ) -> Result<(), AllocError>
     requires { IsTrue (takes_value writer.old) }
-    ensures { OnOk result (writer.new ≡ cond (list_any (is_of_seat (seat_of_sale sale.now)) before.now) writer.old (put_value writer.old (seat_text (option_copied public.entry) request.now sold.now (seat_of_sale sale.now)))) }
+    ensures { OnOk result (writer.new ≡ cond (list_any (is_of_seat (seat_of_sale sale.now)) before.now) writer.old (put_value writer.old (seat_text (option_copied public.entry) keys.now request.now sold.now (seat_of_sale sale.now)))) }
 {
     let seat = seat_of(sale);
     if has_seat(before, seat) {
         return Ok(());
     }
-    put_seat(alloc, writer, request, sold, public, seat)?;
+    put_seat(alloc, writer, request, sold, public, keys, seat)?;
     Ok(())
 }
 
@@ -138,14 +152,15 @@ fn put_seat(
     request: &BidRequest,
     sold: &[Sold],
     public: Option<&Txt>,
+    keys: &Keys,
     seat: &[u8],
 ) -> Result<(), AllocError>
     requires { IsTrue (takes_value writer.old) }
-    ensures { OnOk result (writer.new ≡ put_value writer.old (seat_text (option_copied public.entry) request.now sold.now seat.now)) }
+    ensures { OnOk result (writer.new ≡ put_value writer.old (seat_text (option_copied public.entry) keys.now request.now sold.now seat.now)) }
 {
     writer.obj()?;
     writer.name(b"bid")?;
-    put_bids(alloc, writer, request, sold, public, seat)?;
+    put_bids(alloc, writer, request, sold, public, keys, seat)?;
     writer.put_text(b"seat", seat)?;
     writer.end()?;
     Ok(())
@@ -158,14 +173,15 @@ fn put_bids(
     request: &BidRequest,
     sold: &[Sold],
     public: Option<&Txt>,
+    keys: &Keys,
     seat: &[u8],
 ) -> Result<(), AllocError>
     requires { IsTrue (takes_value writer.old) }
-    ensures { OnOk result (writer.new ≡ put_value writer.old (array_text (seat_bids (option_copied public.entry) request.now sold.now seat.now))) }
+    ensures { OnOk result (writer.new ≡ put_value writer.old (array_text (seat_bids (option_copied public.entry) keys.now request.now sold.now seat.now))) }
 {
     writer.arr()?;
     for sale in sold {
-        put_bid_of(alloc, writer, request, sale, public, seat)?;
+        put_bid_of(alloc, writer, request, sale, public, keys, seat)?;
     }
     writer.end()?;
     Ok(())
@@ -178,14 +194,15 @@ fn put_bid_of(
     request: &BidRequest,
     sale: &Sold,
     public: Option<&Txt>,
+    keys: &Keys,
     seat: &[u8],
 ) -> Result<(), AllocError>
     requires { IsTrue (takes_value writer.old) }
-    ensures { OnOk result (writer.new ≡ cond (is_of_seat seat.now sale.now) (put_value writer.old (bid_text (option_copied public.entry) request.now sale.now)) writer.old) }
+    ensures { OnOk result (writer.new ≡ cond (is_of_seat seat.now sale.now) (put_value writer.old (bid_text (option_copied public.entry) keys.now request.now sale.now)) writer.old) }
 {
     if !is_of_seat(sale, seat) {
         return Ok(());
     }
-    put_bid(alloc, writer, request, sale, public)?;
+    put_bid(alloc, writer, request, sale, public, keys)?;
     Ok(())
 }

@@ -3,3 +3,4 @@ mod Handing
 mod Making
 mod Serving
 mod Telling
+mod Tokens

@@ -2,6 +2,7 @@
 use Rattle.std.proofs.Common.{◌≡◌, ◌∙◌, ℕ, ◌≤◌, List, [], ◌++◌, Option, true, ap, arith, length, map, subst, sym}
 use Rattle.std.specs.Io.KnownBytes.{Appends}
 use Rattle.std.proofs.lemmas.List.{take_all}
+use Rattle.address_keys.specs.declared.keys.Keys.{Keys}
 use Rattle.door_worker.specs.Languages.{rtb}
 use Rattle.exchange_shared.specs.Opening.{IsOriginOver}
 use Rattle.exchange_shared.specs.Seats.{IsOrdered}
@@ -20,6 +21,7 @@ use Rattle.rtb_disk.specs.Stores.{EachImage, Store}
 use Rattle.rtb_disk.specs.declared.disk.Disk.{Ghosts as DiskGhosts}
 use Rattle.run_commands.specs.Serve.{EndsBehind, IsIdle, IsRun, first_line}
 use Rattle.run_commands.specs.Served.{IsWritten, settings_of}
+use Rattle.run_commands.proofs.Tokens.{of_doors}
 use Rattle.run_words.specs.declared.serve.ServeOptions.{ServeOptions}
 use Rattle.worker_pool.specs.Pools.{AreServed, BreaksOff, EndsAs, History, KeepsBudgets, LeaveAs}
 use Rattle.worker_pool.specs.declared.pool.PoolEnd.{PoolEnd}
@@ -51,10 +53,10 @@ rose_since past b rising =
     let whole : IsRising past.origin (b.front ++ b.behind) = subst (IsRising past.origin) b.split rising in
     rose_then past.origin.faults (faults_told past.origin b.front) (faults_told past.origin past.seen) (faults_later past.origin [] b.front (rising_front past.origin b.front b.behind whole)) b.rose
 
-module _ {Disk Door Link : Type 0} (G : DiskGhosts Disk) (H : DoorGhosts Door Link) (K : LinkGhosts Link) (options : ServeOptions) where
+module _ {Disk Door Link : Type 0} (G : DiskGhosts Disk) (H : DoorGhosts Door Link) (K : LinkGhosts Link) (options : ServeOptions) (keys : Keys) where
   pub is_idle : (disk disk' : Disk) (o : Origin) (past : History) → IsOriginOver (G.store disk) (G.faults disk) (settings_of options) o → past.origin ≡ o → past.seen ≡ []
       → IsLegalFrom past.origin (calls past.seen) → KeepsBudgets past → IsOrdered past.origin past.seen → SaysFronts (G.store disk') past → SaysSomes (G.store disk') past → G.faults disk' ≡ faults_told past.origin past.seen → RoseBy (failures past.seen) past.origin.faults (G.faults disk')
-      → IsIdle G H K options disk disk' past
+      → IsIdle G H K options keys disk disk' past
   is_idle disk disk' o past begins origin none legal budgets order crash since faults counted = record {
     served = record {
       begins = subst (λ (x : Origin). IsOriginOver (G.store disk) (G.faults disk) (settings_of options) x) (sym origin) begins;
@@ -72,10 +74,10 @@ module _ {Disk Door Link : Type 0} (G : DiskGhosts Disk) (H : DoorGhosts Door Li
 
   pub is_run : (disk disk' : Disk) (doors doors' : List Door) (o : Origin) (past : History) (end : PoolEnd) (before announced written' : Option (List ℕ)) (code : ℕ)
       → IsOriginOver (G.store disk) (G.faults disk) (settings_of options) o → past.origin ≡ o → IsLegalFrom past.origin (calls past.seen) → KeepsBudgets past → IsOrdered past.origin past.seen
-      → AreServed K (rtb options.public) past (map H.held doors) (map H.held doors') → SaysFronts (G.store disk') past → SaysSomes (G.store disk') past → G.faults disk' ≡ faults_told past.origin past.seen → RoseBy (failures past.seen) past.origin.faults (G.faults disk')
+      → AreServed K (rtb options.public keys) past (map H.held doors) (map H.held doors') → SaysFronts (G.store disk') past → SaysSomes (G.store disk') past → G.faults disk' ≡ faults_told past.origin past.seen → RoseBy (failures past.seen) past.origin.faults (G.faults disk')
       → LeaveAs H.faults H.held doors doors' end → EndsAs past (map H.faults doors) (map H.faults doors') end
       → Appends before announced (first_line options) → EndsBehind end announced written' code
-      → IsRun G H K options disk disk' doors doors' past before written' code
+      → IsRun G H K options keys disk disk' doors doors' past before written' code
   is_run disk disk' doors doors' o past end before announced written' code begins origin legal budgets order answers crash since faults counted left why line ends = record {
     served = record {
       begins = subst (λ (x : Origin). IsOriginOver (G.store disk) (G.faults disk) (settings_of options) x) (sym origin) begins;
@@ -88,6 +90,7 @@ module _ {Disk Door Link : Type 0} (G : DiskGhosts Disk) (H : DoorGhosts Door Li
       faults = faults;
       failed = subst (λ (n : ℕ). RoseBy (failures past.seen) n (G.faults disk')) (ap (λ (x : Origin). x.faults) origin ∙ begins.faults_are) counted;
     };
+    tokens = λ some. of_doors options.public keys K past 0 answers.alls (map H.held doors) (map H.held doors') some answers.each;
     end = end;
     why = why;
     left = left;

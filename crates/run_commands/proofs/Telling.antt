@@ -63,6 +63,7 @@ is_not_written status.NotEmpty e = absurd (omega arith)
 is_not_written status.WriteFailed e = absurd (omega arith)
 is_not_written status.TraceTorn e = absurd (omega arith)
 is_not_written status.TraceTooLong e = absurd (omega arith)
+is_not_written status.NoKey e = absurd (omega arith)
 
 -- what is said of a status holds of its number
 pub rises_by_code : (s : Status) (code count count' : ℕ) → code ≡ code_of s → RisesOnlyWhere (s ≡ status.NotWritten) count count'

@@ -19,6 +19,7 @@ line_of status.LastWriteFailed = codes "rtbx: last write failed\n"
 line_of status.NotEmpty = codes "rtbx: not empty\n"
 line_of status.WriteFailed = codes "rtbx: write failed\n"
 line_of status.TraceTooLong = codes "rtbx: trace too long\n"
+line_of status.NoKey = codes "rtbx: no key\n"
 line_of _ = []
 
 -- the line of a journal that is damaged at the place

@@ -8,3 +8,4 @@ pub mod Make
 pub mod Recover
 pub mod Serve
 pub mod Served
+pub mod Tokens

@@ -1,5 +1,6 @@
 -- What comes of an exchange that is opened from a disk, and of the doors that it serves, in one history.
 use Rattle.std.specs.Prelude.{◌≡◌, List, ◌++◌, map, true}
+use Rattle.address_keys.specs.declared.keys.Keys.{Keys}
 use Rattle.door_worker.specs.Languages.{rtb}
 use Rattle.exchange_shared.specs.Opening.{IsOriginOver}
 use Rattle.exchange_shared.specs.Seats.{IsOrdered}
@@ -24,7 +25,7 @@ settings_of options = record { ttl = options.ttl; limit = options.sales }
 abbrev pub IsWritten : Store → History → Type 0
 IsWritten store past = past.origin.told ≡ true → EachImage (λ image. HasText image (past.origin.effects ++ effects_after past.origin (calls past.seen))) store.now
 
-module _ {Disk Door Link : Type 0} (G : DiskGhosts Disk) (H : DoorGhosts Door Link) (K : LinkGhosts Link) (options : ServeOptions) where
+module _ {Disk Door Link : Type 0} (G : DiskGhosts Disk) (H : DoorGhosts Door Link) (K : LinkGhosts Link) (options : ServeOptions) (keys : Keys) where
   -- Between the disk as it was handed out and as it comes back there is one history. It begins with what the disk says,
   -- each reply is that of an exchange of one thread at its place, and budgets hold at every place. The messages of each
   -- door are the calls of its worker, in order. A crash now leaves what the exchange was opened with and a front of the
@@ -35,7 +36,7 @@ module _ {Disk Door Link : Type 0} (G : DiskGhosts Disk) (H : DoorGhosts Door Li
     pub legal : IsLegalFrom past.origin (calls past.seen)
     pub budgets : KeepsBudgets past
     pub order : IsOrdered past.origin past.seen
-    pub answers : AreServed K (rtb options.public) past (map H.held doors) (map H.held doors')
+    pub answers : AreServed K (rtb options.public keys) past (map H.held doors) (map H.held doors')
     pub crash : past.origin.told ≡ true → EachImage (SaysFront past.origin past.seen) (G.store disk').now
     pub since : past.origin.told ≡ true → SaysSomeSince past.origin past.seen (G.store disk')
     pub faults : G.faults disk' ≡ faults_told past.origin past.seen

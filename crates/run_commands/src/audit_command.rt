@@ -3,11 +3,13 @@ ghost use Rattle.std.specs.Prelude.{◌≡◌, ◌≢◌, [], Err, IfOk, List, N
 ghost use Rattle.rtb_base.specs.Faults.{RisesOnlyWhere};
 ghost use Rattle.rtb_io.specs.Statuses.{code_of};
 ghost use Rattle.rtb_io.specs.declared.status.Status.TheVariants.{NotWritten};
-ghost use Rattle.run_commands.specs.Audit.{EndsAudited, EndsNumbered, IsAudited, RunsAudit, illegal_line, legal_line, torn_line};
+ghost use Rattle.run_commands.specs.Audit.{EndsAudited, EndsNumbered, IsAudited, RunsAudit, RunsAuditWith, illegal_line, legal_line, torn_line};
 
 use crate::journals::end_at;
+use crate::named_keys::read_keys;
 use crate::outcome::Outcome;
 use crate::status_lines::{end_with, tell};
+use address_keys::Keys;
 use audit::{AuditFault, Verdict, audit_run};
 use journal_file::JournalFault;
 use link_door::{Door, Link, World};
@@ -17,12 +19,12 @@ use rtb_num::{Failed, Sink, Source, Txt, write_decimal};
 use run_words::AuditOptions;
 use std::alloc::{AllocError, Global};
 
-/// Runs the command `audit`: reads the journal and then a trace from the source, writes no byte to the disk, and prints
-/// whether the trace accounts for itself from the journal's exchange on.
+/// Runs the command `audit`: reads the keys that are named, the journal, and then a trace from the source, writes no byte to
+/// the disk, and prints whether the trace accounts for itself from the journal's exchange on.
 ///
 /// It ends with status 0 where it does and 1 where an entry does not, or 4 where the world gave no disk, 5 where the disk
 /// failed, 6 where the journal is damaged, 10 where the source failed, 14 where the trace is torn, 15 where it has more
-/// entries than may be, or 9 for want of memory, each with a line of its own; and in place of each of them 7, where the
+/// entries than may be, 16 where a key that is named was not read or is none, or 9 for want of memory, each with a line of its own; and in place of each of them 7, where the
 /// sink failed.
 pub fn audit<W: World, S: Source, K: Sink>(
     alloc: Global,
@@ -31,15 +33,43 @@ pub fn audit<W: World, S: Source, K: Sink>(
     source: &mut S,
     sink: &mut K,
 ) -> Outcome<W>
-    ensures audits { RunsAudit ⟦<W as World>⟧ ⟦<W::Disk as Disk>⟧ options.now.journal world.old world.new (S.left source.old) (S.left source.new) (S.faults source.old) (S.faults source.new) (K.written sink.old) (K.written sink.new) result.status result.disk }
+    ensures audits { RunsAudit ⟦<W as World>⟧ ⟦<W::Disk as Disk>⟧ options.now world.old world.new (S.left source.old) (S.left source.new) (S.faults source.old) (S.faults source.new) (K.written sink.old) (K.written sink.new) result.status result.disk }
     ensures doors { result.doors ≡ [] }
     ensures other { result.other ≡ None }
     ensures past { result.past ≡ None }
     ensures cause { RisesOnlyWhere (result.status ≡ code_of NotWritten) (K.faults sink.old) (K.faults sink.new) }
 {
-    match world.disk_to_read(&options.journal) {
+    match read_keys(world, &options.key, &options.former_key) {
+        Ok(keys) => {
+            let outcome = audit_journal(alloc, &options.journal, &keys, world, source, sink);
+            drop(keys);
+            outcome
+        }
+        Err(Failed) => {
+            let status = end_with(Status::NoKey, sink);
+            Outcome::without_world(alloc, status.code())
+        }
+    }
+}
+
+// The same, with the keys.
+fn audit_journal<W: World, S: Source, K: Sink>(
+    alloc: Global,
+    path: &Txt,
+    keys: &Keys,
+    world: &mut W,
+    source: &mut S,
+    sink: &mut K,
+) -> Outcome<W>
+    ensures audits { RunsAuditWith ⟦<W as World>⟧ ⟦<W::Disk as Disk>⟧ path.now keys.now world.old world.new (S.left source.old) (S.left source.new) (S.faults source.old) (S.faults source.new) (K.written sink.old) (K.written sink.new) result.status result.disk }
+    ensures doors { result.doors ≡ [] }
+    ensures other { result.other ≡ None }
+    ensures past { result.past ≡ None }
+    ensures cause { RisesOnlyWhere (result.status ≡ code_of NotWritten) (K.faults sink.old) (K.faults sink.new) }
+{
+    match world.disk_to_read(path) {
         Ok(disk) => {
-            let (disk, status) = audit_disk(alloc, disk, source, sink);
+            let (disk, status) = audit_disk(alloc, keys, disk, source, sink);
             Outcome::with_disk(alloc, status, disk)
         }
         Err(Failed) => {
@@ -52,14 +82,15 @@ pub fn audit<W: World, S: Source, K: Sink>(
 // The same, over the journal on the disk.
 fn audit_disk<D: Disk, S: Source, K: Sink>(
     alloc: Global,
+    keys: &Keys,
     disk: D,
     source: &mut S,
     sink: &mut K,
 ) -> (D, Status)
-    ensures audited { IsAudited ⟦<D as Disk>⟧ disk result.0 (S.left source.old) (S.left source.new) (S.faults source.old) (S.faults source.new) (K.written sink.old) (K.written sink.new) (code_of result.1) }
+    ensures audited { IsAudited ⟦<D as Disk>⟧ keys.now disk result.0 (S.left source.old) (S.left source.new) (S.faults source.old) (S.faults source.new) (K.written sink.old) (K.written sink.new) (code_of result.1) }
     ensures cause { RisesOnlyWhere (result.1 ≡ NotWritten) (K.faults sink.old) (K.faults sink.new) }
 {
-    let (disk, said) = audit_run(alloc, disk, source);
+    let (disk, said) = audit_run(alloc, disk, source, keys);
     let status = end_audit(alloc, said, sink);
     (disk, status)
 }

@@ -36,6 +36,7 @@ pub fn compact<W: World, K: Sink>(
     ensures doors { result.doors ≡ [] }
     ensures past { result.past ≡ None }
     ensures others { W.doors_left world.new ≡ W.doors_left world.old }
+    ensures keys { W.keys_left world.new ≡ W.keys_left world.old }
     ensures cause { RisesOnlyWhere (result.status ≡ code_of NotWritten) (K.faults sink.old) (K.faults sink.new) }
 {
     match world.disk_there(&options.journal) {
@@ -56,6 +57,7 @@ fn compact_from<W: World, K: Sink>(
     ensures doors { result.doors ≡ [] }
     ensures past { result.past ≡ None }
     ensures others { W.doors_left world.new ≡ W.doors_left world.old }
+    ensures keys { W.keys_left world.new ≡ W.keys_left world.old }
     ensures cause { RisesOnlyWhere (result.status ≡ code_of NotWritten) (K.faults sink.old) (K.faults sink.new) }
 {
     match world.disk(&options.into) {

@@ -6,6 +6,7 @@ mod compact_command;
 mod follow_command;
 mod journals;
 mod make_command;
+mod named_keys;
 mod outcome;
 mod recover_command;
 mod rooms;

@@ -36,6 +36,7 @@ pub fn recover<W: World, K: Sink>(
     ensures other { result.other ≡ None }
     ensures past { result.past ≡ None }
     ensures others { W.doors_left world.new ≡ W.doors_left world.old }
+    ensures keys { W.keys_left world.new ≡ W.keys_left world.old }
     ensures cause { RisesOnlyWhere (result.status ≡ code_of NotWritten) (K.faults sink.old) (K.faults sink.new) }
 {
     match world.disk_to_read(&options.journal) {

@@ -13,12 +13,14 @@ ghost use Rattle.rtb_io.specs.Statuses.{code_of};
 ghost use Rattle.rtb_io.specs.declared.status.Status.TheVariants.{NotWritten};
 ghost use Rattle.run_commands.specs.Given.{GivesJournal, GivesNoJournal};
 ghost use Rattle.worker_pool.specs.Pools.{KeepsBudgets};
-ghost use Rattle.run_commands.specs.Serve.{Announces, EndsBehind, EndsWithoutDoors, IsRefused, IsRun, Serves, first_line, workers_of};
+ghost use Rattle.run_commands.specs.Serve.{Announces, EndsBehind, EndsWithoutDoors, IsRefused, IsRun, Serves, ServesWith, first_line, workers_of};
 ghost use Rattle.run_commands.specs.Served.{settings_of};
 
 use crate::journals::end_at;
+use crate::named_keys::read_keys;
 use crate::outcome::Outcome;
 use crate::status_lines::end_with;
+use address_keys::Keys;
 use exchange_shared::{Exchange, Seat};
 use exchange_state::ExchangeState;
 use hist_lock::Past;
@@ -36,14 +38,14 @@ use std::sync::ledger::{Blank, Ledger};
 use std::thread::Threads;
 use worker_pool::{Pool, PoolEnd, budgets_hold_at_each_place, serve_doors};
 
-/// Runs the command `serve`: opens the journal, opens a door for each worker, says that it serves, and serves the links
+/// Runs the command `serve`: reads the keys that are named, opens the journal, opens a door for each worker, says that it serves, and serves the links
 /// that come through the doors, each worker one link after the other, until no more will come. Then it writes once more
 /// what is not durable.
 ///
 /// It ends with status 0, or 3 where the world gave no doors, 4 where it gave no disk, as where the journal has to be there
 /// and is not, or has nothing in it, 5 where the disk failed while the
-/// journal was opened, 6 where the journal is damaged, 8 where a door failed, 9 for want of memory, or 11 where the last
-/// write failed, each with a line of its own; and in place of each of them 7, where the sink failed. Where the sink fails
+/// journal was opened, 6 where the journal is damaged, 8 where a door failed, 9 for want of memory, 11 where the last
+/// write failed, or 16 where a key that is named was not read or is none, each with a line of its own; and in place of each of them 7, where the sink failed. Where the sink fails
 /// at the first line, nothing is served.
 pub fn serve<W: World, P: Pause + Sync, K: Sink, R: Threads + Wait + Sync>(
     alloc: Global,
@@ -59,14 +61,7 @@ pub fn serve<W: World, P: Pause + Sync, K: Sink, R: Threads + Wait + Sync>(
 {
     match first_line(alloc, options) {
         Ok(line) => {
-            let tools = Tools {
-                alloc,
-                options,
-                line: &line,
-                pause,
-                rt,
-            };
-            let outcome = serve_journal(&tools, world, sink);
+            let outcome = serve_keys(alloc, options, &line, world, pause, sink, rt);
             drop(line);
             outcome
         }
@@ -74,11 +69,48 @@ pub fn serve<W: World, P: Pause + Sync, K: Sink, R: Threads + Wait + Sync>(
     }
 }
 
-// What the command is given, and its first line, which is made before anything is asked of the world.
+// The same, with the line.
+fn serve_keys<W: World, P: Pause + Sync, K: Sink, R: Threads + Wait + Sync>(
+    alloc: Global,
+    options: &ServeOptions,
+    line: &Txt,
+    world: &mut W,
+    pause: &P,
+    sink: &mut K,
+    rt: &R,
+) -> Outcome<W>
+    requires line { line.now ≡ first_line options.now }
+    ensures serves { Serves ⟦<W as World>⟧ ⟦<W::Disk as Disk>⟧ ⟦<W::Door as Door>⟧ ⟦<<W::Door as Door>::Link as Link>⟧ options.now world.old world.new (K.written sink.old) (K.written sink.new) result.status result.doors result.disk result.past }
+    ensures other { result.other ≡ None }
+    ensures cause { RisesOnlyWhere (result.status ≡ code_of NotWritten) (K.faults sink.old) (K.faults sink.new) }
+{
+    match read_keys(world, &options.key, &options.former_key) {
+        Ok(keys) => {
+            let tools = Tools {
+                alloc,
+                options,
+                keys: &keys,
+                line,
+                pause,
+                rt,
+            };
+            let outcome = serve_journal(&tools, world, sink);
+            drop(keys);
+            outcome
+        }
+        Err(Failed) => {
+            let status = end_with(Status::NoKey, sink);
+            Outcome::without_world(alloc, status.code())
+        }
+    }
+}
+
+// What the command is given, its first line, which is made before anything is asked of the world, and the keys.
 #[derive(Clone, Copy)]
 struct Tools<'a, P, R> {
     alloc: Global,
     options: &'a ServeOptions,
+    keys: &'a Keys,
     line: &'a Txt,
     pause: &'a P,
     rt: &'a R,
@@ -105,14 +137,14 @@ fn workers_of(options: &ServeOptions) -> u32
     options.workers.max(1).min(MOST_WORKERS) as u32
 }
 
-// The same, with the line.
+// The same, with the keys.
 fn serve_journal<'a, W: World, P: Pause + Sync, K: Sink, R: Threads + Wait + Sync>(
     tools: &Tools<'a, P, R>,
     world: &mut W,
     sink: &mut K,
 ) -> Outcome<W>
     requires line { tools.now.line.now ≡ first_line tools.now.options.now }
-    ensures serves { Serves ⟦<W as World>⟧ ⟦<W::Disk as Disk>⟧ ⟦<W::Door as Door>⟧ ⟦<<W::Door as Door>::Link as Link>⟧ tools.now.options.now world.old world.new (K.written sink.old) (K.written sink.new) result.status result.doors result.disk result.past }
+    ensures serves { ServesWith ⟦<W as World>⟧ ⟦<W::Disk as Disk>⟧ ⟦<W::Door as Door>⟧ ⟦<<W::Door as Door>::Link as Link>⟧ tools.now.options.now tools.now.keys.now world.old world.new (K.written sink.old) (K.written sink.new) result.status result.doors result.disk result.past }
     ensures other { result.other ≡ None }
     ensures cause { RisesOnlyWhere (result.status ≡ code_of NotWritten) (K.faults sink.old) (K.faults sink.new) }
 {
@@ -144,7 +176,7 @@ fn serve_disk<'a, W: World, P: Pause + Sync, K: Sink, R: Threads + Wait + Sync>(
 ) -> Outcome<W>
     requires line { tools.now.line.now ≡ first_line tools.now.options.now }
     ensures serves { (before : W) → GivesJournal ⟦<W as World>⟧ ⟦<W::Disk as Disk>⟧ tools.now.options.now.existing tools.now.options.now.journal before world.old disk
-        → Serves ⟦<W as World>⟧ ⟦<W::Disk as Disk>⟧ ⟦<W::Door as Door>⟧ ⟦<<W::Door as Door>::Link as Link>⟧ tools.now.options.now before world.new (K.written sink.old) (K.written sink.new) result.status result.doors result.disk result.past }
+        → ServesWith ⟦<W as World>⟧ ⟦<W::Disk as Disk>⟧ ⟦<W::Door as Door>⟧ ⟦<<W::Door as Door>::Link as Link>⟧ tools.now.options.now tools.now.keys.now before world.new (K.written sink.old) (K.written sink.new) result.status result.doors result.disk result.past }
     ensures other { result.other ≡ None }
     ensures cause { RisesOnlyWhere (result.status ≡ code_of NotWritten) (K.faults sink.old) (K.faults sink.new) }
 {
@@ -189,7 +221,7 @@ fn serve_exchange<'a, W: World, P: Pause + Sync, K: Sink, R: Threads + Wait + Sy
     requires first { seat ≡ first_seat (lock_of exchange) seat.origin }
     ensures serves { (before : W) (disk : W.Disk) → GivesJournal ⟦<W as World>⟧ ⟦<W::Disk as Disk>⟧ tools.now.options.now.existing tools.now.options.now.journal before world.old disk
         → IsOriginOver (W.Disk.store disk) (W.Disk.faults disk) (settings_of tools.now.options.now) seat.origin
-        → Serves ⟦<W as World>⟧ ⟦<W::Disk as Disk>⟧ ⟦<W::Door as Door>⟧ ⟦<<W::Door as Door>::Link as Link>⟧ tools.now.options.now before world.new (K.written sink.old) (K.written sink.new) result.status result.doors result.disk result.past }
+        → ServesWith ⟦<W as World>⟧ ⟦<W::Disk as Disk>⟧ ⟦<W::Door as Door>⟧ ⟦<<W::Door as Door>::Link as Link>⟧ tools.now.options.now tools.now.keys.now before world.new (K.written sink.old) (K.written sink.new) result.status result.doors result.disk result.past }
     ensures other { result.other ≡ None }
     ensures cause { RisesOnlyWhere (result.status ≡ code_of NotWritten) (K.faults sink.old) (K.faults sink.new) }
 {
@@ -275,7 +307,7 @@ fn announce<
     requires some { 0 < length doors }
     requires few { length doors < 2 ^ 32 }
     ensures announces { (disk : D) → IsOriginOver (D.store disk) (D.faults disk) (settings_of tools.now.options.now) seat.origin
-        → Announces ⟦<D as Disk>⟧ ⟦<G as Door>⟧ ⟦<<G as Door>::Link as Link>⟧ tools.now.options.now disk result.disk doors result.doors result.past (K.written sink.old) (K.written sink.new) (code_of result.status) }
+        → Announces ⟦<D as Disk>⟧ ⟦<G as Door>⟧ ⟦<<G as Door>::Link as Link>⟧ tools.now.options.now tools.now.keys.now disk result.disk doors result.doors result.past (K.written sink.old) (K.written sink.new) (code_of result.status) }
     ensures cause { RisesOnlyWhere (result.status ≡ NotWritten) (K.faults sink.old) (K.faults sink.new) }
 {
     match write_all(sink, tools.line.as_bytes()) {
@@ -312,7 +344,7 @@ fn serve_all<
     requires some { 0 < length doors }
     requires few { length doors < 2 ^ 32 }
     ensures run { (disk : D) (before : Option (List ℕ)) → IsOriginOver (D.store disk) (D.faults disk) (settings_of tools.now.options.now) seat.origin → Appends before (K.written sink.old) (first_line tools.now.options.now)
-        → IsRun ⟦<D as Disk>⟧ ⟦<G as Door>⟧ ⟦<<G as Door>::Link as Link>⟧ tools.now.options.now disk result.disk doors result.doors result.past before (K.written sink.new) (code_of result.status) }
+        → IsRun ⟦<D as Disk>⟧ ⟦<G as Door>⟧ ⟦<<G as Door>::Link as Link>⟧ tools.now.options.now tools.now.keys.now disk result.disk doors result.doors result.past before (K.written sink.new) (code_of result.status) }
     ensures cause { RisesOnlyWhere (result.status ≡ NotWritten) (K.faults sink.old) (K.faults sink.new) }
 {
     let public = &tools.options.public;
@@ -322,6 +354,7 @@ fn serve_all<
         tools.alloc,
         tools.pause,
         public,
+        tools.keys,
         seat,
         doors,
     );

@@ -36,6 +36,7 @@ fn line(status: Status) -> &'static [u8]
         Status::NotEmpty => b"rtbx: not empty\n",
         Status::WriteFailed => b"rtbx: write failed\n",
         Status::TraceTooLong => b"rtbx: trace too long\n",
+        Status::NoKey => b"rtbx: no key\n",
         Status::Done | Status::Refused | Status::Damaged | Status::NotWritten | Status::TraceTorn =>
             b"",
     }

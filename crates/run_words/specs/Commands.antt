@@ -1,6 +1,6 @@
 -- The words of commands with options, as `clap` reads them. A command is told by its options alone; what its words
 -- are then is said by `clap`: whether they are refused (`fault_of`), and which options they give (`matches_of`).
-use Rattle.std.specs.Prelude.{ℕ, List, [], ◌∷◌, Bool, not, Option, None, Some, if◌then◌else◌, true, false, codes, ◌^◌, ◌-◌, option_and_then, option_map, unwrap_or}
+use Rattle.std.specs.Prelude.{ℕ, List, [], ◌∷◌, Bool, not, Option, None, Some, if◌then◌else◌, true, false, codes, ◌^◌, ◌-◌, ◌&&◌, is_some, option_and_then, option_map, unwrap_or}
 use Rattle.std.specs.List.{list_all}
 use Rattle.std.specs.Str.{bytes_eq, is_utf8}
 use Rattle.std.specs.Str.Parse.{digits_value, without_leading_plus}
@@ -18,6 +18,10 @@ use Rattle.run_words.specs.declared.recover.RecoverOptions.{RecoverOptions}
 abbrev pub required : Text → Rule
 required name = record (new_rule name) { long = Some name; required = true }
 
+-- an option that may be given, the same way
+abbrev pub optional : Text → Rule
+optional name = record (new_rule name) { long = Some name }
+
 -- an option without a value, which is given or not
 abbrev pub flag_rule : Text → Rule
 flag_rule name = record (new_rule name) { long = Some name; action = Some SetTrue }
@@ -26,10 +30,15 @@ flag_rule name = record (new_rule name) { long = Some name; action = Some SetTru
 abbrev pub number_between : ℕ → ℕ → Text → Text → Rule
 number_between least most default name = record (new_rule name) { long = Some name; defaults = default ∷ []; parser = Some (parser.Unsigned least most) }
 
--- `serve --listen A --journal P --existing --public U --workers N --ttl T --sales L --patience W`, with N from 1 to 64, L
--- from 1 to 67,108,864, and T from 1 to a year and W from 1 to an hour, in milliseconds
+-- `serve --listen A --journal P --existing --public U --key F --former-key G`
+abbrev pub serve_texts : App
+serve_texts = with_rule (with_rule (with_rule (with_rule (with_rule (with_rule (new_app (codes "serve")) (required (codes "listen"))) (required (codes "journal"))) (flag_rule (codes "existing"))) (required (codes "public")))
+    (optional (codes "key"))) (optional (codes "former-key"))
+
+-- `.. --workers N --ttl T --sales L --patience W` behind these, with N from 1 to 64, L from 1 to 67,108,864, and T from 1
+-- to a year and W from 1 to an hour, in milliseconds
 abbrev pub serve_app : App
-serve_app = with_rule (with_rule (with_rule (with_rule (with_rule (with_rule (with_rule (with_rule (new_app (codes "serve")) (required (codes "listen"))) (required (codes "journal"))) (flag_rule (codes "existing"))) (required (codes "public"))) (number_between 1 64 (codes "4") (codes "workers")))
+serve_app = with_rule (with_rule (with_rule (with_rule serve_texts (number_between 1 64 (codes "4") (codes "workers")))
     (number_between 1 31536000000 (codes "300000") (codes "ttl"))) (number_between 1 67108864 (codes "4194304") (codes "sales"))) (number_between 1 3600000 (codes "60000") (codes "patience"))
 
 -- `recover --journal P`
@@ -47,6 +56,10 @@ given_by app words = unless (fault_of app words) (matches_of app words)
 -- the text of an option
 abbrev pub text_of : Text → List Row → Text
 text_of name rows = unwrap_or (first_of name rows) []
+
+-- a former key is given, and no key beside it
+abbrev pub lacks_key : List Row → Bool
+lacks_key rows = is_some (first_of (codes "former-key") rows) && not (is_some (first_of (codes "key") rows))
 
 -- whether an option without a value is given
 abbrev pub flag_of : Text → List Row → Bool
@@ -66,18 +79,20 @@ serve_numbers rows = option_and_then (λ workers. option_and_then (λ ttl. optio
     (number_in (text_of (codes "sales") rows))) (number_in (text_of (codes "ttl") rows))) (number_in (text_of (codes "workers") rows))
 
 -- Port 0 is none to listen at: nobody is told where the system then listens. And no bidder reaches a notice whose
--- address begins with no scheme and host.
+-- address begins with no scheme and host. A former key is for what was signed before there was another.
 abbrev pub serve_of : List Row → Option ServeOptions
-serve_of rows = if has_port_0 (text_of (codes "listen") rows) then None else (if not (is_public (text_of (codes "public") rows)) then None else option_map (λ numbers. record {
+serve_of rows = if has_port_0 (text_of (codes "listen") rows) then None else (if not (is_public (text_of (codes "public") rows)) then None else (if lacks_key rows then None else option_map (λ numbers. record {
   listen = text_of (codes "listen") rows;
   journal = text_of (codes "journal") rows;
   existing = flag_of (codes "existing") rows;
   public = text_of (codes "public") rows;
+  key = first_of (codes "key") rows;
+  former_key = first_of (codes "former-key") rows;
   workers = numbers.0;
   ttl = numbers.1;
   sales = numbers.2;
   patience = numbers.3;
-}) (serve_numbers rows))
+}) (serve_numbers rows)))
 
 abbrev pub recover_of : List Row → RecoverOptions
 recover_of rows = record { journal = text_of (codes "journal") rows }

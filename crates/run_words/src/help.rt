@@ -6,6 +6,7 @@ use crate::compact::compact_command;
 use crate::fault::WordsFault;
 use crate::follow::follow_command;
 use crate::make::make_command;
+use crate::matched::lacks_key;
 use crate::recover::recover_command;
 use crate::serve::serve_command;
 use crate::texts::texts;
@@ -215,9 +216,9 @@ fn named<'a>(alloc: Global, name: &'a str, about: &'a str) -> Command<'a> {
     Command::new(alloc, name).about(about)
 }
 
-/// What `clap` says of words that it refuses, the first of which is the command's name, or what is wrong with the
-/// port or with what stands before the paths of notices, as one line without its line feed. It is empty where the words are of no command with options, or not
-/// refused.
+/// What `clap` says of words that it refuses, the first of which is the command's name, or what is wrong with a path, with
+/// the keys, with the port or with what stands before the paths of notices, as one line without its line feed. It is empty
+/// where the words are of no command with options, or not refused.
 pub fn refusal_line(alloc: Global, words: &[Txt]) -> Result<Txt, AllocError> {
     match texts(alloc, words) {
         Ok(texts) => refusal_of(alloc, texts.as_slice()),
@@ -257,10 +258,13 @@ fn refusal_by<'a>(
     }
 }
 
-// What is wrong with the paths, with the third word of `make` or with the port, where something is.
+// What is wrong with the paths, with the keys, with the third word of `make` or with the port, where something is.
 fn value_refusal(alloc: Global, matches: &ArgMatches<'_>) -> Result<Txt, AllocError> {
     if has_one_path(matches) {
         return Txt::from_slice(alloc, b"--into has to name another file than --journal");
+    }
+    if lacks_key(matches) {
+        return Txt::from_slice(alloc, b"--former-key has to stand beside --key");
     }
     if has_other_word(matches) {
         return Txt::from_slice(alloc, b"the third word of make has to be trace");

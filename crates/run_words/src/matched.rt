@@ -1,9 +1,9 @@
 //! The words as `clap` matches them with a command's options.
-ghost use Rattle.std.specs.Prelude.{◌≡◌, IfOk, MatchResult, None, Some, codes, map, true};
+ghost use Rattle.std.specs.Prelude.{◌≡◌, ◌&&◌, IfOk, MatchResult, None, Some, codes, is_some, map, not, true};
 ghost use Rattle.std.specs.Str.{bytes_eq};
-ghost use Rattle.clap.specs.Words.{app_of, found_of, is_simple_and_free, kind_of, rows_of};
+ghost use Rattle.clap.specs.Words.{app_of, first_of, found_of, is_simple_and_free, kind_of, rows_of};
 ghost use Rattle.clap.specs.declared.error.kind.ErrorKind.TheVariants as kind;
-ghost use Rattle.run_words.specs.Commands.{flag_of, given_by, number_in, text_of};
+ghost use Rattle.run_words.specs.Commands.{flag_of, given_by, lacks_key, number_in, text_of};
 ghost use Rattle.run_words.specs.declared.fault.WordsFault.TheVariants.{Usage};
 
 use crate::fault::WordsFault;
@@ -48,6 +48,52 @@ pub(crate) fn option_text(
         text.extend(value.as_bytes())?;
     }
     Ok(text)
+}
+
+/// The text of an option that may be given.
+pub(crate) fn given_text(
+    alloc: Global,
+    matches: &ArgMatches<'_>,
+    name: &str,
+) -> Result<Option<Txt>, AllocError>
+    ensures { IfOk result (λ t. t ≡ first_of name.now (rows_of (found_of matches.now))) }
+{
+    match matches.get_str(name) {
+        Some(value) => some_text(alloc, value),
+        None => Ok(None),
+    }
+}
+
+fn some_text(alloc: Global, value: &str) -> Result<Option<Txt>, AllocError>
+    ensures { IfOk result (λ t. t ≡ Some value.now) }
+{
+    let text = Txt::from_slice(alloc, value.as_bytes())?;
+    Ok(Some(text))
+}
+
+/// Whether a former key is given, and no key beside it.
+pub(crate) fn lacks_key(matches: &ArgMatches<'_>) -> bool
+    ensures { result ≡ lacks_key (rows_of (found_of matches.now)) }
+{
+    let key = is_given(matches, "key");
+    let former = is_given(matches, "former-key");
+    is_alone(former, key)
+}
+
+// Whether the first is there, and the second is not.
+fn is_alone(first: bool, second: bool) -> bool
+    ensures { result ≡ first && not second }
+{
+    first && !second
+}
+
+fn is_given(matches: &ArgMatches<'_>, name: &str) -> bool
+    ensures { result ≡ is_some (first_of name.now (rows_of (found_of matches.now))) }
+{
+    match matches.get_str(name) {
+        Some(_) => true,
+        None => false,
+    }
 }
 
 /// Whether the option without a value is given.

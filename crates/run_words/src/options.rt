@@ -1,7 +1,7 @@
 //! Options as `clap` takes them: texts and numbers.
 ghost use Rattle.std.specs.Prelude.{◌≡◌, false};
 ghost use Rattle.clap.specs.Words.{rule_of};
-ghost use Rattle.run_words.specs.Commands.{flag_rule, number_between, required};
+ghost use Rattle.run_words.specs.Commands.{flag_rule, number_between, optional, required};
 
 use clap::builder::ValueParser;
 use clap::{Arg, ArgAction};
@@ -13,6 +13,14 @@ pub(crate) fn text_option<'a>(alloc: Global, name: &'a str, help: &'a str) -> Ar
     ensures local { result.global ≡ false }
 {
     Arg::new(alloc, name).long(name).required(true).help(help)
+}
+
+/// An option that may be given.
+pub(crate) fn optional_text<'a>(alloc: Global, name: &'a str, help: &'a str) -> Arg<'a>
+    ensures rule { rule_of result ≡ optional name.entry.now }
+    ensures local { result.global ≡ false }
+{
+    Arg::new(alloc, name).long(name).help(help)
 }
 
 /// An option without a value, which is given or not.

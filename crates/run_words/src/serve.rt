@@ -1,13 +1,13 @@
 //! The options of `serve`.
 ghost use Rattle.std.specs.Prelude.{◌≡◌, IfOk, MatchResult, None, Some, codes, false, map, option_and_then};
 ghost use Rattle.clap.specs.Words.{app_of, found_of, rows_of, rule_of};
-ghost use Rattle.run_words.specs.Commands.{given_by, number_between, serve_app, serve_numbers, serve_of, serve_options};
+ghost use Rattle.run_words.specs.Commands.{given_by, number_between, serve_app, serve_numbers, serve_of, serve_options, serve_texts};
 ghost use Rattle.run_words.specs.declared.fault.WordsFault.TheVariants.{Usage};
 
 use crate::address::{has_port_0, is_public};
 use crate::fault::WordsFault;
-use crate::matched::{flag, match_words, number, option_text};
-use crate::options::{flag_option, number_option, text_option};
+use crate::matched::{flag, given_text, lacks_key, match_words, number, option_text};
+use crate::options::{flag_option, number_option, optional_text, text_option};
 use crate::texts::texts;
 use clap::{Arg, ArgMatches, Command};
 use rtb_num::Txt;
@@ -25,6 +25,10 @@ pub struct ServeOptions {
     /// What stands before `/bill/N` and `/lose/N` in notices, as `http://ads.example`: it begins with `http://` or
     /// `https://`, and a host.
     pub public: Txt,
+    /// The path of the file whose key signs addresses. Without it none is signed.
+    pub key: Option<Txt>,
+    /// The path of the file of the key that signed them before, which are taken still.
+    pub former_key: Option<Txt>,
     /// How many workers serve, each with a door of its own: 1 to 64.
     pub workers: u64,
     /// How many milliseconds a sale is held: 1 to 31,536,000,000, a year.
@@ -70,12 +74,19 @@ fn options(alloc: Global, matches: &ArgMatches<'_>) -> Result<ServeOptions, Word
     if !is_public(public.as_bytes()) {
         return Err(WordsFault::Usage);
     }
+    if lacks_key(matches) {
+        return Err(WordsFault::Usage);
+    }
+    let key = given_text(alloc, matches, "key")?;
+    let former_key = given_text(alloc, matches, "former-key")?;
     match numbers(matches) {
         Some((workers, ttl, sales, patience)) => Ok(ServeOptions {
             listen,
             journal,
             existing,
             public,
+            key,
+            former_key,
             workers,
             ttl,
             sales,
@@ -107,6 +118,11 @@ const EXISTING_HELP: &str = "The journal has to be there, with something in it: 
 const PUBLIC_HELP: &str =
     "What stands before /bill/N and /lose/N in notices, from http:// or https:// on, as http://ads.example";
 
+const KEY_HELP: &str =
+    "The file whose bytes, 32 to 64, a line end included, sign addresses; without it none is signed";
+
+const FORMER_KEY_HELP: &str = "The file of the key before, whose addresses are taken still";
+
 /// More workers than processors gain nothing but links that wait for less.
 const MAX_WORKERS: u64 = 64;
 
@@ -134,17 +150,25 @@ const PATIENCE_HELP: &str =
 pub(crate) fn serve_command<'a>(alloc: Global) -> Result<Command<'a>, AllocError>
     ensures { IfOk result (λ c. app_of c ≡ serve_app) }
 {
-    let listen = text_option(alloc, "listen", LISTEN_HELP);
-    let journal = text_option(alloc, "journal", JOURNAL_HELP);
-    let existing = flag_option(alloc, "existing", EXISTING_HELP);
-    let public = text_option(alloc, "public", PUBLIC_HELP);
     let workers = workers_option(alloc);
     let ttl = ttl_option(alloc);
     let sales = sales_option(alloc);
     let patience = patience_option(alloc);
-    let options = vec![in alloc;
-        listen, journal, existing, public, workers, ttl, sales, patience,
-    ]?;
+    let numbers = vec![in alloc; workers, ttl, sales, patience]?;
+    texts_command(alloc)?.args(numbers)
+}
+
+// The command with those of its options that are no numbers.
+fn texts_command<'a>(alloc: Global) -> Result<Command<'a>, AllocError>
+    ensures { IfOk result (λ c. app_of c ≡ serve_texts) }
+{
+    let listen = text_option(alloc, "listen", LISTEN_HELP);
+    let journal = text_option(alloc, "journal", JOURNAL_HELP);
+    let existing = flag_option(alloc, "existing", EXISTING_HELP);
+    let public = text_option(alloc, "public", PUBLIC_HELP);
+    let key = optional_text(alloc, "key", KEY_HELP);
+    let former_key = optional_text(alloc, "former-key", FORMER_KEY_HELP);
+    let options = vec![in alloc; listen, journal, existing, public, key, former_key]?;
     Command::new(alloc, "serve").args(options)
 }
 

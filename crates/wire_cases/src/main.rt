@@ -12,6 +12,7 @@ mod messages;
 mod pieces;
 mod small_service;
 mod sockets;
+mod tokens;
 
 use case_lines::run_cases;
 use rtb_num::{Sink, StdSink, StdSource, Txt};
@@ -39,12 +40,15 @@ fn tell_sockets<W: Wait + Sync, O: Sink>(rt: &HostRuntime, waits: &W, sink: &mut
     sink.write(tried.as_bytes()).is_ok()
 }
 
-// Markup, messages, links and conversations.
+// Markup, messages, tokens, links and conversations.
 fn answer(alloc: Global, call: &[u8], args: &[Txt], out: &mut Txt) -> Result<bool, AllocError> {
     if markup::answer(alloc, call, args, out)? {
         return Ok(true);
     }
     if messages::answer(alloc, call, args, out)? {
+        return Ok(true);
+    }
+    if tokens::answer(call, args, out)? {
         return Ok(true);
     }
     if links::answer(alloc, call, args, out)? {

@@ -178,6 +178,7 @@ fn status_of(digits: &[u8]) -> Option<u16>
         Some(200) => Some(200),
         Some(201) => Some(201),
         Some(400) => Some(400),
+        Some(403) => Some(403),
         Some(404) => Some(404),
         Some(409) => Some(409),
         Some(410) => Some(410),

@@ -3,6 +3,8 @@ use denote.RattleType.{RattleType}
 use denote.Ref.{NamedLft}
 use denote.Param.Send.{IsSend, IsSync, sendable}
 use Rattle.std.proofs.Crossing.{crosses}
+use Rattle.address_keys.proofs.key.Key.TheSendSync as key
+use Rattle.address_keys.specs.contracts.keys.Keys as keys
 use Rattle.auction_core.specs.contracts.exchange.Core as core
 use Rattle.budget_book.proofs.account.Account.TheSendSync as account
 use Rattle.budget_book.proofs.dues.Due.TheSendSync as due
@@ -30,6 +32,9 @@ state_send D g s = search (sendable, crosses, core_send, version.the_send, versi
 exchange_sync : (D : RattleType) (g : Ghosts D.Denot) → IsSend D → IsSync (exchange.the_row D g)
 exchange_sync D g s = search (sendable, state_send, lock.the_sync, landings.the_field_sync, worn.the_field_sync) depth 30 fits 5000
 
+keys_sync : IsSync keys.the_row
+keys_sync = search (sendable, key.the_sync) depth 30 fits 5000
+
 -- what all workers are given
 pub tools_sync : (κ : NamedLft) (D R P : RattleType) (g : Ghosts D.Denot) → IsSend D → IsSync R → IsSync P → IsSync (tools.the_row κ D R P g)
-tools_sync κ D R P g d r p = search (sendable, exchange_sync, txt.the_sync) depth 40 fits 5000
+tools_sync κ D R P g d r p = search (sendable, exchange_sync, txt.the_sync, keys_sync) depth 40 fits 5000

@@ -5,6 +5,7 @@ ghost use Rattle.exchange_shared.specs.Seats.{Seat as ASeat, lock_of};
 ghost use Rattle.exchange_state.specs.declared.entries.Origin.{Origin};
 ghost use Rattle.worker_pool.specs.Hiring.{AreBack, AreDone, AreGathered, AreHired, IsDone, IsHired, IsJoined, has_failed, is_failed};
 
+use address_keys::Keys;
 use door_worker::{DoorEnd, serve_door};
 use exchange_shared::{Exchange, Seat};
 use link_door::{Door, Pause};
@@ -26,6 +27,7 @@ struct Tools<'e, D: Disk, R, P> {
     alloc: Global,
     pause: &'e P,
     public: &'e Txt,
+    keys: &'e Keys,
 }
 
 /// Puts a seat where there is none.
@@ -46,13 +48,14 @@ pub(crate) fn serve_jobs<D: Disk + Send, R: Threads + Wait + Sync, G: Door + Sen
     alloc: Global,
     pause: &P,
     public: &Txt,
+    keys: &Keys,
     jobs: &mut [Job<D, G>],
 ) -> (Seat<D>, bool)
     requires hired { (o : Origin) × AreHired (lock_of exchange.now) o jobs.old }
     requires few { length jobs.old < 2 ^ 32 }
-    ensures { AreGathered G.Link.Link G.held G.faults (rtb public.now) (lock_of exchange.now) jobs.old jobs.new result.0 result.1 }
+    ensures { AreGathered G.Link.Link G.held G.faults (rtb public.now keys.now) (lock_of exchange.now) jobs.old jobs.new result.0 result.1 }
 {
-    work_all(exchange, rt, alloc, pause, public, jobs);
+    work_all(exchange, rt, alloc, pause, public, keys, jobs);
     let failed = has_failed(jobs);
     (gather(exchange, jobs), failed)
 }
@@ -64,11 +67,12 @@ fn work_all<D: Disk + Send, R: Threads + Wait + Sync, G: Door + Send, P: Pause +
     alloc: Global,
     pause: &P,
     public: &Txt,
+    keys: &Keys,
     jobs: &mut [Job<D, G>],
 )
     requires hired { (o : Origin) × AreHired (lock_of exchange.now) o jobs.old }
     requires few { length jobs.old < 2 ^ 32 }
-    ensures { AreDone G.Link.Link G.held G.faults (rtb public.now) (lock_of exchange.now) jobs.old jobs.new }
+    ensures { AreDone G.Link.Link G.held G.faults (rtb public.now keys.now) (lock_of exchange.now) jobs.old jobs.new }
 {
     let count = jobs.len();
     let tools = Tools {
@@ -77,6 +81,7 @@ fn work_all<D: Disk + Send, R: Threads + Wait + Sync, G: Door + Send, P: Pause +
         alloc,
         pause,
         public,
+        keys,
     };
     thread::for_each_mut(
         rt,
@@ -84,7 +89,7 @@ fn work_all<D: Disk + Send, R: Threads + Wait + Sync, G: Door + Send, P: Pause +
         count,
         &|worker: usize, job: &mut Job<D, G>|
             requires { (worker < 2 ^ 32) × ((o : Origin) × IsHired (lock_of tools.exchange.now) o worker job.now) }
-            ensures { IsDone G.Link.Link G.held G.faults (rtb tools.entry.public.now) (lock_of tools.entry.exchange.now) job.entry.now job.exit.now }
+            ensures { IsDone G.Link.Link G.held G.faults (rtb tools.entry.public.now tools.entry.keys.now) (lock_of tools.entry.exchange.now) job.entry.now job.exit.now }
         { work(&tools, worker as u32, job) },
     );
 }
@@ -96,7 +101,7 @@ fn work<D: Disk, R: Wait, G: Door, P: Pause>(
     job: &mut Job<D, G>,
 )
     requires { (o : Origin) × IsHired (lock_of tools.now.exchange.now) o worker job.old }
-    ensures { IsDone G.Link.Link G.held G.faults (rtb tools.now.public.now) (lock_of tools.now.exchange.now) job.old job.new }
+    ensures { IsDone G.Link.Link G.held G.faults (rtb tools.now.public.now tools.now.keys.now) (lock_of tools.now.exchange.now) job.old job.new }
 {
     let Some(seat) = job.0.take() else {
         unreachable!()
@@ -107,8 +112,11 @@ fn work<D: Disk, R: Wait, G: Door, P: Pause>(
         alloc,
         pause,
         public,
+        keys,
     } = *tools;
-    let (seat, end) = serve_door(exchange, rt, alloc, worker, pause, public, seat, &mut job.1);
+    let (seat, end) = serve_door(
+        exchange, rt, alloc, worker, pause, public, keys, seat, &mut job.1,
+    );
     put_seat(&mut job.0, seat);
     job.2 = end;
 }

@@ -14,6 +14,7 @@ ghost use Rattle.worker_pool.specs.Pools.{AreServed, EndsAs, KeepsBudgets, Leave
 use crate::hiring::hire;
 use crate::jobs::{doors_of, serve_jobs};
 use crate::laws::budgets_hold_at_each_place;
+use address_keys::Keys;
 use exchange_shared::{Exchange, Seat, StoreFailed};
 use exchange_state::ExchangeState;
 use hist_lock::Past;
@@ -52,7 +53,7 @@ pub struct Pool<D: Disk, G: Door> {
 /// and worker k serves door k, both counted from 0. Once all have returned, what is not durable is written once more,
 /// and the exchange is closed.
 ///
-/// `pause` and `public` are as for `serve_door`.
+/// `pause`, `public` and `keys` are as for `serve_door`.
 pub fn serve_doors<
     D: Disk + Send,
     R: Threads + Wait + Sync,
@@ -64,6 +65,7 @@ pub fn serve_doors<
     alloc: Global,
     pause: &P,
     public: &Txt,
+    keys: &Keys,
     seat: Seat<D>,
     doors: List<G>,
 ) -> Pool<D, G>
@@ -75,7 +77,7 @@ pub fn serve_doors<
     ensures legal { IsLegalFrom result.past.origin (calls result.past.seen) }
     ensures budgets { KeepsBudgets result.past }
     ensures order { IsOrdered result.past.origin result.past.seen }
-    ensures served { AreServed G.Link.Link (rtb public.now) result.past (map G.held doors) (map G.held result.doors) }
+    ensures served { AreServed G.Link.Link (rtb public.now keys.now) result.past (map G.held doors) (map G.held result.doors) }
     ensures images { result.past.origin.told ≡ true → EachImage (SaysFront result.past.origin result.past.seen) (D.store result.disk).now }
     ensures since { result.past.origin.told ≡ true → SaysSomeSince result.past.origin result.past.seen (D.store result.disk) }
     ensures faults { D.faults result.disk ≡ faults_told result.past.origin result.past.seen }
@@ -91,6 +93,7 @@ pub fn serve_doors<
                 alloc,
                 pause,
                 public,
+                keys,
                 jobs.as_mut_slice(),
             );
             let doors = doors_of(jobs, room);

@@ -10,5 +10,5 @@ returns-clause-says g c = λ left found.
     let at = c.new-audit.ensures in
     let state = ap (λ (a : Audit). a.core.state) at ∙ ap (λ (k : CoreState). k.state) c.hold_for.ensures in
     c.run-said.ensures.says c.args.core.state left
-    (stands_first c.args.core.state left now c.args.header c.args.size c.args.input c.new-audit.result found
+    (stands_first c.args.keys.now c.args.core.state left now c.args.header c.args.size c.args.input c.new-audit.result found
     (ap (λ (a : Audit). a.header) at) (ap (λ (a : Audit). a.input) at) state (ap (λ (a : Audit). a.entries) at) (ap (λ (a : Audit). a.passed) at) (ap (λ (a : Audit). a.place) at))

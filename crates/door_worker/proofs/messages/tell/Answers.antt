@@ -10,7 +10,7 @@ pub returns-in-Ok-clause-told : goal.returns-in-Ok-clause-told
 returns-in-Ok-clause-told g c =
     let t = c.publish_edit-seat.result.0 in
     record {
-      told = subst (λ (q : Option BidRequest). IsTold q (rtb c.args.tools.now.public.now) c.args.reply.now c.given_for.result) c.request_in.ensures c.given_for.ensures.told;
+      told = subst (λ (q : Option BidRequest). IsTold q (rtb c.args.tools.now.public.now c.args.tools.now.keys.now) c.args.reply.now c.given_for.result) c.request_in.ensures c.given_for.ensures.told;
       goes = c.publish_edit-seat.ensures.goes;
       published = λ is. subst (λ r. OnOk r (is_edit c.args.command.now ≡ true → IsPublished 0 t.worker t.origin t.seen)) c.in-Ok.is c.publish_edit-seat.ensures.published;
     }

@@ -12,12 +12,12 @@ returns-in-Serve-clause-runs g c = rw c.in-Serve.is (record { one_disk = c.serve
 pub returns-in-Recover-clause-runs : goal.returns-in-Recover-clause-runs
 returns-in-Recover-clause-runs g c =
     let h = c.recover.ensures in
-    rw c.in-Recover.is (inl (record { doors_left = h.others; no_doors = h.doors; one_disk = h.other; no_past = h.past; recovers = h.recovers }))
+    rw c.in-Recover.is (inl (record { doors_left = h.others; keys_left = h.keys; no_doors = h.doors; one_disk = h.other; no_past = h.past; recovers = h.recovers }))
 
 pub returns-in-Compact-clause-runs : goal.returns-in-Compact-clause-runs
 returns-in-Compact-clause-runs g c =
     let h = c.compact.ensures in
-    rw c.in-Compact.is (inl (record { doors_left = h.others; no_doors = h.doors; no_past = h.past; compacts = h.compacts }))
+    rw c.in-Compact.is (inl (record { doors_left = h.others; keys_left = h.keys; no_doors = h.doors; no_past = h.past; compacts = h.compacts }))
 
 pub returns-in-Follow-clause-runs : goal.returns-in-Follow-clause-runs
 returns-in-Follow-clause-runs g c =

@@ -3,7 +3,7 @@ use Rattle.std.specs.Prelude.{Option, Some, None}
 use Rattle.rtb_disk.specs.Stores.{Store}
 use Rattle.journal_file.specs.Damage.{IsBlockAt}
 use Rattle.journal_file.specs.Sizes.{IsWholeSize}
-use Rattle.std.proofs.Common.{Err}
+use Rattle.std.proofs.Common.{Err, Ok}
 use Rattle.std.specs.Prelude.{Result}
 use Rattle.std.proofs.lemmas.Result.{err_from_is_err_and}
 use Rattle.journal_file.proofs.Shown.{behind_shown, shown_so, shown_then}
@@ -28,13 +28,13 @@ pub returns-in_err-size-clause-shows : goal.returns-in_err-size-clause-shows
 returns-in_err-size-clause-shows g c =
     let p = err_from_is_err_and c.from_residual.result c.from_residual.ensures.1 in
     let is = p.1 ∙ ap Err p.2 in
-    shown_so _ _ c.in_err-size.ensures.shows (λ more _. subst (λ (r : Result (Option ℕ) JournalFault). IsBehindShown c.args.gate more c.args.out.now c.args.out.now r) (sym is) refl)
+    shown_so _ _ c.in_err-size.ensures.shows (λ more whole. subst (λ (r : Result (Option ℕ) JournalFault). IsBehindShown c.args.gate more c.args.out.now c.args.out.now r) (sym is) (whole, refl))
 
 pub returns-in-None-clause-shows : goal.returns-in-None-clause-shows
 returns-in-None-clause-shows g c =
-    shown_so _ _ c.in_ok-size.ensures.shows (λ more found. (subst (λ (o : Option ℕ). IsSizeShown c.args.gate more o) c.in-None.is found, refl, refl))
+    shown_so _ _ c.in_ok-size.ensures.shows (λ more found. (subst (λ (o : Option ℕ). IsSizeShown c.args.gate more (Ok o)) c.in-None.is found, refl, refl))
 
 pub returns-in-Some-clause-shows : goal.returns-in-Some-clause-shows
 returns-in-Some-clause-shows g c =
     shown_then _ _ _ c.in_ok-size.ensures.shows c.payload_behind.ensures.shows (λ more back found rest.
-    behind_shown c.args.gate c.in-Some.size more back c.args.out.now c.payload_behind.new.out c.payload_behind.result (subst (λ (o : Option ℕ). IsSizeShown c.args.gate more o) c.in-Some.is found) rest)
+    behind_shown c.args.gate c.in-Some.size more back c.args.out.now c.payload_behind.new.out c.payload_behind.result (subst (λ (o : Option ℕ). IsSizeShown c.args.gate more (Ok o)) c.in-Some.is found) rest)

@@ -3,8 +3,7 @@ use Rattle.journal_file.specs.Gates.{begins_open}
 use Rattle.journal_file.proofs.GateLemmas.{first_bytes, open_whole, shut_whole}
 use Rattle.std.proofs.Common.{arith}
 use Rattle.std.proofs.lemmas.List.{length-take}
-use Rattle.std.proofs.lemmas.Result.{IfOk-from_err}
-use Rattle.journal_file.proofs.Shown.{gate_shown, shown_none, shown_one}
+use Rattle.journal_file.proofs.Shown.{gate_failed, gate_shown, shown_none, shown_one}
 use Rattle.journal_file.proofs.at_gates.is_open.Goals as goal
 
 pub returns-clause-open : goal.returns-clause-open
@@ -18,7 +17,7 @@ returns-clause-shut g c = λ told is.
     shut_whole bytes (ap begins_open (sym (first_bytes 1 bytes _ c.in_ok-n.n (c.in_ok-n.ensures.count told) (c.in_ok-n.ensures.bytes told))) ∙ sym c.is_one.ensures ∙ cc is)
 
 pub returns-in_err-n-clause-shows : goal.returns-in_err-n-clause-shows
-returns-in_err-n-clause-shows g c = shown_none _ _ c.in_err-n.ensures.silent (IfOk-from_err c.from_residual.result _ c.from_residual.ensures.0)
+returns-in_err-n-clause-shows g c = shown_none _ _ c.in_err-n.ensures.silent (gate_failed c.args.gate c.from_residual.result c.from_residual.ensures.0)
 
 pub returns-clause-shows : goal.returns-clause-shows
 returns-clause-shows g c =

@@ -29,17 +29,18 @@ returns-in-Ok-true-clause-cause g c = (c.in-Ok-true.ensures.no_less, λ e. absur
 pub returns-in-Ok-true-clause-shows : goal.returns-in-Ok-true-clause-shows
 returns-in-Ok-true-clause-shows g c =
     shown_so _ _ c.in-Ok-true.ensures.shows (λ more s.
-    let there = subst (λ (b : Bool). ArePayloadShown (c.args.gate + 9) c.args.size more c.args.out.now c.read_payload.new.out b) c.in-Ok-true.field-0-test s in
-    let long : length there.0 ≡ c.args.size = omega (arith, c.in-Ok-true.ensures.long (ap Ok c.in-Ok-true.field-0-test), ap length there.2, length-append c.args.out.now there.0) in
-    (there.0, there.1, long, ap (λ n. c.args.gate + 9 + n) (sym long), there.2))
+    let there = subst (λ (b : Bool). ArePayloadShown (c.args.gate + 9) c.args.size more c.args.out.now c.read_payload.new.out (Ok b)) c.in-Ok-true.field-0-test s in
+    let all = there.0 in
+    let long : length all.0 ≡ c.args.size = omega (arith, c.in-Ok-true.ensures.long (ap Ok c.in-Ok-true.field-0-test), ap length all.2, length-append c.args.out.now all.0) in
+    (all.0, all.1, long, ap (λ n. c.args.gate + 9 + n) (sym long), all.2, there.1))
 
 pub returns-in-Ok-false-clause-shows : goal.returns-in-Ok-false-clause-shows
 returns-in-Ok-false-clause-shows g c =
     shown_so _ _ c.in-Ok-false.ensures.shows (λ more s.
-    (subst (λ (b : Bool). ArePayloadShown (c.args.gate + 9) c.args.size more c.args.out.now c.read_payload.new.out b) c.in-Ok-false.field-0-test s, refl, cut_back c.args.out.now c.in-Ok-false.ensures.front.0 c.read_payload.new.out _ _ c.in-Ok-false.ensures.front.1 c.len-before.ensures c.truncate.ensures))
+    (subst (λ (b : Bool). ArePayloadShown (c.args.gate + 9) c.args.size more c.args.out.now c.read_payload.new.out (Ok b)) c.in-Ok-false.field-0-test s, refl, cut_back c.args.out.now c.in-Ok-false.ensures.front.0 c.read_payload.new.out _ _ c.in-Ok-false.ensures.front.1 c.len-before.ensures c.truncate.ensures))
 
 pub returns-in-Err-Failed-clause-shows : goal.returns-in-Err-Failed-clause-shows
-returns-in-Err-Failed-clause-shows g c = shown_so _ _ c.in-Err-Failed.ensures.shows (λ more _. cut_back c.args.out.now c.in-Err-Failed.ensures.front.0 c.read_payload.new.out _ _ c.in-Err-Failed.ensures.front.1 c.len-before.ensures c.truncate-in-Err-Failed.ensures)
+returns-in-Err-Failed-clause-shows g c = shown_so _ _ c.in-Err-Failed.ensures.shows (λ more some. (some, cut_back c.args.out.now c.in-Err-Failed.ensures.front.0 c.read_payload.new.out _ _ c.in-Err-Failed.ensures.front.1 c.len-before.ensures c.truncate-in-Err-Failed.ensures))
 
 pub returns-in-Err-Memory-clause-shows : goal.returns-in-Err-Memory-clause-shows
-returns-in-Err-Memory-clause-shows g c = shown_so _ _ c.in-Err-Memory.ensures.shows (λ more _. cut_back c.args.out.now c.in-Err-Memory.ensures.front.0 c.read_payload.new.out _ _ c.in-Err-Memory.ensures.front.1 c.len-before.ensures c.truncate-in-Err-Memory.ensures)
+returns-in-Err-Memory-clause-shows g c = shown_so _ _ c.in-Err-Memory.ensures.shows (λ more some. (some, cut_back c.args.out.now c.in-Err-Memory.ensures.front.0 c.read_payload.new.out _ _ c.in-Err-Memory.ensures.front.1 c.len-before.ensures c.truncate-in-Err-Memory.ensures))

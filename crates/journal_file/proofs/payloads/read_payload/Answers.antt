@@ -1,4 +1,4 @@
-use Rattle.std.proofs.Common.{◌≡◌, ◌+◌, ◌-◌, ◌++◌, ℕ, List, length, take, drop, arith, ◌∙◌, ap, append_assoc, length-append}
+use Rattle.std.proofs.Common.{◌≡◌, ◌<◌, ◌+◌, ◌-◌, ◌++◌, ℕ, List, length, take, drop, arith, ◌∙◌, ap, append_assoc, length-append}
 use Rattle.std.proofs.lemmas.List.{length-take, take-append-le}
 use Rattle.rtb_disk.specs.Stores.{Store}
 use Rattle.journal_file.proofs.PayloadLemmas.{one_more}
@@ -6,8 +6,7 @@ use Rattle.std.proofs.Common.{subst, length-drop}
 use Rattle.rtb_base.specs.Faults.{Rose}
 use Rattle.std.proofs.Common.{[], refl, sym}
 use Rattle.std.proofs.lemmas.List.{append-nil, length-take-le}
-use Rattle.std.proofs.lemmas.Result.{IfOk-from_err}
-use Rattle.journal_file.proofs.Shown.{piece_more, shown_none, shown_so, shown_still, shown_up_to, shows_none, was_last}
+use Rattle.journal_file.proofs.Shown.{payload_failed, piece_more, shown_none, shown_so, shown_still, shown_up_to, shows_none, some_more, was_last}
 use Rattle.journal_file.proofs.payloads.read_payload.Goals as goal
 
 pub loop-left-preserved : goal.loop-left-preserved
@@ -16,6 +15,7 @@ loop-left-preserved g c =
     let n = c.in_ok-n.n in
     let piece = take n (c.read.new.out ++ drop c.min-want.result c.loop-left.piece) in
     let front : piece ≡ take n c.read.new.out = take-append-le n c.read.new.out (drop c.min-want.result c.loop-left.piece) c.in_ok-n.ensures.bound in
+    let some : 0 < length (take n c.read.new.out) = omega (arith, c.if-n-eq0.false, c.in_ok-n.ensures.bound, length-take n c.read.new.out) in
     record {
       place = omega (arith, inv.place, c.in_ok-n.ensures.bound, c.read.auto.out, length-take c.min-want.result c.loop-left.piece);
       from = omega arith;
@@ -24,7 +24,9 @@ loop-left-preserved g c =
       out = λ told.
           let there = front ∙ c.in_ok-n.ensures.bytes (ap (λ (s : Store). s.told) inv.store ∙ told) ∙ ap (λ (s : Store). take n (drop c.loop-left.at s.reads)) inv.store in
           c.in_ok-extend.ensures.ok ∙ one_more c.args.out.now (g.D.Disk.store c.args.disk.now).reads c.loop-left.out piece c.args.place c.loop-left.at n inv.from (inv.out told) there;
-      shows = shown_up_to _ _ _ _ inv.shows c.in_ok-n.ensures.shows (λ more s. piece_more more c.args.place c.loop-left.at _ _ c.args.out.now c.loop-left.out _ (take n c.read.new.out) s (c.in_ok-extend.ensures.ok ∙ ap (λ (l : List ℕ). c.loop-left.out ++ l) front) (ap (λ k. c.loop-left.at + k) (sym (length-take-le n c.read.new.out c.in_ok-n.ensures.bound))));
+      shows = shown_up_to _ _ _ _ inv.shows c.in_ok-n.ensures.shows (λ more s.
+          let all = piece_more more c.args.place c.loop-left.at _ _ c.args.out.now c.loop-left.out _ (take n c.read.new.out) (s.0, s.1, s.2, s.3) (c.in_ok-extend.ensures.ok ∙ ap (λ (l : List ℕ). c.loop-left.out ++ l) front) (ap (λ k. c.loop-left.at + k) (sym (length-take-le n c.read.new.out c.in_ok-n.ensures.bound))) in
+          (all.0, all.1, all.2, all.3, some_more c.args.place c.loop-left.at _ (take n c.read.new.out) more inv.from some s.4));
       long = omega (arith, inv.long, inv.from, ap length c.in_ok-extend.ensures.ok, length-append c.loop-left.out piece, ap length front, c.in_ok-n.ensures.bound, length-take n c.read.new.out);
       more = (inv.more.0 ++ piece, c.in_ok-extend.ensures.ok ∙ ap (λ (l : List ℕ). l ++ piece) inv.more.1 ∙ append_assoc c.args.out.now inv.more.0 piece);
     }
@@ -58,20 +60,23 @@ loop-left-init g c =
       faults = refl;
       out = λ told. sym (append-nil c.args.out.now) ∙ ap (λ n. c.args.out.now ++ take n (drop c.args.place (g.D.Disk.store c.args.disk.now).reads)) zero;
       more = ([], sym (append-nil c.args.out.now));
-      shows = shown_none _ _ refl ([], shows_none [] c.args.place, sym (append-nil c.args.out.now), omega arith);
+      shows = shown_none _ _ refl ([], shows_none [] c.args.place, sym (append-nil c.args.out.now), omega arith, tt);
       long = omega arith;
     }
 
 pub returns-clause-shows : goal.returns-clause-shows
-returns-clause-shows g c = shown_so _ _ c.loop-left.invariant.shows (λ more s. (s.0, s.1, s.2))
+returns-clause-shows g c = shown_so _ _ c.loop-left.invariant.shows (λ more s. ((s.0, s.1, s.2), s.4))
 
 pub returns-then-n-eq0-clause-shows : goal.returns-then-n-eq0-clause-shows
 returns-then-n-eq0-clause-shows g c =
     shown_up_to _ _ _ _ c.loop-left.invariant.shows c.in_ok-n.ensures.shows (λ more s. (c.loop-left.at, omega (arith, c.loop-left.invariant.place), was_last more c.loop-left.at _ c.in_ok-n.n c.read.new.out (omega (arith, length-take c.min-want.result c.loop-left.piece)) c.if-n-eq0.true))
 
 pub returns-in_err-n-clause-shows : goal.returns-in_err-n-clause-shows
-returns-in_err-n-clause-shows g c = shown_still _ _ _ c.loop-left.invariant.shows c.in_err-n.ensures.silent (λ more _. IfOk-from_err c.from_residual.result _ c.from_residual.ensures.0)
+returns-in_err-n-clause-shows g c = shown_still _ _ _ c.loop-left.invariant.shows c.in_err-n.ensures.silent (λ more s. payload_failed c.args.place c.args.count more c.args.out.now c.loop-left.out c.from_residual.result c.from_residual.ensures.0 s.4)
 
 pub returns-in_err-extend-clause-shows : goal.returns-in_err-extend-clause-shows
 returns-in_err-extend-clause-shows g c =
-    shown_up_to _ _ _ _ c.loop-left.invariant.shows c.in_ok-n.ensures.shows (λ more _. IfOk-from_err c.from_residual-in_err-extend.result _ c.from_residual-in_err-extend.ensures.0)
+    let n = c.in_ok-n.n in
+    let some : 0 < length (take n c.read.new.out) = omega (arith, c.if-n-eq0.false, c.in_ok-n.ensures.bound, length-take n c.read.new.out) in
+    shown_up_to _ _ _ _ c.loop-left.invariant.shows c.in_ok-n.ensures.shows (λ more s.
+    payload_failed c.args.place c.args.count _ c.args.out.now c.extend.new.self c.from_residual-in_err-extend.result c.from_residual-in_err-extend.ensures.0 (some_more c.args.place c.loop-left.at _ (take n c.read.new.out) more c.loop-left.invariant.from some s.4))

@@ -6,4 +6,4 @@ use Rattle.rtb_response.proofs.response.put_bids.Given as goal
 
 -- the seat's bids among the sales so far were written
 abbrev pub invariant-loop-sale : goal.invariant-loop-sale
-invariant-loop-sale l = l.writer ≡ in_array l.fn.writer (seat_bids (option_copied l.fn.public) l.fn.request (take l.sale-index l.sold) l.fn.seat)
+invariant-loop-sale l = l.writer ≡ in_array l.fn.writer (seat_bids (option_copied l.fn.public) l.fn.keys l.fn.request (take l.sale-index l.sold) l.fn.seat)

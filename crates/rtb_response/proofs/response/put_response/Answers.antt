@@ -12,11 +12,12 @@ use Rattle.rtb_response.proofs.response.put_response.Goals as goal
 pub returns-clause-whole : goal.returns-clause-whole
 returns-clause-whole c =
     let public = option_copied c.args.public in
+    let keys = c.args.keys.now in
     let r = c.args.request.now in
     let sold = c.args.sold.now in
     let id : Member = text_member (codes "id") r.id in
     let cur : Member = text_member (codes "cur") (codes "USD") in
-    let value = array_text (map (seat_text public r sold) (seats_of sold)) in
+    let value = array_text (map (seat_text public keys r sold) (seats_of sold)) in
     let all : List Member = id ∷ (codes "seatbid", value) ∷ cur ∷ [] in
     let first = c.in_ok-put_text.ensures.ok ∙ ap (λ t. put_member c.obj.new.self (text_member (codes "id") t)) c.as_bytes.ensures.value
     ∙ ap (λ v. put_member v id) (c.in_ok-obj.ensures.ok ∙ ap (λ v. begin v (Object false false)) c.requires) in
@@ -29,11 +30,12 @@ returns-clause-whole c =
 pub returns-clause-text : goal.returns-clause-text
 returns-clause-text c =
     let public = option_copied c.args.public in
+    let keys = c.args.keys.now in
     let r = c.args.request.now in
     let sold = c.args.sold.now in
     let id : Member = text_member (codes "id") r.id in
     let cur : Member = text_member (codes "cur") (codes "USD") in
-    let value = array_text (map (seat_text public r sold) (seats_of sold)) in
+    let value = array_text (map (seat_text public keys r sold) (seats_of sold)) in
     let all : List Member = id ∷ (codes "seatbid", value) ∷ cur ∷ [] in
     let first = c.in_ok-put_text.ensures.ok ∙ ap (λ t. put_member c.obj.new.self (text_member (codes "id") t)) c.as_bytes.ensures.value
     ∙ ap (λ v. put_member v id) (c.in_ok-obj.ensures.ok ∙ ap (λ v. begin v (Object false false)) c.requires) in

@@ -13,7 +13,7 @@ use Rattle.rtb_response.proofs.response.put_seats.Goals as goal
 
 pub loop-place-init : goal.loop-place-init
 loop-place-init c =
-    let text = seat_text (option_copied c.args.public) c.args.request.now c.args.sold.now in
+    let text = seat_text (option_copied c.args.public) c.args.keys.now c.args.request.now c.args.sold.now in
     c.in_ok-arr.ensures.ok ∙ ap (λ l. in_array c.args.writer.now (map text l)) (sym no_seats)
 
 pub put_new_seat-requires : goal.put_new_seat-requires
@@ -21,7 +21,7 @@ put_new_seat-requires c = ap takes_value c.loop-place.invariant
 
 pub loop-place-preserved : goal.loop-place-preserved
 loop-place-preserved c =
-    let text = seat_text (option_copied c.args.public) c.args.request.now c.args.sold.now in
+    let text = seat_text (option_copied c.args.public) c.args.keys.now c.args.request.now c.args.sold.now in
     let sold = c.args.sold.now in
     let k = c.loop-place.place in
     let d = c.index-sold-place.result in
@@ -37,7 +37,7 @@ end-requires c = ap can_end c.loop-place.invariant
 
 pub returns : goal.returns
 returns c =
-    let text = seat_text (option_copied c.args.public) c.args.request.now c.args.sold.now in
+    let text = seat_text (option_copied c.args.public) c.args.keys.now c.args.request.now c.args.sold.now in
     let all : take c.loop-place.place c.args.sold.now ≡ c.args.sold.now = take_all _ _ (omega (arith, c.loop-place-test.false)) in
     c.in_ok-end.ensures.ok ∙ ap end c.loop-place.invariant ∙ array_ends c.args.writer.now (map text (seats_of (take c.loop-place.place c.args.sold.now)))
     ∙ ap (λ l. put_value c.args.writer.now (array_text (map text (seats_of l)))) all

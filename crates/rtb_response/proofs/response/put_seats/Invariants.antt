@@ -6,4 +6,4 @@ use Rattle.rtb_response.proofs.response.put_seats.Given as goal
 
 -- the seats of the sales so far were written
 abbrev pub invariant-loop-place : goal.invariant-loop-place
-invariant-loop-place l = l.writer ≡ in_array l.fn.writer (map (seat_text (option_copied l.fn.public) l.fn.request l.fn.sold) (seats_of (take l.place l.fn.sold)))
+invariant-loop-place l = l.writer ≡ in_array l.fn.writer (map (seat_text (option_copied l.fn.public) l.fn.keys l.fn.request l.fn.sold) (seats_of (take l.place l.fn.sold)))

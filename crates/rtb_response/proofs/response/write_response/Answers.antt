@@ -6,6 +6,6 @@ use Rattle.rtb_response.proofs.response.write_response.Goals as goal
 
 pub returns : goal.returns
 returns c =
-    let text = response_text (option_copied c.args.public) c.args.request.now in
+    let text = response_text (option_copied c.args.public) c.args.keys.now c.args.request.now in
     let put = c.put_response-done in
     c.finished.ensures (text c.args.sold.now) (subst (λ sold. OnOk put.result (put.new.writer.text ≡ text sold)) c.as_slice.ensures put.ensures.text)

@@ -16,5 +16,8 @@ returns-in-Ok-clause-compacts g c =
 pub returns-in-Ok-clause-others : goal.returns-in-Ok-clause-others
 returns-in-Ok-clause-others g c = c.compact_from.ensures.others ∙ c.disk_there.ensures.doors
 
+pub returns-in-Ok-clause-keys : goal.returns-in-Ok-clause-keys
+returns-in-Ok-clause-keys g c = c.compact_from.ensures.keys ∙ c.disk_there.ensures.keys
+
 pub returns-in-Err-clause-cause : goal.returns-in-Err-clause-cause
 returns-in-Err-clause-cause g c = rises_by_code c.end_with.result _ _ _ (c.without_world.ensures.status ∙ c.code.ensures) c.end_with.ensures.cause

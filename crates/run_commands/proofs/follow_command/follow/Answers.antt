@@ -8,13 +8,13 @@ use Rattle.run_commands.proofs.follow_command.follow.Goals as goal
 pub returns-in-Ok-clause-follows : goal.returns-in-Ok-clause-follows
 returns-in-Ok-clause-follows g c =
     let h = c.in-Ok.ensures in
-    c.follow_disk.ensures.follows c.args.world.now (record { asked = h.asks; disks = h.disks; doors = c.disk_to_read.ensures.doors; faults = h.cause })
+    c.follow_disk.ensures.follows c.args.world.now (record { asked = h.asks; disks = h.disks; doors = c.disk_to_read.ensures.doors; keys = c.disk_to_read.ensures.keys; faults = h.cause })
 
 pub returns-in-Err-clause-follows : goal.returns-in-Err-clause-follows
 returns-in-Err-clause-follows g c =
     let h = c.in-Err.ensures in
     let out = c.without_world.ensures in
-    no_disk (record { asked = h.asks; disks = h.disks; doors = c.disk_to_read.ensures.doors; faults = h.cause.1 }) out.doors out.disk
+    no_disk (record { asked = h.asks; disks = h.disks; doors = c.disk_to_read.ensures.doors; keys = c.disk_to_read.ensures.keys; faults = h.cause.1 }) out.doors out.disk
     (subst (λ (code : ℕ). EndsBy status.NoDisk (g.K.Sink.written c.args.sink.now) (g.K.Sink.written c.end_with-status.new.sink) code) (sym (out.status ∙ c.code.ensures)) c.end_with-status.ensures.ends)
 
 pub returns-in-Err-clause-cause : goal.returns-in-Err-clause-cause

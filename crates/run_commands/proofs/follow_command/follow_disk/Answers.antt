@@ -18,6 +18,7 @@ returns-in-Ok-clause-follows g c = λ before gives.
       asked = h.asks;
       doors_are = subst (λ l. HandsOut (w.doors_left c.args.world.now) (w.doors_left c.doors.new.self) l) c.only_item-door.ensures.item h.doors;
       disks = c.doors.ensures.disks;
+      keys = c.doors.ensures.keys;
       faults = h.cause.2 (λ e. cc);
     })
     (subst (λ (code : ℕ). Reports g.W.Disk.Disk g.W.Door.Door g.W.Door.Link.Link c.args.disk ended.disk door ended.door (g.K.Sink.written c.args.sink.now) (g.K.Sink.written c.announce-ended.new.sink) code) (sym out.status)
@@ -29,7 +30,7 @@ returns-in-Err-clause-follows g c = λ before gives.
     let h = c.in-Err.ensures in
     let out = c.with_disk.ensures in
     no_door c.args.disk c.args.world.now gives c.in-Err.fault
-    (record { asked = h.asks; doors = h.doors; disks = c.doors.ensures.disks; faults = has_failed c.in-Err.fault _ _ h.cause })
+    (record { asked = h.asks; doors = h.doors; disks = c.doors.ensures.disks; keys = c.doors.ensures.keys; faults = has_failed c.in-Err.fault _ _ h.cause })
     out.doors out.disk
     (subst (λ (code : ℕ). EndsWithoutDoors c.in-Err.fault (g.K.Sink.written c.args.sink.now) (g.K.Sink.written c.end_without_doors-status.new.sink) code) (sym out.status) c.end_without_doors-status.ensures.ends)
 

@@ -17,6 +17,6 @@ returns-in-Err-clause-announces g c = λ disk begins.
     let h = c.close_idle-disk.ensures in
     let past = c.close_idle-disk.result.1 in
     unannounced
-    (is_idle g.D.Disk g.G.Door g.G.Link.Link c.args.tools.now.options.now disk c.close_idle-disk.result.0 c.args.seat.origin past begins h.origin h.untouched h.legal h.budgets h.order h.crash h.since h.faults h.failed)
+    (is_idle g.D.Disk g.G.Door g.G.Link.Link c.args.tools.now.options.now c.args.tools.now.keys.now disk c.close_idle-disk.result.0 c.args.seat.origin past begins h.origin h.untouched h.legal h.budgets h.order h.crash h.since h.faults h.failed)
     refl refl
     (subst (λ (text : List ℕ). AppendsFront (g.K.Sink.written c.args.sink.now) (g.K.Sink.written c.write_all.new.sink) text) line c.in-Err.ensures.err)

@@ -7,10 +7,10 @@ pub returns-then-options : goal.returns-then-options
 returns-then-options g c =
     let o = c.args.options.now in
     let h = c.disk_there.ensures in
-    gives_journal g.W.World g.W.Disk.Disk o.existing true o.journal c.args.world.now c.disk_there.new.self c.disk_there.result c.if-options.true h.asks h.disks h.doors h.cause (λ e. h.long)
+    gives_journal g.W.World g.W.Disk.Disk o.existing true o.journal c.args.world.now c.disk_there.new.self c.disk_there.result c.if-options.true h.asks h.disks h.doors h.keys h.cause (λ e. h.long)
 
 pub returns : goal.returns
 returns g c =
     let o = c.args.options.now in
     let h = c.disk.ensures in
-    gives_journal g.W.World g.W.Disk.Disk o.existing false o.journal c.args.world.now c.disk.new.self c.disk.result c.if-options.false h.asks h.disks h.doors h.cause (λ e. absurd (false≢true e))
+    gives_journal g.W.World g.W.Disk.Disk o.existing false o.journal c.args.world.now c.disk.new.self c.disk.result c.if-options.false h.asks h.disks h.doors h.keys h.cause (λ e. absurd (false≢true e))

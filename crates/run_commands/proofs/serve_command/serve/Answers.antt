@@ -6,7 +6,7 @@ use Rattle.run_commands.proofs.Telling.{rises_by_code}
 use Rattle.run_commands.proofs.serve_command.serve.Goals as goal
 
 pub returns-in-Ok-clause-serves : goal.returns-in-Ok-clause-serves
-returns-in-Ok-clause-serves g c = c.serve_journal-outcome.ensures.serves
+returns-in-Ok-clause-serves g c = c.serve_keys-outcome.ensures.serves
 
 pub returns-in-Err-clause-serves : goal.returns-in-Err-clause-serves
 returns-in-Err-clause-serves g c =

@@ -10,6 +10,7 @@ use Rattle.run_commands.proofs.serve_command.serve_exchange.Goals as goal
 pub returns-in-Ok-clause-serves : goal.returns-in-Ok-clause-serves
 returns-in-Ok-clause-serves g c = λ before disk gives begins.
     let o = c.args.tools.now.options.now in
+    let keys = c.args.tools.now.keys.now in
     let h = c.in-Ok.ensures in
     let ended = c.announce-ended.result in
     let n = c.workers_of-workers.ensures.workers in
@@ -21,16 +22,18 @@ returns-in-Ok-clause-serves g c = λ before disk gives begins.
       asked = subst (λ (k : ℕ). w.asked c.doors.new.self ≡ w.asked c.args.world.now ++ asked_for.Doors o.listen k o.patience ∷ []) n h.asks;
       doors_are = h.doors;
       disks = c.doors.ensures.disks;
+      keys = c.doors.ensures.keys;
       faults = h.cause.2 (λ e. cc);
     })
-    (subst (λ back. Announces g.W.Disk.Disk g.W.Door.Door g.W.Door.Link.Link o disk ended.disk c.in-Ok.doors back ended.past (g.K.Sink.written c.args.sink.now) (g.K.Sink.written c.announce-ended.new.sink) c.with_past.result.status) (sym out.doors)
-    (subst (λ (code : ℕ). Announces g.W.Disk.Disk g.W.Door.Door g.W.Door.Link.Link o disk ended.disk c.in-Ok.doors ended.doors ended.past (g.K.Sink.written c.args.sink.now) (g.K.Sink.written c.announce-ended.new.sink) code) (sym out.status)
+    (subst (λ back. Announces g.W.Disk.Disk g.W.Door.Door g.W.Door.Link.Link o keys disk ended.disk c.in-Ok.doors back ended.past (g.K.Sink.written c.args.sink.now) (g.K.Sink.written c.announce-ended.new.sink) c.with_past.result.status) (sym out.doors)
+    (subst (λ (code : ℕ). Announces g.W.Disk.Disk g.W.Door.Door g.W.Door.Link.Link o keys disk ended.disk c.in-Ok.doors ended.doors ended.past (g.K.Sink.written c.args.sink.now) (g.K.Sink.written c.announce-ended.new.sink) code) (sym out.status)
     (c.announce-ended.ensures.announces disk begins)))
     out.disk out.past
 
 pub returns-in-Err-clause-serves : goal.returns-in-Err-clause-serves
 returns-in-Err-clause-serves g c = λ before disk gives begins.
     let o = c.args.tools.now.options.now in
+    let keys = c.args.tools.now.keys.now in
     let h = c.in-Err.ensures in
     let idle = c.close_idle-disk.ensures in
     let back = c.close_idle-disk.result.0 in
@@ -43,9 +46,10 @@ returns-in-Err-clause-serves g c = λ before disk gives begins.
       asked = subst (λ (k : ℕ). AsksAtMost (w.asked c.args.world.now) (w.asked c.doors.new.self) (asked_for.Doors o.listen k o.patience)) n h.asks;
       doors = h.doors;
       disks = c.doors.ensures.disks;
+      keys = c.doors.ensures.keys;
       faults = has_failed c.in-Err.fault _ _ h.cause;
     })
-    (is_idle g.W.Disk.Disk g.W.Door.Door g.W.Door.Link.Link o disk back c.args.seat.origin past begins idle.origin idle.untouched idle.legal idle.budgets idle.order idle.crash idle.since idle.faults idle.failed)
+    (is_idle g.W.Disk.Disk g.W.Door.Door g.W.Door.Link.Link o keys disk back c.args.seat.origin past begins idle.origin idle.untouched idle.legal idle.budgets idle.order idle.crash idle.since idle.faults idle.failed)
     (out.doors ∙ c.new.ensures) out.disk out.past
     (subst (λ (code : ℕ). EndsWithoutDoors c.in-Err.fault (g.K.Sink.written c.args.sink.now) (g.K.Sink.written c.end_without_doors-status.new.sink) code) (sym out.status) c.end_without_doors-status.ensures.ends)
 

@@ -47,4 +47,4 @@ pub returns-in-Err-clause-served : goal.returns-in-Err-clause-served
 returns-in-Err-clause-served g c =
     let none = c.close.ensures.past.1 ∙ ap (λ (s : Seat). s.seen) c.in-Err.ensures.refused.0 ∙ ap (λ (s : Seat). s.seen) c.requires.first in
     let is = c.close.ensures.doors ∙ c.in-Err.ensures.refused.1 in
-    subst (λ (l : List g.row.G.Denot). AreServed g.G.Link.Link (rtb c.args.public.now) c.close.result.past (map g.G.Door.held c.args.doors) (map g.G.Door.held l)) (sym is) (idle g.G.Link.Link (rtb c.args.public.now) c.close.result.past none (map g.G.Door.held c.args.doors))
+    subst (λ (l : List g.row.G.Denot). AreServed g.G.Link.Link (rtb c.args.public.now c.args.keys.now) c.close.result.past (map g.G.Door.held c.args.doors) (map g.G.Door.held l)) (sym is) (idle g.G.Link.Link (rtb c.args.public.now c.args.keys.now) c.close.result.past none (map g.G.Door.held c.args.doors))

@@ -6,7 +6,7 @@ use Rattle.audit.specs.Accounts.{settings_of}
 
 abbrev pub invariant-loop-self : goal.invariant-loop-self
 invariant-loop-self g l = record {
-  says : (s : State) (left : Option (List ℕ)) → IsStanding s left (g.S.Source.left l.fn.source) l.fn.self → IsStanding s left (g.S.Source.left l.source) l.self;
+  says : (s : State) (left : Option (List ℕ)) → IsStanding l.fn.keys s left (g.S.Source.left l.fn.source) l.fn.self → IsStanding l.fn.keys s left (g.S.Source.left l.source) l.self;
   settings : l.self.core.settings ≡ settings_of l.self.header;
   few : l.self.entries ≤ 4294967296;
   passed : l.self.passed ≤ l.self.entries;

@@ -1,5 +1,5 @@
 use Rattle.follower.proofs.Standing.{goes_then}
-use Rattle.std.proofs.Common.{◌∙◌, Err, Ok, ap, subst, sym}
+use Rattle.std.proofs.Common.{◌∙◌, Err, Ok, ap, arith, subst, sym}
 use Rattle.std.specs.Prelude.{Bool, Result}
 use Rattle.std.proofs.lemmas.Result.{err_from_is_err_and}
 use Rattle.follower.specs.Moving.{IsTurn, spot}
@@ -23,3 +23,6 @@ returns-then-self-gate-clause-shows g c =
     let mid = spot c.pass_into.new.self in
     shown_then _ _ _ c.in_ok-more.ensures.shows c.pass_block.ensures.shows (λ s t a b.
     turn_then s t old mid (spot c.pass_block.new.self) c.pass_block.result (subst (λ (m : Bool). IsTurn s old mid (Ok m)) c.if-more.true a) b)
+
+pub returns-then-self-gate-clause-on : goal.returns-then-self-gate-clause-on
+returns-then-self-gate-clause-on g c = λ e. omega (arith, c.pass_block.ensures.on e)

@@ -81,3 +81,6 @@ pub returns-clause-shows : goal.returns-clause-shows
 returns-clause-shows g c = λ asked.
     let i = c.loop-payload.invariant in
     read_turn c.args.self.now.gate asked c.args.read.now i.lies.0 c.loop-payload.rest.now (spot c.args.self.now) (spot c.loop-payload.self) c.is_shut.result i.lies.1 i.lies.2 c.is_shut.ensures (i.passes asked)
+
+pub returns-clause-on : goal.returns-clause-on
+returns-clause-on g c = omega (arith, c.loop-payload.invariant.lies.2)
