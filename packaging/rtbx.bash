@@ -2,7 +2,7 @@
 _rtbx() {
     local now=${COMP_WORDS[COMP_CWORD]} before=${COMP_WORDS[COMP_CWORD - 1]}
     case $before in
-    --journal | --into)
+    --journal | --into | --key | --former-key)
         mapfile -t COMPREPLY < <(compgen -f -- "$now")
         return
         ;;
@@ -12,8 +12,9 @@ _rtbx() {
         words="serve recover compact follow audit make try which --help --version"
     else
         case ${COMP_WORDS[1]} in
-        serve) words="--listen --journal --existing --public --workers --ttl --sales --patience --help --version" ;;
-        recover | audit) words="--journal --help --version" ;;
+        serve) words="--listen --journal --existing --public --key --former-key --workers --ttl --sales --patience --help --version" ;;
+        recover) words="--journal --help --version" ;;
+        audit) words="--journal --key --former-key --help --version" ;;
         compact) words="--journal --into --keep --help --version" ;;
         follow) words="--listen --journal --help --version" ;;
         make) words="trace --help --version" ;;

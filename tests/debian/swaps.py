@@ -105,18 +105,18 @@ def prepare(machine, script):
     machine.run("systemctl start rtbx")
 
 
-def set_shims(machine, fails):
+def set_shims(machine, fails, shimmed):
     for name, text in {"count": "0\n", "fails": f"{fails}\n", "calls": ""}.items():
         machine.path(f"{SHIMS}/{name}").write_text(text)
         machine.path(f"{SHIMS}/{name}").chmod(0o666)
-    for name in SHIMMED:
+    for name in shimmed:
         machine.path(f"{SHIMS}/{name}").write_text(SHIM)
         machine.path(f"{SHIMS}/{name}").chmod(0o755)
 
 
-def run_script(machine, script, fails, signal=None):
+def run_script(machine, script, fails, signal=None, shimmed=SHIMMED):
     """Runs it, and sends it a signal where it waits."""
-    set_shims(machine, fails)
+    set_shims(machine, fails, shimmed)
     if signal:
         threading.Thread(target=send, args=(machine, signal), daemon=True).start()
     line = f"echo $$ > {SHIMS}/pid; PATH={SHIMS}:$PATH exec {script.words}"

@@ -201,9 +201,11 @@ def try_by_hand(machine, program, temporary, document):
 def try_removal(machine):
     machine.run("systemctl start rtbx")
     before = machine.path(JOURNAL).read_bytes()
+    keys = [it.read_bytes() for it in machine.path("/etc").glob("rtbx/*")]
     for step, line in [("removed", "dpkg -r rtbx"), ("purged", "dpkg -P rtbx")]:
         code, said = machine.run(line)
         CHECKS.same(f"{step}: {said}", code, 0)
         CHECKS.same(f"{step}: the journal stays", machine.path(JOURNAL).read_bytes(), before)
+        CHECKS.same(f"{step}: the keys", [it.read_bytes() for it in machine.path("/etc").glob("rtbx/*")], keys if step == "removed" else [])
         CHECKS.holds(f"{step}: the service has ended", machine.run("systemctl is-active rtbx")[1].strip() in ["inactive", "unknown", "failed"])
-    CHECKS.same("purged: nothing else stays", machine.run("ls -d /etc/default/rtbx /usr/lib/rtbx /var/lib/rtbx-start 2>/dev/null")[1], "")
+    CHECKS.same("purged: nothing else stays", machine.run("ls -d /etc/default/rtbx /etc/rtbx /usr/lib/rtbx /var/lib/rtbx-start 2>/dev/null")[1], "")
