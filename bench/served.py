@@ -53,16 +53,18 @@ class Journal:
         for some in parts([post("/campaign", body) for body in campaigns]):
             self.serve([some])
 
-    def words(self, links, times=1):
-        """The words that serve it with a worker for each of the links, of which each has as many bytes, and what comes."""
+    def words(self, links, times=1, key=False):
+        """The words that serve it with a worker for each of the links, of which each has as many bytes, and what comes; with
+        a key its addresses are signed."""
         pieces = [b"".join(link) for link in links]
         if len({len(piece) for piece in pieces}) != 1:
             sys.exit("links of several lengths")
-        return [self.program, "serve", self.path, str(len(pieces[0])), str(times), str(len(links))], b"".join(pieces)
+        words = [self.program, "serve", self.path, str(len(pieces[0])), str(times), str(len(links))]
+        return words + ["key"] * key, b"".join(pieces)
 
-    def serve(self, links, times=1, **options):
+    def serve(self, links, times=1, key=False, **options):
         """How many of the messages were answered by 200."""
-        command, given = self.words(links, times)
+        command, given = self.words(links, times, key)
         done = subprocess.run(command, input=given, capture_output=True, check=True, **options)
         answers, right = (int(word.split(b"=")[1]) for word in done.stdout.split())
         if answers != times * sum(map(len, links)):

@@ -2,8 +2,8 @@
 //! with the word `then` between two:
 //!
 //! - `serve FILE EACH TIMES WORKERS`: the exchange of the journal in the file is served over links in memory, one for
-//!   each of so many workers, to each of which comes so many times what the next EACH bytes of standard input are
-//!   (`served.rt`);
+//!   each of so many workers, to each of which comes so many times what the next EACH bytes of standard input are; with the
+//!   word `key` behind it its addresses are signed (`served.rt`);
 //! - `turns WORK EACH WORKERS`: each of so many threads takes so many turns under the lock, with that many steps of
 //!   work in each (`turns.rt`);
 //! - `book CAMPAIGNS SALES`: a book with so many campaigns and so many sales, where each line of standard input is
@@ -81,18 +81,10 @@ fn run<T: Threads + Wait + Sync>(
     line: &mut Txt,
 ) -> Result<(), AllocError> {
     let name = word_at(job, 0);
-    let (one, two, three) = (number_at(job, 1), number_at(job, 2), number_at(job, 3));
     if name == b"serve".as_slice() {
-        return served::serve(
-            rt,
-            threads,
-            word_at(job, 1),
-            two,
-            three,
-            number_at(job, 4),
-            line,
-        );
+        return served::serve(rt, threads, job, line);
     }
+    let (one, two, three) = (number_at(job, 1), number_at(job, 2), number_at(job, 3));
     if name == b"turns".as_slice() {
         return turns::count(threads, rt.alloc(), one, two, three, line);
     }
@@ -143,16 +135,16 @@ fn next_bytes(rt: &HostRuntime, size: u32) -> Result<Txt, AllocError> {
     }
 }
 
-// The word at that place, or none.
-fn word_at(job: &[Txt], place: usize) -> &[u8] {
+/// The word at that place, or none.
+pub fn word_at(job: &[Txt], place: usize) -> &[u8] {
     match job.get(place) {
         Some(word) => word.as_bytes(),
         None => &[],
     }
 }
 
-// The number at that place, or 0.
-fn number_at(job: &[Txt], place: usize) -> u32 {
+/// The number at that place, or 0.
+pub fn number_at(job: &[Txt], place: usize) -> u32 {
     number_in(word_at(job, place))
         .unwrap_or(0)
         .min(4_294_967_295) as u32

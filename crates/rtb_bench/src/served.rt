@@ -4,8 +4,8 @@ ghost use Rattle.std.specs.Prelude.{◌≡◌, ◌<◌};
 ghost use Rattle.exchange_shared.specs.Seats.{MayCall, lock_of};
 ghost use Rattle.hist_lock.specs.Views.{first_seat};
 
-use crate::{next_bytes, put_number};
-use address_keys::Keys;
+use crate::{next_bytes, number_at, put_number, word_at};
+use address_keys::{Key, Keys};
 use case_lines::{kept, paired};
 use exchange_shared::{Exchange, Seat};
 use link_door::{MemDoor, MemLink, NoPause};
@@ -18,6 +18,9 @@ use std::sync::Wait;
 use std::sync::ledger::{Blank, Ledger};
 use std::thread::Threads;
 use worker_pool::serve_doors;
+
+// By which addresses are signed where a job wants it.
+const KEY: &[u8] = b"0123456789abcdefghijklmnopqrstuv";
 
 // How long a sale is held, in milliseconds.
 const TTL: u64 = 1_000;
@@ -37,29 +40,49 @@ struct Counts {
     right: u64,
 }
 
-/// Serves the exchange of the journal in the file, which may be new. Each of so many workers has so many links, one after
-/// the other, to each of which comes what the next `each` bytes of standard input are. Appends how many messages were
-/// answered, and how many of these by 200.
+/// Does the job `serve`. Each of its workers has so many links, one after the other, to each of which comes what the next
+/// `EACH` bytes of standard input are. Appends how many messages were answered, and how many of these by 200.
 pub fn serve<R: Threads + Wait + Sync>(
     rt: &HostRuntime,
     threads: &R,
-    path: &[u8],
-    each: u32,
-    times: u32,
-    workers: u32,
+    job: &[Txt],
+    line: &mut Txt,
+) -> Result<(), AllocError> {
+    let keys = keys_named(word_at(job, 5));
+    let done = serve_signed(rt, threads, &keys, job, line);
+    drop(keys);
+    done
+}
+
+// No key, where the word is not `key`.
+fn keys_named(word: &[u8]) -> Keys {
+    if word != b"key".as_slice() {
+        return Keys::none();
+    }
+    Keys {
+        key: Key::new(KEY),
+        former: None,
+    }
+}
+
+// Serves the exchange of the journal in the file, which may be new.
+fn serve_signed<R: Threads + Wait + Sync>(
+    rt: &HostRuntime,
+    threads: &R,
+    keys: &Keys,
+    job: &[Txt],
     line: &mut Txt,
 ) -> Result<(), AllocError> {
     let public = Txt::from_slice(rt.alloc(), b"http://ads.example")?;
-    let keys = Keys::none();
-    let disk = disk_of(rt, path)?;
+    let disk = disk_of(rt, word_at(job, 1))?;
     let mut doors = List::new(rt.alloc());
-    let filled = put_doors(rt, each, times, workers, &mut doors);
+    let filled = put_doors(rt, job, &mut doors);
     let doors = kept(doors, filled)?;
     serve_disk::<R, Brand>(
         threads,
         rt.alloc(),
         &public,
-        &keys,
+        keys,
         disk,
         doors,
         Blank::new(1),
@@ -78,16 +101,10 @@ fn disk_of<'a>(rt: &'a HostRuntime, path: &[u8]) -> Result<FileDisk<'a>, AllocEr
 }
 
 // A door for each worker.
-fn put_doors(
-    rt: &HostRuntime,
-    each: u32,
-    times: u32,
-    workers: u32,
-    doors: &mut List<MemDoor>,
-) -> Result<(), AllocError> {
-    for _ in 0..workers {
-        let bytes = next_bytes(rt, each)?;
-        let door = door_of(rt.alloc(), bytes.as_bytes(), times);
+fn put_doors(rt: &HostRuntime, job: &[Txt], doors: &mut List<MemDoor>) -> Result<(), AllocError> {
+    for _ in 0..number_at(job, 4) {
+        let bytes = next_bytes(rt, number_at(job, 2))?;
+        let door = door_of(rt.alloc(), bytes.as_bytes(), number_at(job, 3));
         drop(bytes);
         doors.push(door?)?;
     }

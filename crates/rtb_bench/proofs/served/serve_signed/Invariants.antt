@@ -1,4 +1,4 @@
-use Rattle.rtb_bench.proofs.served.serve.Given as goal
+use Rattle.rtb_bench.proofs.served.serve_signed.Given as goal
 
 -- the counter of steps that the blank names
 abbrev pub ghosts-serve_disk : goal.ghosts-serve_disk
