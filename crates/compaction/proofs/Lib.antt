@@ -1,4 +1,13 @@
+mod Beginning
+mod Begun
 mod Ends
 mod Files
+mod Fronts
 mod Gathered
+mod Moving
+mod Passed
+mod Showing
+mod Trimmed
 mod Users
+mod Walking
+mod Without

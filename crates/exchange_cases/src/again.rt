@@ -2,7 +2,7 @@
 use crate::fields::field;
 use crate::runs::run_over;
 use crate::told::content_after;
-use crate::worlds::{both, disk_of, world_of};
+use crate::worlds::{both, disk_of, with_last, world_of};
 use exchange_run::Outcome;
 use link_door::MemWorld;
 use rtb_num::{List, MemSink, Txt};
@@ -66,18 +66,23 @@ fn letter_of<R: Threads + Wait + Sync>(
     if journal.as_bytes() != field(args, b"journal ") {
         return Ok(b'x');
     }
-    let world = world_with(alloc, journal.as_bytes(), file.as_bytes());
+    let world = world_with(alloc, args, journal.as_bytes(), file.as_bytes());
     let ended = run_silently(rt, alloc, args, world);
     let letter = letter_in(alloc, &ended, field(args, b"whole "));
     drop(ended);
     letter
 }
 
-// A world of two disks that have these bytes.
-fn world_with(alloc: Global, journal: &[u8], file: &[u8]) -> Result<MemWorld, AllocError> {
+// A world of two disks that have these bytes, and of the one that it gives at last.
+fn world_with(
+    alloc: Global,
+    args: &[Txt],
+    journal: &[u8],
+    file: &[u8],
+) -> Result<MemWorld, AllocError> {
     let from = disk_of(alloc, journal, b"", b"");
     let into = disk_of(alloc, file, b"", b"");
-    match both(alloc, from, into) {
+    match with_last(alloc, args, b"", b"", both(alloc, from, into)) {
         Ok(disks) => Ok(MemWorld::new(
             alloc,
             List::new(alloc),

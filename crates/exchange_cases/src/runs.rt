@@ -16,12 +16,14 @@ use std::thread::Threads;
 /// in any order and as far as there are any:
 ///
 /// - `journal BYTES` and `file BYTES`: what the world's first disk has, and its second; `source BYTES`: what is read.
+/// - `later BYTES`: what the disk has that the world gives at last, where there is one; `busy N`: so many calls for it find
+///   that another writes it.
 /// - `links LINK // ..`: a door with these links, as `links.rt` says; such a field for each door, also without a link.
 /// - `key BYTES`: what the first file of a key has; a second such field is that of the next one.
 /// - `moments N ..`: those of each door, of which the last repeats; without it 1000.
-/// - `world N ..`, `disk N ..`, `disk2 N ..`, `door N ..`, `link N ..`, `reads N ..`, `writes N ..`: the numbers, from 1
+/// - `world N ..`, `disk N ..`, `disk2 N ..`, `disk3 N ..`, `door N ..`, `link N ..`, `reads N ..`, `writes N ..`: the numbers, from 1
 ///   on, of the calls that fail, of the world, the disks, the first door, each link, the source and the sink.
-/// - `stop N`, `stop2 N`: each call of that disk fails from this number on.
+/// - `stop N`, `stop2 N`, `stop3 N`: each call of that disk fails from this number on.
 /// - `held yes`: workers are held, as `pauses.rt` says.
 ///
 /// The call says what is told of it: `again` is that of `again.rt`, and the others are those of `told.rt`.

@@ -1,7 +1,8 @@
 //! What is told of a run.
 //!
 //! - `run`: the status, and what is written.
-//! - `files`: the same, and in brackets what the disks have then, each `=` where it is what it was, or `none`.
+//! - `files`: the same, and in brackets what the disks have then, each `=` where it is what it was, or `none`; of a third disk
+//!   only where it came back.
 //! - `sent`: what was sent on each link that came back, with ` / ` behind it, the status, and what is told of the journal.
 //! - `answers`: the status and the body of each answer on the links that came back, with `; ` between two, ` / ` behind
 //!   each link and `// ` behind each door, the status, and what is told of the journal. `last` tells the last of a link.
@@ -43,7 +44,8 @@ fn tell_outcome(
     }
     if call == b"files".as_slice() {
         put_written(outcome.status, written, out)?;
-        return put_files(alloc, args, &outcome.other, &outcome.disk, out);
+        put_files(alloc, args, &outcome.other, &outcome.disk, out)?;
+        return put_third(alloc, args, &outcome.last, out);
     }
     if call == b"crash".as_slice() {
         return put_crash(alloc, args, &outcome.doors, &outcome.disk, out);
@@ -76,6 +78,18 @@ fn put_files(
 ) -> Result<(), AllocError> {
     put_file(alloc, from, field(args, b"journal "), out)?;
     put_file(alloc, into, field(args, b"file "), out)
+}
+
+fn put_third(
+    alloc: Global,
+    args: &[Txt],
+    last: &Option<MemDisk>,
+    out: &mut Txt,
+) -> Result<(), AllocError> {
+    if last.is_none() {
+        return Ok(());
+    }
+    put_file(alloc, last, field(args, b"later "), out)
 }
 
 fn put_file(

@@ -1,4 +1,4 @@
-//! The world of a run, in memory: two disks, and the doors and the keys that its fields say.
+//! The world of a run, in memory: two disks or three, and the doors and the keys that its fields say.
 ghost use Rattle.std.specs.Prelude.{◌≢◌, [], IfOk};
 
 use crate::fields::{field, numbers};
@@ -19,7 +19,9 @@ pub fn world_of(alloc: Global, args: &[Txt]) -> Result<MemWorld, AllocError> {
         fails,
     ) {
         (Ok(disks), Ok(doors), Ok(keys), Ok(fails)) => {
-            Ok(MemWorld::new(alloc, doors, disks, keys, fails))
+            let mut world = MemWorld::new(alloc, doors, disks, keys, fails);
+            world.busy_for(number_in(field(args, b"busy ")).unwrap_or(0));
+            Ok(world)
         }
         _ => Err(AllocError),
     }
@@ -54,7 +56,46 @@ fn disks_of(alloc: Global, args: &[Txt]) -> Result<List<MemDisk>, AllocError> {
         field(args, b"disk2 "),
         field(args, b"stop2 "),
     );
-    both(alloc, from, into)
+    with_last(
+        alloc,
+        args,
+        field(args, b"disk3 "),
+        field(args, b"stop3 "),
+        both(alloc, from, into),
+    )
+}
+
+/// These disks, and behind them the one that the world gives at last, where the fields have one, with these calls that fail.
+pub fn with_last(
+    alloc: Global,
+    args: &[Txt],
+    fails: &[u8],
+    stop: &[u8],
+    disks: Result<List<MemDisk>, AllocError>,
+) -> Result<List<MemDisk>, AllocError> {
+    match disks {
+        Ok(disks) => {
+            let mut disks = disks;
+            let filled = put_last(alloc, args, fails, stop, &mut disks);
+            kept(disks, filled)
+        }
+        Err(AllocError) => Err(AllocError),
+    }
+}
+
+fn put_last(
+    alloc: Global,
+    args: &[Txt],
+    fails: &[u8],
+    stop: &[u8],
+    disks: &mut List<MemDisk>,
+) -> Result<(), AllocError> {
+    for arg in args {
+        if let Some(content) = arg.as_bytes().strip_prefix(b"later ".as_slice()) {
+            disks.push(disk_of(alloc, content, fails, stop)?)?;
+        }
+    }
+    Ok(())
 }
 
 /// These two disks.

@@ -80,6 +80,7 @@ module _ {World Disk Door Link : Type 0} (W : WorldGhosts World Door Disk Link) 
       let n = apart.none in
       record {
         one_disk = ap (λ (b : Back Door Disk). b.other) n;
+        no_last = ap (λ (b : Back Door Disk). b.last) n;
         serves = serve.starved apart.world (ap (λ (b : Back Door Disk). b.doors) n) (ap (λ (b : Back Door Disk). b.disk) n) (ap (λ (b : Back Door Disk). b.past) n) ends;
       }
   starved_line (line.Recover options) apart same count ends = inr (record { apart = apart; ends = ends })
@@ -94,6 +95,7 @@ module _ {World Disk Door Link : Type 0} (W : WorldGhosts World Door Disk Link) 
       record {
         no_doors = ap (λ (b : Back Door Disk). b.doors) n;
         one_disk = ap (λ (b : Back Door Disk). b.other) n;
+        no_last = ap (λ (b : Back Door Disk). b.last) n;
         no_past = ap (λ (b : Back Door Disk). b.past) n;
         audits = audit.starved apart.world same count (ap (λ (b : Back Door Disk). b.disk) n) ends;
       }

@@ -1,5 +1,6 @@
 -- A run that ends as usage is one of words that are of no command.
-use Rattle.std.proofs.Common.{◌≡◌, ◌∙◌, ℕ, List, Option, None, Some, Bool, true, false, ap, arith, inl, inr, refl, sym, Result, Ok, Err}
+use Rattle.std.proofs.Common.{◌≡◌, ◌∙◌, ℕ, List, [], Option, None, Some, Bool, true, false, ap, arith, inl, inr, refl, sym, Result, Ok, Err}
+use Rattle.std.specs.Prelude.{MatchBool}
 use Rattle.address_keys.specs.declared.keys.Keys.{Keys}
 use Rattle.audit.specs.declared.verdict.AuditFault.{AuditFault}
 use Rattle.audit.specs.declared.verdict.AuditFault.TheVariants as unsaid
@@ -22,6 +23,7 @@ use Rattle.rtb_num.specs.declared.streams.Failed.{Failed}
 use Rattle.rtb_io.specs.declared.status.Status.{Status}
 use Rattle.rtb_io.specs.declared.status.Status.TheVariants as status
 use Rattle.run_commands.specs.Audit as audit
+use Rattle.run_commands.specs.Beside as beside
 use Rattle.run_commands.specs.Compact as compact
 use Rattle.run_commands.specs.Endings.{Ends, cut_off, whole}
 use Rattle.run_commands.specs.Follow as follow
@@ -154,6 +156,24 @@ module _ {Disk : Type 0} (G : DiskGhosts Disk) where
   no_usage_compacting o a a' l l' c c' w w' code back other (compact.no_file from p q r s t ends) e = no_usage status.NoDisk _ w w' code ends (λ n. omega (arith, n)) e
   no_usage_compacting o a a' l l' c c' w w' code back other (compact.compacted from from' into into' p q r s t there done) e = no_usage_compacted done.done done.line w w' code done.ends e
 
+module _ {World Door Disk Link : Type 0} (W : WorldGhosts World Door Disk Link) (G : DiskGhosts Disk) (o : CompactOptions) where
+  no_usage_written : (v v' : World) (from from' into into' : Disk) (w w' : Option (List ℕ)) (code : ℕ) (last : Option Disk) → beside.EndsBehind W G o v v' from from' into into' w w' code last → code ≡ 2 → ⊥
+  no_usage_written v v' from from' into into' w w' code last (beside.untold p q is front r) e = omega (arith, is, e)
+  no_usage_written v v' from from' into into' w w' code last (beside.broken a p q r fault s ends) e = no_usage_compacted (Err fault) [] a w' code ends e
+  no_usage_written v v' from from' into into' w w' code last (beside.not_freed a p q r s ends) e = no_usage status.NoDisk _ a w' code ends (λ n. omega (arith, n)) e
+  no_usage_written v v' from from' into into' w w' code last (beside.freed a p d d' q r line done s ends) e = no_usage_compacted done line a w' code ends e
+
+  no_usage_beside : (v v' : World) (w w' : Option (List ℕ)) (code : ℕ) (back other last : Option Disk) → beside.RunsBeside W G o v v' w w' code back other last → code ≡ 2 → ⊥
+  no_usage_beside v v' w w' code back other last (beside.no_journal p q r s ends) e = no_usage status.NoDisk _ w w' code ends (λ n. omega (arith, n)) e
+  no_usage_beside v v' w w' code back other last (beside.no_file from between p q r s t ends) e = no_usage status.NoDisk _ w w' code ends (λ n. omega (arith, n)) e
+  no_usage_beside v v' w w' code back other last (beside.not_begun from from' into into' between p q r s t fault n ends) e = no_usage_compacted (Err fault) [] w w' code ends e
+  no_usage_beside v v' w w' code back other last (beside.begun from from' into into' between opened p q r s ends) e = no_usage_written opened v' from from' into into' w w' code last ends e
+
+-- in both forms
+no_usage_either : (b : Bool) (A B : Type 0) (code : ℕ) → (A → code ≡ 2 → ⊥) → (B → code ≡ 2 → ⊥) → MatchBool b A B → code ≡ 2 → ⊥
+no_usage_either true A B code a b h e = a h e
+no_usage_either false A B code a b h e = b h e
+
 -- ---- the run
 
 no_usage_shown : (w w' : Option (List ℕ)) (code : ℕ) → run.Shows w w' code → code ≡ 2 → ⊥
@@ -181,7 +201,9 @@ module _ {World Disk Door Link : Type 0} (W : WorldGhosts World Door Disk Link) 
   no_usage_line (line.Serve options) its e = no_usage_serving W G H K options v v' w w' code back.doors back.disk back.past its.serves e
   no_usage_line (line.Recover options) (inl its) e = no_usage_recovering G options.journal _ _ _ _ _ _ w w' code back.disk its.recovers e
   no_usage_line (line.Recover options) (inr starved) e = no_usage_starved starved e
-  no_usage_line (line.Compact options) (inl its) e = no_usage_compacting G options _ _ _ _ _ _ w w' code back.disk back.other its.compacts e
+  no_usage_line (line.Compact options) (inl its) e = no_usage_either options.beside _ _ code
+      (λ h. no_usage_beside W G options v v' w w' code back.disk back.other back.last h)
+      (λ h. no_usage_compacting G options (W.asked v) (W.asked v') (W.disks_left v) (W.disks_left v') (W.faults v) (W.faults v') w w' code back.disk back.other h.0) its.compacts e
   no_usage_line (line.Compact options) (inr starved) e = no_usage_starved starved e
   no_usage_line (line.Follow options) (inl its) e = no_usage_following W G H K options v v' w w' code back.doors back.disk its.follows e
   no_usage_line (line.Follow options) (inr starved) e = no_usage_starved starved e

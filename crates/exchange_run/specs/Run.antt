@@ -8,7 +8,7 @@ use Rattle.rtb_disk.specs.declared.disk.Disk.{Ghosts as DiskGhosts}
 use Rattle.rtb_io.specs.Statuses.{code_of}
 use Rattle.rtb_io.specs.declared.status.Status.TheVariants as status
 use Rattle.run_commands.specs.Audit.{RunsAudit}
-use Rattle.run_commands.specs.Compact.{RunsCompact}
+use Rattle.run_commands.specs.Beside.{Compacts}
 use Rattle.run_commands.specs.Endings.{Ends, EndsBy}
 use Rattle.run_commands.specs.Follow.{Follows}
 use Rattle.run_commands.specs.Make.{RunsMake}
@@ -110,10 +110,11 @@ pub record Back (Door Disk : Type 0) : Type 0 where
   pub doors : List Door
   pub disk : Option Disk
   pub other : Option Disk
+  pub last : Option Disk
   pub past : Option History
 
 abbrev pub nothing : {Door Disk : Type 0} → Back Door Disk
-nothing = record { doors = []; disk = None; other = None; past = None }
+nothing = record { doors = []; disk = None; other = None; last = None; past = None }
 
 -- nothing was asked of the world, and nothing comes back
 pub record IsApart {World Door Disk : Type 0} (w w' : World) (back : Back Door Disk) : Type 0 where
@@ -131,6 +132,7 @@ module _ {World Disk Door Link : Type 0} (W : WorldGhosts World Door Disk Link) 
     (w w' : World) (written written' : Option (List ℕ)) (code : ℕ) (back : Back Door Disk) where
   pub record IsServing (options : ServeOptions) : Type 0 where
     pub one_disk : back.other ≡ None
+    pub no_last : back.last ≡ None
     pub serves : Serves W G H K options w w' written written' code back.doors back.disk back.past
 
   -- no door was asked for, and no key
@@ -139,6 +141,7 @@ module _ {World Disk Door Link : Type 0} (W : WorldGhosts World Door Disk Link) 
     pub keys_left : W.keys_left w' ≡ W.keys_left w
     pub no_doors : back.doors ≡ []
     pub one_disk : back.other ≡ None
+    pub no_last : back.last ≡ None
     pub no_past : back.past ≡ None
     pub recovers : Recovers G options.journal (W.asked w) (W.asked w') (W.disks_left w) (W.disks_left w') (W.faults w) (W.faults w') written written' code back.disk
 
@@ -147,10 +150,11 @@ module _ {World Disk Door Link : Type 0} (W : WorldGhosts World Door Disk Link) 
     pub keys_left : W.keys_left w' ≡ W.keys_left w
     pub no_doors : back.doors ≡ []
     pub no_past : back.past ≡ None
-    pub compacts : RunsCompact G options (W.asked w) (W.asked w') (W.disks_left w) (W.disks_left w') (W.faults w) (W.faults w') written written' code back.disk back.other
+    pub compacts : Compacts W G options w w' written written' code back.disk back.other back.last
 
   pub record IsFollowing (options : FollowOptions) : Type 0 where
     pub one_disk : back.other ≡ None
+    pub no_last : back.last ≡ None
     pub no_past : back.past ≡ None
     pub follows : Follows W G H K options w w' written written' code back.doors back.disk
 
@@ -158,6 +162,7 @@ module _ {World Disk Door Link : Type 0} (W : WorldGhosts World Door Disk Link) 
   pub record IsAudit (left left' : Option (List ℕ)) (faults faults' : ℕ) (options : AuditOptions) : Type 0 where
     pub no_doors : back.doors ≡ []
     pub one_disk : back.other ≡ None
+    pub no_last : back.last ≡ None
     pub no_past : back.past ≡ None
     pub audits : RunsAudit W G options w w' left left' faults faults' written written' code back.disk
 

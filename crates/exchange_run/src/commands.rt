@@ -43,27 +43,27 @@ pub fn run<W: World, P: Pause + Sync, S: Source, K: Sink, R: Threads + Wait + Sy
 ) -> Outcome<W>
     // Each command has a clause of its own.
     ensures serves { (options : ServeOptions) → words_of words.now ≡ Some (other (asked.Serve options)) → IsServing ⟦<W as World>⟧ ⟦<W::Disk as Disk>⟧ ⟦<W::Door as Door>⟧ ⟦<<W::Door as Door>::Link as Link>⟧ world.old world.new (K.written sink.old) (K.written sink.new) result.status
-        (record { doors = result.doors; disk = result.disk; other = result.other; past = result.past }) options }
+        (record { doors = result.doors; disk = result.disk; other = result.other; last = result.last; past = result.past }) options }
     ensures recovers { (options : RecoverOptions) → words_of words.now ≡ Some (other (asked.Recover options)) → IsRecovery ⟦<W as World>⟧ ⟦<W::Disk as Disk>⟧ ⟦<W::Door as Door>⟧ ⟦<<W::Door as Door>::Link as Link>⟧ world.old world.new (K.written sink.old) (K.written sink.new) result.status
-        (record { doors = result.doors; disk = result.disk; other = result.other; past = result.past }) options ⊎ IsStarved world.old world.new (record { doors = result.doors; disk = result.disk; other = result.other; past = result.past }) (K.written sink.old) (K.written sink.new) result.status }
+        (record { doors = result.doors; disk = result.disk; other = result.other; last = result.last; past = result.past }) options ⊎ IsStarved world.old world.new (record { doors = result.doors; disk = result.disk; other = result.other; last = result.last; past = result.past }) (K.written sink.old) (K.written sink.new) result.status }
     ensures compacts { (options : CompactOptions) → words_of words.now ≡ Some (other (asked.Compact options)) → IsCompaction ⟦<W as World>⟧ ⟦<W::Disk as Disk>⟧ ⟦<W::Door as Door>⟧ ⟦<<W::Door as Door>::Link as Link>⟧ world.old world.new (K.written sink.old) (K.written sink.new) result.status
-        (record { doors = result.doors; disk = result.disk; other = result.other; past = result.past }) options ⊎ IsStarved world.old world.new (record { doors = result.doors; disk = result.disk; other = result.other; past = result.past }) (K.written sink.old) (K.written sink.new) result.status }
+        (record { doors = result.doors; disk = result.disk; other = result.other; last = result.last; past = result.past }) options ⊎ IsStarved world.old world.new (record { doors = result.doors; disk = result.disk; other = result.other; last = result.last; past = result.past }) (K.written sink.old) (K.written sink.new) result.status }
     ensures follows { (options : FollowOptions) → words_of words.now ≡ Some (other (asked.Follow options)) → IsFollowing ⟦<W as World>⟧ ⟦<W::Disk as Disk>⟧ ⟦<W::Door as Door>⟧ ⟦<<W::Door as Door>::Link as Link>⟧ world.old world.new (K.written sink.old) (K.written sink.new) result.status
-        (record { doors = result.doors; disk = result.disk; other = result.other; past = result.past }) options ⊎ IsStarved world.old world.new (record { doors = result.doors; disk = result.disk; other = result.other; past = result.past }) (K.written sink.old) (K.written sink.new) result.status }
+        (record { doors = result.doors; disk = result.disk; other = result.other; last = result.last; past = result.past }) options ⊎ IsStarved world.old world.new (record { doors = result.doors; disk = result.disk; other = result.other; last = result.last; past = result.past }) (K.written sink.old) (K.written sink.new) result.status }
     ensures audits { (options : AuditOptions) → words_of words.now ≡ Some (other (asked.Audit options)) → IsAudit ⟦<W as World>⟧ ⟦<W::Disk as Disk>⟧ ⟦<W::Door as Door>⟧ ⟦<<W::Door as Door>::Link as Link>⟧ world.old world.new (K.written sink.old) (K.written sink.new) result.status
-        (record { doors = result.doors; disk = result.disk; other = result.other; past = result.past }) (S.left source.old) (S.left source.new) (S.faults source.old) (S.faults source.new) options }
+        (record { doors = result.doors; disk = result.disk; other = result.other; last = result.last; past = result.past }) (S.left source.old) (S.left source.new) (S.faults source.old) (S.faults source.new) options }
     ensures makes { (options : MakeOptions) → words_of words.now ≡ Some (other (asked.Make options)) → IsMaking world.old world.new (K.written sink.old) (K.written sink.new) result.status
-        (record { doors = result.doors; disk = result.disk; other = result.other; past = result.past }) options }
+        (record { doors = result.doors; disk = result.disk; other = result.other; last = result.last; past = result.past }) options }
     ensures plans { words_of words.now ≡ Some (other asked.Which) → IsPlanning world.old world.new (K.written sink.old) (K.written sink.new) result.status
-        (record { doors = result.doors; disk = result.disk; other = result.other; past = result.past }) (S.left source.old) (S.left source.new) (S.faults source.old) (S.faults source.new) }
+        (record { doors = result.doors; disk = result.disk; other = result.other; last = result.last; past = result.past }) (S.left source.old) (S.left source.new) (S.faults source.old) (S.faults source.new) }
     ensures tries { names_try words.now ≡ true → IsTrying world.old world.new (K.written sink.old) (K.written sink.new) result.status
-        (record { doors = result.doors; disk = result.disk; other = result.other; past = result.past }) (S.left source.old) (S.left source.new) (S.faults source.old) (S.faults source.new) words.now }
+        (record { doors = result.doors; disk = result.disk; other = result.other; last = result.last; past = result.past }) (S.left source.old) (S.left source.new) (S.faults source.old) (S.faults source.new) words.now }
     ensures shows { (question : ALine) → IsQuestion question → words_of words.now ≡ Some (other question) → IsShown world.old world.new (K.written sink.old) (K.written sink.new) result.status
-        (record { doors = result.doors; disk = result.disk; other = result.other; past = result.past }) }
+        (record { doors = result.doors; disk = result.disk; other = result.other; last = result.last; past = result.past }) }
 
     // It is usage exactly where the words are of no command, unless the sink fails or memory is refused.
     ensures unnamed { words_of words.now ≡ None → IsUnnamed world.old world.new (K.written sink.old) (K.written sink.new) result.status
-        (record { doors = result.doors; disk = result.disk; other = result.other; past = result.past }) }
+        (record { doors = result.doors; disk = result.disk; other = result.other; last = result.last; past = result.past }) }
     ensures named { result.status ≡ code_of Usage → words_of words.now ≡ None }
 
     ensures cause { RisesOnlyWhere (result.status ≡ code_of NotWritten) (K.faults sink.old) (K.faults sink.new) }
@@ -84,7 +84,7 @@ fn run_asked<W: World, P: Pause + Sync, S: Source, K: Sink, R: Threads + Wait + 
     rt: &R,
 ) -> Outcome<W>
     ensures runs { IsOfWords ⟦<W as World>⟧ ⟦<W::Disk as Disk>⟧ ⟦<W::Door as Door>⟧ ⟦<<W::Door as Door>::Link as Link>⟧ world.old world.new (S.left source.old) (S.left source.new) (S.faults source.old) (S.faults source.new) (K.written sink.old) (K.written sink.new) result.status
-        (record { doors = result.doors; disk = result.disk; other = result.other; past = result.past }) words.now }
+        (record { doors = result.doors; disk = result.disk; other = result.other; last = result.last; past = result.past }) words.now }
     ensures named { result.status ≡ code_of Usage → words_of words.now ≡ None }
     ensures cause { RisesOnlyWhere (result.status ≡ code_of NotWritten) (K.faults sink.old) (K.faults sink.new) }
     ensures unread { takes_input words.now ≡ false → source.new ≡ source.old }
@@ -116,7 +116,7 @@ fn run_other<W: World, P: Pause + Sync, S: Source, K: Sink, R: Threads + Wait + 
 ) -> Outcome<W>
     requires { names_try words.now ≡ false }
     ensures runs { IsOfAsked ⟦<W as World>⟧ ⟦<W::Disk as Disk>⟧ ⟦<W::Door as Door>⟧ ⟦<<W::Door as Door>::Link as Link>⟧ world.old world.new (S.left source.old) (S.left source.new) (S.faults source.old) (S.faults source.new) (K.written sink.old) (K.written sink.new) result.status
-        (record { doors = result.doors; disk = result.disk; other = result.other; past = result.past }) (words_of words.now) }
+        (record { doors = result.doors; disk = result.disk; other = result.other; last = result.last; past = result.past }) (words_of words.now) }
     ensures cause { RisesOnlyWhere (result.status ≡ code_of NotWritten) (K.faults sink.old) (K.faults sink.new) }
     ensures unread { asks_which (words_of words.now) ≡ false → asks_audit (words_of words.now) ≡ false → source.new ≡ source.old }
 {
@@ -151,14 +151,14 @@ fn run_line<W: World, P: Pause + Sync, S: Source, K: Sink, R: Threads + Wait + S
     rt: &R,
 ) -> Outcome<W>
     ensures runs { IsOfLine ⟦<W as World>⟧ ⟦<W::Disk as Disk>⟧ ⟦<W::Door as Door>⟧ ⟦<<W::Door as Door>::Link as Link>⟧ world.old world.new (S.left source.old) (S.left source.new) (S.faults source.old) (S.faults source.new) (K.written sink.old) (K.written sink.new) result.status
-        (record { doors = result.doors; disk = result.disk; other = result.other; past = result.past }) line.now }
+        (record { doors = result.doors; disk = result.disk; other = result.other; last = result.last; past = result.past }) line.now }
     ensures cause { RisesOnlyWhere (result.status ≡ code_of NotWritten) (K.faults sink.old) (K.faults sink.new) }
     ensures unread { is_which line.now ≡ false → is_audit line.now ≡ false → source.new ≡ source.old }
 {
     match line {
         CommandLine::Serve(options) => serve(alloc, options, world, pause, sink, rt),
         CommandLine::Recover(options) => recover(alloc, options, world, sink),
-        CommandLine::Compact(options) => compact(alloc, options, world, sink),
+        CommandLine::Compact(options) => compact(alloc, options, world, sink, rt),
         CommandLine::Follow(options) => follow(alloc, options, world, sink, rt),
         CommandLine::Audit(options) => audit(alloc, options, world, source, sink),
         CommandLine::Make(options) => {

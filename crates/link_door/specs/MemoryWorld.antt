@@ -5,11 +5,13 @@ use Rattle.rtb_disk.specs.Memory.{DiskState, store_of}
 use Rattle.link_door.specs.Memory.{DoorState}
 use Rattle.link_door.specs.declared.asked.Asked.{Asked}
 
--- the doors, the disks and the texts of keys that are left, what was asked for, and the calls
+-- the doors, the disks and the texts of keys that are left, how many calls find a disk that another writes, what was asked
+-- for, and the calls
 pub record WorldState : Type 0 where
   pub doors : List DoorState
   pub disks : List DiskState
   pub keys : List (List ℕ)
+  pub busy : ℕ
   pub asked : List Asked
   pub calls : Calls
 

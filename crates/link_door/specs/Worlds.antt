@@ -15,3 +15,10 @@ AsksAtMost old new what = (new ≡ old) ⊎ (new ≡ old ++ what ∷ [])
 abbrev pub Asks : {T E : Type 0} → List Asked → List Asked → Asked → Result T E → Type 0
 Asks old new what (Ok given) = new ≡ old ++ what ∷ []
 Asks old new what (Err fault) = AsksAtMost old new what
+
+-- The same of a call that hands nothing out as long as it would have to wait. That leaves no note, so that what is asked for
+-- again and again stands there once.
+abbrev pub AsksAgain : {T E : Type 0} → List Asked → List Asked → Asked → Result (Option T) E → Type 0
+AsksAgain old new what (Ok None) = new ≡ old
+AsksAgain old new what (Ok (Some given)) = new ≡ old ++ what ∷ []
+AsksAgain old new what (Err fault) = AsksAtMost old new what

@@ -14,6 +14,8 @@ pub enum Asked {
     DiskThere { path: Txt },
     /// The same, to be read alone.
     DiskToRead { path: Txt },
+    /// The same, which is there, once nobody else writes it, waited for at most so many milliseconds a call.
+    DiskWhenFree { path: Txt, ms: u64 },
     /// So many doors at this address, whose links wait for their peers so many milliseconds.
     Doors { address: Txt, n: u32, patience: u64 },
     /// The text of the key with this name.
@@ -45,6 +47,19 @@ pub(crate) fn note_disk_to_read(asked: &mut List<Asked>, path: &Txt) -> Result<(
 {
     let path = path.copy()?;
     asked.push(Asked::DiskToRead { path })
+}
+
+/// Notes that a disk is asked for that nobody else writes. Where memory is refused the list is as it was.
+pub(crate) fn note_disk_when_free(
+    asked: &mut List<Asked>,
+    path: &Txt,
+    ms: u64,
+) -> Result<(), AllocError>
+    ensures ok { OnOk result (asked.new ≡ asked.old ++ asked_for.DiskWhenFree path.now ms ∷ []) }
+    ensures err { OnErr result (asked.new ≡ asked.old) }
+{
+    let path = path.copy()?;
+    asked.push(Asked::DiskWhenFree { path, ms })
 }
 
 /// Notes that the text of a key is asked for. Where memory is refused the list is as it was.

@@ -1,15 +1,18 @@
 //! A world in memory, whose calls fail as they are told to.
-ghost use Rattle.std.specs.Prelude.{◌≡◌, true, false, ◌∷◌, [], Some, Err, length, map, take, drop, ◌<◌, ◌≤◌, IfErr, IfOk, OnOk, OnErr, MatchResult};
-ghost use Rattle.rtb_base.specs.Calls.{no_calls, one_call_later};
+ghost use Rattle.std.specs.Prelude.{◌≡◌, ◌+◌, true, false, ◌∷◌, [], Some, Err, length, map, take, drop, ◌<◌, ◌≤◌, IfErr, IfOk, OnOk, OnErr, MatchOption, MatchResult};
+ghost use Rattle.rtb_base.specs.Calls.{next_fails, no_calls, one_call_later};
 ghost use Rattle.std.specs.Result.{is_err};
 ghost use Rattle.link_door.specs.MemoryWorld.{key_front, lacks, lacks_there};
 ghost use Rattle.rtb_disk.specs.Memory.{store_of};
 ghost use Rattle.rtb_base.specs.Faults.{CountsErrors, RisesOnlyWhere, RoseAtMost};
-ghost use Rattle.link_door.specs.Worlds.{Asks, HandsOut};
+ghost use Rattle.std.specs.Option.{option_to_list};
+ghost use Rattle.link_door.specs.Worlds.{Asks, AsksAgain, HandsOut};
 ghost use Rattle.link_door.specs.declared.asked.Asked.TheVariants as asked_for;
 ghost use Rattle.link_door.specs.declared.world.WorldFault.TheVariants.{Memory as memory};
 
-use crate::asked::{Asked, note_disk, note_disk_there, note_disk_to_read, note_doors, note_key};
+use crate::asked::{
+    Asked, note_disk, note_disk_there, note_disk_to_read, note_disk_when_free, note_doors, note_key,
+};
 use crate::memory_door::MemDoor;
 use crate::world::{World, WorldFault};
 use rtb_disk::MemDisk;
@@ -28,6 +31,8 @@ pub struct MemWorld {
     doors: Vec<MemDoor>,
     disks: Vec<MemDisk>,
     keys: Vec<Txt>,
+    // How many calls find a disk that another writes.
+    busy: u64,
     asked: List<Asked>,
     calls: Calls,
 }
@@ -38,7 +43,7 @@ impl Model for MemWorld {
 
     ghost Value = { WorldState };
 
-    ghost view = { λ w. record { doors = w.doors.items; disks = w.disks.items; keys = map key_front w.keys.items; asked = w.asked; calls = w.calls } };
+    ghost view = { λ w. record { doors = w.doors.items; disks = w.disks.items; keys = map key_front w.keys.items; busy = w.busy; asked = w.asked; calls = w.calls } };
 }
 
 impl MemWorld {
@@ -50,15 +55,23 @@ impl MemWorld {
         keys: List<Txt>,
         fails: List<u64>,
     ) -> MemWorld
-        ensures { result ≡ record { doors = doors; disks = disks; keys = map key_front keys; asked = []; calls = no_calls fails } }
+        ensures { result ≡ record { doors = doors; disks = disks; keys = map key_front keys; busy = 0; asked = []; calls = no_calls fails } }
     {
         MemWorld {
             doors: doors.into_vec(),
             disks: disks.into_vec(),
             keys: keys.into_vec(),
+            busy: 0,
             asked: List::new(alloc),
             calls: Calls::new(fails),
         }
+    }
+
+    /// So many calls of `disk_when_free` find that another writes the disk.
+    pub fn busy_for(&mut self, calls: u64)
+        ensures { self.new ≡ record self.old { busy = calls } }
+    {
+        self.busy = calls;
     }
 
     /// What it was asked for so far, in order.
@@ -168,6 +181,33 @@ impl World for MemWorld {
             return Err(Failed);
         }
         Ok(take_first(&mut self.disks))
+    }
+
+    fn disk_when_free(&mut self, path: &Txt, ms: u64) -> Result<Option<MemDisk>, Failed>
+        ensures disks { MatchResult result (λ disk. HandsOut (Some self.old.disks) (Some self.new.disks) (option_to_list disk)) (λ _. self.new.disks ≡ self.old.disks) }
+        ensures doors { self.new.doors ≡ self.old.doors }
+        ensures keys { self.new.keys ≡ self.old.keys }
+        ensures asks { AsksAgain self.old.asked self.new.asked (asked_for.DiskWhenFree path.now ms) result }
+        ensures cause { CountsErrors self.old.calls.faults self.new.calls.faults result }
+
+        // A call fails where it is told to, and where none is left. Before one is handed out so many find it written by another.
+        ensures told { OnOk result (next_fails self.old.calls ≡ false) }
+        ensures busy { MatchResult result (λ disk. MatchOption disk (self.old.busy ≡ self.new.busy + 1) (λ _. (self.old.busy ≡ 0) × (self.new.busy ≡ 0))) (λ _. self.new.busy ≡ self.old.busy) }
+        ensures calls { self.new.calls ≡ one_call_later self.old.calls (is_err result) }
+    {
+        if self.calls.begin() {
+            self.calls.count_fault();
+            return Err(Failed);
+        }
+        if self.busy > 0 {
+            self.busy -= 1;
+            return Ok(None);
+        }
+        if self.disks.is_empty() || note_disk_when_free(&mut self.asked, path, ms).is_err() {
+            self.calls.count_fault();
+            return Err(Failed);
+        }
+        Ok(Some(take_first(&mut self.disks)))
     }
 
     fn key(&mut self, path: &Txt) -> Result<Txt, Failed>

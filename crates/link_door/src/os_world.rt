@@ -2,16 +2,19 @@
 ghost use Rattle.std.specs.Prelude.{◌≡◌, ◌≤◌, [], None, length, IfOk, IfSome};
 ghost use Rattle.rtb_base.specs.Faults.{one_more};
 
-use crate::asked::{Asked, note_disk, note_disk_there, note_disk_to_read, note_doors, note_key};
+use crate::asked::{
+    Asked, note_disk, note_disk_there, note_disk_to_read, note_disk_when_free, note_doors, note_key,
+};
 use crate::tcp::TcpDoor;
 use crate::world::{World, WorldFault};
 use rtb_disk::{Disk, FileDisk};
 use rtb_num::{Failed, List, Txt};
 use std::alloc::{AllocError, Global};
-use std::io;
+use std::fs::{OpenOptions, TryLockError};
 use std::net::{TcpListener, ToSocketAddrs};
 use std::sync::Wait;
 use std::time::Duration;
+use std::{io, thread};
 
 /// The network, the files and the clock of the system.
 ///
@@ -118,6 +121,20 @@ impl<'r, R: Wait + Sync> World for OsWorld<'r, R> {
         Err(Failed)
     }
 
+    fn disk_when_free(&mut self, path: &Txt, ms: u64) -> Result<Option<FileDisk<'r>>, Failed> {
+        match open_when_free(self.rt, path, ms) {
+            Ok(None) => return Ok(None),
+            Ok(Some(disk)) => {
+                if note_disk_when_free(&mut self.asked, path, ms).is_ok() {
+                    return Ok(Some(disk));
+                }
+            }
+            Err(Failed) => {}
+        }
+        self.count_fault();
+        Err(Failed)
+    }
+
     fn key(&mut self, path: &Txt) -> Result<Txt, Failed> {
         if note_key(&mut self.asked, path).is_ok() {
             if let Some(text) = text_of_key(self.rt, path) {
@@ -198,6 +215,50 @@ fn open_there<'r>(rt: &'r HostRuntime, path: &Txt) -> Option<FileDisk<'r>> {
 fn open_to_read<'r>(rt: &'r HostRuntime, path: &Txt) -> Option<FileDisk<'r>> {
     let path = str::from_utf8(path.as_bytes()).ok()?;
     FileDisk::open_to_read(rt, path).ok()
+}
+
+// How many milliseconds it waits before it looks at a lock again.
+const LOOK: u64 = 5;
+
+// The file, which is there, for this process alone, once no other has it so. None where one has it still behind so many
+// milliseconds.
+fn open_when_free<'r>(
+    rt: &'r HostRuntime,
+    path: &Txt,
+    ms: u64,
+) -> Result<Option<FileDisk<'r>>, Failed> {
+    for place in 0..ms / LOOK + 1 {
+        if !is_taken(rt, path) {
+            return open_free(rt, path);
+        }
+        pause(rt, ms - place * LOOK);
+    }
+    Ok(None)
+}
+
+// Waits as long as that, or until the lock is looked at again.
+fn pause(rt: &HostRuntime, left: u64) {
+    thread::sleep(rt, Duration::from_millis(left.min(LOOK)));
+}
+
+// The file, which nobody else had a moment ago. Who has taken it since is waited for as well.
+fn open_free<'r>(rt: &'r HostRuntime, path: &Txt) -> Result<Option<FileDisk<'r>>, Failed> {
+    match open_there(rt, path) {
+        Some(disk) => Ok(Some(disk)),
+        None if is_taken(rt, path) => Ok(None),
+        None => Err(Failed),
+    }
+}
+
+// Whether another has the lock of the file. No word is said of it, as where a disk is opened in vain.
+fn is_taken(rt: &HostRuntime, path: &Txt) -> bool {
+    let Ok(path) = str::from_utf8(path.as_bytes()) else {
+        return false;
+    };
+    match OpenOptions::new().read(true).write(true).open(rt, path) {
+        Ok(file) => matches!(file.try_lock(), Err(TryLockError::WouldBlock)),
+        Err(_) => false,
+    }
 }
 
 // As many bytes of a key's file are read: one more than a key has tells that it is too long.

@@ -1,7 +1,8 @@
 //! The outside of a program: where its doors, disks and keys come from.
 ghost use Rattle.std.specs.Prelude.{◌≡◌, ◌<◌, ◌≤◌, ℕ, ◌∷◌, [], Err, true, length, List, Option, IfOk, MatchResult};
 ghost use Rattle.rtb_base.specs.Faults.{CountsErrors, RisesOnlyWhere, RoseAtMost};
-ghost use Rattle.link_door.specs.Worlds.{Asks, HandsOut};
+ghost use Rattle.std.specs.Option.{option_to_list};
+ghost use Rattle.link_door.specs.Worlds.{Asks, AsksAgain, HandsOut};
 ghost use Rattle.link_door.specs.declared.asked.Asked.{Asked};
 ghost use Rattle.link_door.specs.declared.asked.Asked.TheVariants as asked_for;
 ghost use Rattle.link_door.specs.declared.world.WorldFault.TheVariants.{Memory as memory};
@@ -90,6 +91,15 @@ pub trait World {
         ensures doors { doors_left self.new ≡ doors_left self.old }
         ensures keys { keys_left self.new ≡ keys_left self.old }
         ensures asks { Asks (asked self.old) (asked self.new) (asked_for.DiskThere path.now) result }
+        ensures cause { CountsErrors (faults self.old) (faults self.new) result };
+
+    /// The disk with this name, which is there with something in it, once nobody else has it to be written, for which it waits
+    /// so many milliseconds at most. None where another has it still.
+    fn disk_when_free(&mut self, path: &Txt, ms: u64) -> Result<Option<Self::Disk>, Failed>
+        ensures disks { MatchResult result (λ disk. HandsOut (disks_left self.old) (disks_left self.new) (option_to_list disk)) (λ _. disks_left self.new ≡ disks_left self.old) }
+        ensures doors { doors_left self.new ≡ doors_left self.old }
+        ensures keys { keys_left self.new ≡ keys_left self.old }
+        ensures asks { AsksAgain (asked self.old) (asked self.new) (asked_for.DiskWhenFree path.now ms) result }
         ensures cause { CountsErrors (faults self.old) (faults self.new) result };
 
     /// The text of the key with this name: its first 65 bytes at most, one more than a key has.

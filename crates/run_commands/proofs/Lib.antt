@@ -1,3 +1,4 @@
+mod Following
 mod Giving
 mod Handing
 mod Making

@@ -1,4 +1,5 @@
 pub mod Audit
+pub mod Beside
 pub mod Compact
 pub mod Endings
 pub mod Follow
@@ -9,3 +10,4 @@ pub mod Recover
 pub mod Serve
 pub mod Served
 pub mod Tokens
+pub mod Turns

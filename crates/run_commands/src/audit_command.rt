@@ -36,6 +36,7 @@ pub fn audit<W: World, S: Source, K: Sink>(
     ensures audits { RunsAudit ⟦<W as World>⟧ ⟦<W::Disk as Disk>⟧ options.now world.old world.new (S.left source.old) (S.left source.new) (S.faults source.old) (S.faults source.new) (K.written sink.old) (K.written sink.new) result.status result.disk }
     ensures doors { result.doors ≡ [] }
     ensures other { result.other ≡ None }
+    ensures last { result.last ≡ None }
     ensures past { result.past ≡ None }
     ensures cause { RisesOnlyWhere (result.status ≡ code_of NotWritten) (K.faults sink.old) (K.faults sink.new) }
 {
@@ -64,6 +65,7 @@ fn audit_journal<W: World, S: Source, K: Sink>(
     ensures audits { RunsAuditWith ⟦<W as World>⟧ ⟦<W::Disk as Disk>⟧ path.now keys.now world.old world.new (S.left source.old) (S.left source.new) (S.faults source.old) (S.faults source.new) (K.written sink.old) (K.written sink.new) result.status result.disk }
     ensures doors { result.doors ≡ [] }
     ensures other { result.other ≡ None }
+    ensures last { result.last ≡ None }
     ensures past { result.past ≡ None }
     ensures cause { RisesOnlyWhere (result.status ≡ code_of NotWritten) (K.faults sink.old) (K.faults sink.new) }
 {

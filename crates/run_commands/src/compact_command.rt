@@ -6,9 +6,11 @@ ghost use Rattle.link_door.specs.declared.asked.Asked.TheVariants as asked_for;
 ghost use Rattle.rtb_base.specs.Faults.{RisesOnlyWhere};
 ghost use Rattle.rtb_io.specs.Statuses.{code_of};
 ghost use Rattle.rtb_io.specs.declared.status.Status.TheVariants.{NotWritten};
+ghost use Rattle.run_commands.specs.Beside.{Compacts};
 ghost use Rattle.run_commands.specs.Given.{IsThere};
 ghost use Rattle.run_commands.specs.Compact.{CompactsInto, EndsCompacted, RunsCompact};
 
+use crate::beside_command::compact_beside;
 use crate::journals::end_at;
 use crate::outcome::Outcome;
 use crate::status_lines::{end_with, tell};
@@ -19,20 +21,46 @@ use rtb_io::Status;
 use rtb_num::{Failed, Sink, Txt};
 use run_words::CompactOptions;
 use std::alloc::Global;
+use std::sync::Wait;
 
 /// Runs the command `compact`: reads the journal, forgets its oldest sales but for so many, writes the exchange that is
 /// left to another file as a journal, and prints how many sales are in its list and how many are forgotten.
 ///
+/// With `--beside` another program may write the journal meanwhile. What is kept is written, then a line says that it
+/// follows, and each block that the journal gains is written behind it, until nobody else writes the journal.
+///
 /// It ends with status 0, or 4 where the world gave no disk for one of them, as where the journal is not there, 5 where the journal's disk failed, 6 where
 /// the journal is damaged, 12 where the other file has something in it, 13 where its disk failed, or 9 for want of
 /// memory, each with a line of its own; and in place of each of them 7, where the sink failed.
-pub fn compact<W: World, K: Sink>(
+pub fn compact<W: World, K: Sink, R: Wait>(
+    alloc: Global,
+    options: &CompactOptions,
+    world: &mut W,
+    sink: &mut K,
+    rt: &R,
+) -> Outcome<W>
+    ensures compacts { Compacts ⟦<W as World>⟧ ⟦<W::Disk as Disk>⟧ options.now world.old world.new (K.written sink.old) (K.written sink.new) result.status result.disk result.other result.last }
+    ensures doors { result.doors ≡ [] }
+    ensures past { result.past ≡ None }
+    ensures others { W.doors_left world.new ≡ W.doors_left world.old }
+    ensures keys { W.keys_left world.new ≡ W.keys_left world.old }
+    ensures cause { RisesOnlyWhere (result.status ≡ code_of NotWritten) (K.faults sink.old) (K.faults sink.new) }
+{
+    if options.beside {
+        return compact_beside(alloc, options, world, sink, rt);
+    }
+    compact_alone(alloc, options, world, sink)
+}
+
+// The same, where nobody else has the journal.
+fn compact_alone<W: World, K: Sink>(
     alloc: Global,
     options: &CompactOptions,
     world: &mut W,
     sink: &mut K,
 ) -> Outcome<W>
     ensures compacts { RunsCompact ⟦<W::Disk as Disk>⟧ options.now (W.asked world.old) (W.asked world.new) (W.disks_left world.old) (W.disks_left world.new) (W.faults world.old) (W.faults world.new) (K.written sink.old) (K.written sink.new) result.status result.disk result.other }
+    ensures last { result.last ≡ None }
     ensures doors { result.doors ≡ [] }
     ensures past { result.past ≡ None }
     ensures others { W.doors_left world.new ≡ W.doors_left world.old }
@@ -54,6 +82,7 @@ fn compact_from<W: World, K: Sink>(
     from: W::Disk,
 ) -> Outcome<W>
     ensures compacts { (disks : Option (List W.Disk)) (asked : List Asked) → HandsOut disks (W.disks_left world.old) (from ∷ []) → W.asked world.old ≡ asked ++ asked_for.DiskThere options.now.journal ∷ [] → IsThere (W.Disk.store from) → RunsCompact ⟦<W::Disk as Disk>⟧ options.now asked (W.asked world.new) disks (W.disks_left world.new) (W.faults world.old) (W.faults world.new) (K.written sink.old) (K.written sink.new) result.status result.disk result.other }
+    ensures last { result.last ≡ None }
     ensures doors { result.doors ≡ [] }
     ensures past { result.past ≡ None }
     ensures others { W.doors_left world.new ≡ W.doors_left world.old }
@@ -98,8 +127,8 @@ fn compact_disks<D: Disk, K: Sink>(
     }
 }
 
-// Writes the line, or that of the fault.
-fn end_compaction<K: Sink>(
+/// Writes the line, or that of the fault.
+pub(crate) fn end_compaction<K: Sink>(
     alloc: Global,
     done: Result<(), CompactionFault>,
     line: &Txt,

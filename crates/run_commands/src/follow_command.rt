@@ -37,6 +37,7 @@ pub fn follow<W: World, K: Sink, R: Wait>(
 ) -> Outcome<W>
     ensures follows { Follows ⟦<W as World>⟧ ⟦<W::Disk as Disk>⟧ ⟦<W::Door as Door>⟧ ⟦<<W::Door as Door>::Link as Link>⟧ options.now world.old world.new (K.written sink.old) (K.written sink.new) result.status result.doors result.disk }
     ensures other { result.other ≡ None }
+    ensures last { result.last ≡ None }
     ensures past { result.past ≡ None }
     ensures cause { RisesOnlyWhere (result.status ≡ code_of NotWritten) (K.faults sink.old) (K.faults sink.new) }
 {
@@ -61,6 +62,7 @@ fn follow_disk<W: World, K: Sink, R: Wait>(
     ensures follows { (before : W) → GivesDiskToRead ⟦<W as World>⟧ options.now.journal before world.old disk
         → Follows ⟦<W as World>⟧ ⟦<W::Disk as Disk>⟧ ⟦<W::Door as Door>⟧ ⟦<<W::Door as Door>::Link as Link>⟧ options.now before world.new (K.written sink.old) (K.written sink.new) result.status result.doors result.disk }
     ensures other { result.other ≡ None }
+    ensures last { result.last ≡ None }
     ensures past { result.past ≡ None }
     ensures cause { RisesOnlyWhere (result.status ≡ code_of NotWritten) (K.faults sink.old) (K.faults sink.new) }
 {

@@ -2,6 +2,7 @@
 #![tactic(auto)]
 
 mod audit_command;
+mod beside_command;
 mod compact_command;
 mod follow_command;
 mod journals;

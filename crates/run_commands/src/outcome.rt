@@ -20,6 +20,8 @@ pub struct Outcome<W: World> {
     pub disk: Option<W::Disk>,
     /// The disk of the journal that `compact` reads.
     pub other: Option<W::Disk>,
+    /// The same, once nobody else writes it, of `compact` beside a server.
+    pub last: Option<W::Disk>,
     /// The history of the exchange, where `serve` opened one.
     pub past: Option<Past<ExchangeState<W::Disk>>>,
 }
@@ -31,6 +33,7 @@ impl<W: World> Outcome<W> {
         ensures doors { result.doors ≡ [] }
         ensures disk { result.disk ≡ None }
         ensures other { result.other ≡ None }
+        ensures last { result.last ≡ None }
         ensures past { result.past ≡ None }
     {
         Outcome {
@@ -38,6 +41,7 @@ impl<W: World> Outcome<W> {
             doors: List::new(alloc),
             disk: None,
             other: None,
+            last: None,
             past: None,
         }
     }
@@ -48,6 +52,7 @@ impl<W: World> Outcome<W> {
         ensures doors { result.doors ≡ [] }
         ensures disk { result.disk ≡ Some disk }
         ensures other { result.other ≡ None }
+        ensures last { result.last ≡ None }
         ensures past { result.past ≡ None }
     {
         Outcome {
@@ -55,6 +60,7 @@ impl<W: World> Outcome<W> {
             doors: List::new(alloc),
             disk: Some(disk),
             other: None,
+            last: None,
             past: None,
         }
     }
@@ -70,6 +76,7 @@ impl<W: World> Outcome<W> {
         ensures doors { result.doors ≡ [] }
         ensures disk { result.disk ≡ disk }
         ensures other { result.other ≡ Some other }
+        ensures last { result.last ≡ None }
         ensures past { result.past ≡ None }
     {
         Outcome {
@@ -77,6 +84,33 @@ impl<W: World> Outcome<W> {
             doors: List::new(alloc),
             disk,
             other: Some(other),
+            last: None,
+            past: None,
+        }
+    }
+
+    /// A run that was handed out the disk of a journal to read, one to write, and that of the journal once more or not, and
+    /// no door.
+    pub fn with_last(
+        alloc: Global,
+        status: Status,
+        other: W::Disk,
+        disk: W::Disk,
+        last: Option<W::Disk>,
+    ) -> Outcome<W>
+        ensures status { result.status ≡ code_of status }
+        ensures doors { result.doors ≡ [] }
+        ensures disk { result.disk ≡ Some disk }
+        ensures other { result.other ≡ Some other }
+        ensures last { result.last ≡ last }
+        ensures past { result.past ≡ None }
+    {
+        Outcome {
+            status: status.code(),
+            doors: List::new(alloc),
+            disk: Some(disk),
+            other: Some(other),
+            last,
             past: None,
         }
     }
@@ -87,6 +121,7 @@ impl<W: World> Outcome<W> {
         ensures doors { result.doors ≡ doors }
         ensures disk { result.disk ≡ Some disk }
         ensures other { result.other ≡ None }
+        ensures last { result.last ≡ None }
         ensures past { result.past ≡ None }
     {
         Outcome {
@@ -94,6 +129,7 @@ impl<W: World> Outcome<W> {
             doors,
             disk: Some(disk),
             other: None,
+            last: None,
             past: None,
         }
     }
@@ -109,6 +145,7 @@ impl<W: World> Outcome<W> {
         ensures doors { result.doors ≡ doors }
         ensures disk { result.disk ≡ Some disk }
         ensures other { result.other ≡ None }
+        ensures last { result.last ≡ None }
         ensures past { result.past ≡ Some past }
     {
         Outcome {
@@ -116,6 +153,7 @@ impl<W: World> Outcome<W> {
             doors,
             disk: Some(disk),
             other: None,
+            last: None,
             past: Some(past),
         }
     }

@@ -34,6 +34,7 @@ pub fn recover<W: World, K: Sink>(
     ensures recovers { Recovers ⟦<W::Disk as Disk>⟧ options.now.journal (W.asked world.old) (W.asked world.new) (W.disks_left world.old) (W.disks_left world.new) (W.faults world.old) (W.faults world.new) (K.written sink.old) (K.written sink.new) result.status result.disk }
     ensures doors { result.doors ≡ [] }
     ensures other { result.other ≡ None }
+    ensures last { result.last ≡ None }
     ensures past { result.past ≡ None }
     ensures others { W.doors_left world.new ≡ W.doors_left world.old }
     ensures keys { W.keys_left world.new ≡ W.keys_left world.old }

@@ -57,6 +57,7 @@ pub fn serve<W: World, P: Pause + Sync, K: Sink, R: Threads + Wait + Sync>(
 ) -> Outcome<W>
     ensures serves { Serves ⟦<W as World>⟧ ⟦<W::Disk as Disk>⟧ ⟦<W::Door as Door>⟧ ⟦<<W::Door as Door>::Link as Link>⟧ options.now world.old world.new (K.written sink.old) (K.written sink.new) result.status result.doors result.disk result.past }
     ensures other { result.other ≡ None }
+    ensures last { result.last ≡ None }
     ensures cause { RisesOnlyWhere (result.status ≡ code_of NotWritten) (K.faults sink.old) (K.faults sink.new) }
 {
     match first_line(alloc, options) {
@@ -82,6 +83,7 @@ fn serve_keys<W: World, P: Pause + Sync, K: Sink, R: Threads + Wait + Sync>(
     requires line { line.now ≡ first_line options.now }
     ensures serves { Serves ⟦<W as World>⟧ ⟦<W::Disk as Disk>⟧ ⟦<W::Door as Door>⟧ ⟦<<W::Door as Door>::Link as Link>⟧ options.now world.old world.new (K.written sink.old) (K.written sink.new) result.status result.doors result.disk result.past }
     ensures other { result.other ≡ None }
+    ensures last { result.last ≡ None }
     ensures cause { RisesOnlyWhere (result.status ≡ code_of NotWritten) (K.faults sink.old) (K.faults sink.new) }
 {
     match read_keys(world, &options.key, &options.former_key) {
@@ -146,6 +148,7 @@ fn serve_journal<'a, W: World, P: Pause + Sync, K: Sink, R: Threads + Wait + Syn
     requires line { tools.now.line.now ≡ first_line tools.now.options.now }
     ensures serves { ServesWith ⟦<W as World>⟧ ⟦<W::Disk as Disk>⟧ ⟦<W::Door as Door>⟧ ⟦<<W::Door as Door>::Link as Link>⟧ tools.now.options.now tools.now.keys.now world.old world.new (K.written sink.old) (K.written sink.new) result.status result.doors result.disk result.past }
     ensures other { result.other ≡ None }
+    ensures last { result.last ≡ None }
     ensures cause { RisesOnlyWhere (result.status ≡ code_of NotWritten) (K.faults sink.old) (K.faults sink.new) }
 {
     match journal_disk(tools.options, world) {
@@ -178,6 +181,7 @@ fn serve_disk<'a, W: World, P: Pause + Sync, K: Sink, R: Threads + Wait + Sync>(
     ensures serves { (before : W) → GivesJournal ⟦<W as World>⟧ ⟦<W::Disk as Disk>⟧ tools.now.options.now.existing tools.now.options.now.journal before world.old disk
         → ServesWith ⟦<W as World>⟧ ⟦<W::Disk as Disk>⟧ ⟦<W::Door as Door>⟧ ⟦<<W::Door as Door>::Link as Link>⟧ tools.now.options.now tools.now.keys.now before world.new (K.written sink.old) (K.written sink.new) result.status result.doors result.disk result.past }
     ensures other { result.other ≡ None }
+    ensures last { result.last ≡ None }
     ensures cause { RisesOnlyWhere (result.status ≡ code_of NotWritten) (K.faults sink.old) (K.faults sink.new) }
 {
     match open::<W::Disk, Brand>(tools.alloc, disk, tools.options, Blank::new(1)) {
@@ -223,6 +227,7 @@ fn serve_exchange<'a, W: World, P: Pause + Sync, K: Sink, R: Threads + Wait + Sy
         → IsOriginOver (W.Disk.store disk) (W.Disk.faults disk) (settings_of tools.now.options.now) seat.origin
         → ServesWith ⟦<W as World>⟧ ⟦<W::Disk as Disk>⟧ ⟦<W::Door as Door>⟧ ⟦<<W::Door as Door>::Link as Link>⟧ tools.now.options.now tools.now.keys.now before world.new (K.written sink.old) (K.written sink.new) result.status result.doors result.disk result.past }
     ensures other { result.other ≡ None }
+    ensures last { result.last ≡ None }
     ensures cause { RisesOnlyWhere (result.status ≡ code_of NotWritten) (K.faults sink.old) (K.faults sink.new) }
 {
     let workers = workers_of(tools.options);

@@ -6,8 +6,8 @@ ghost use Rattle.run_words.specs.Compact.{compact_app, compact_of, compact_optio
 ghost use Rattle.run_words.specs.declared.fault.WordsFault.TheVariants.{Usage};
 
 use crate::fault::WordsFault;
-use crate::matched::{match_words, number, option_text};
-use crate::options::{number_option, text_option};
+use crate::matched::{flag, match_words, number, option_text};
+use crate::options::{flag_option, number_option, text_option};
 use crate::texts::texts;
 use clap::{Arg, ArgMatches, Command};
 use rtb_num::Txt;
@@ -20,8 +20,10 @@ pub struct CompactOptions {
     pub journal: Txt,
     /// The path of the journal that is written, another than that.
     pub into: Txt,
-    /// How many sales stay in the list at least: 0 to 4,194,304.
+    /// How many sales stay in the list at least: 0 to 67,108,864.
     pub keep: u64,
+    /// Whether the journal may be written by another program meanwhile.
+    pub beside: bool,
 }
 
 /// The options that the words give, of which the first is the command's name.
@@ -54,11 +56,13 @@ fn options(alloc: Global, matches: &ArgMatches<'_>) -> Result<CompactOptions, Wo
     if journal.as_bytes() == into.as_bytes() {
         return Err(WordsFault::Usage);
     }
+    let beside = flag(matches, "beside");
     match number(matches, "keep") {
         Some(keep) => Ok(CompactOptions {
             journal,
             into,
             keep,
+            beside,
         }),
         None => Err(WordsFault::Usage),
     }
@@ -74,6 +78,9 @@ const MAX_KEEP: u64 = 67_108_864;
 
 const KEEP_HELP: &str = "How many of the latest sales stay in any case, as 1000000, up to 67108864";
 
+const BESIDE_HELP: &str =
+    "The journal may be served meanwhile: what it gains is written behind, until its server ends";
+
 /// The command, as `clap` reads it.
 pub(crate) fn compact_command<'a>(alloc: Global) -> Result<Command<'a>, AllocError>
     ensures { IfOk result (λ c. app_of c ≡ compact_app) }
@@ -81,7 +88,8 @@ pub(crate) fn compact_command<'a>(alloc: Global) -> Result<Command<'a>, AllocErr
     let journal = text_option(alloc, "journal", JOURNAL_HELP);
     let into = text_option(alloc, "into", INTO_HELP);
     let keep = keep_option(alloc);
-    let options = vec![in alloc; journal, into, keep]?;
+    let beside = flag_option(alloc, "beside", BESIDE_HELP);
+    let options = vec![in alloc; journal, into, keep, beside]?;
     Command::new(alloc, "compact").args(options)
 }
 

@@ -98,8 +98,9 @@ Example:
   rtbx recover --journal exchange.journal";
 
 const COMPACT_END: &str = "\
-Example:
-  rtbx compact --journal exchange.journal --into compacted.journal --keep 1000000";
+Examples:
+  rtbx compact --journal exchange.journal --into compacted.journal --keep 1000000
+  rtbx compact --journal exchange.journal --into compacted.journal --beside";
 
 const FOLLOW_END: &str = "\
 Example:

@@ -1,32 +1,26 @@
-use Rattle.std.proofs.Common.{◌≡◌, ◌∙◌, sym, subst}
+use Rattle.std.proofs.Common.{◌≡◌, subst}
 use Rattle.std.specs.Prelude.{Err}
-use Rattle.compaction.specs.Writing.{Writes}
-use Rattle.compaction.specs.declared.fault.WriteFault.TheVariants as write
+use Rattle.compaction.specs.declared.fault.CompactionFault.TheVariants.{WriteFailed}
 use Rattle.journal_file.specs.Compaction.{store_written}
+use Rattle.plain_exchange.specs.Effects.{kept_effects}
 use Rattle.rtb_base.specs.Faults.{RisesOnlyWhere}
-use Rattle.compaction.proofs.Files.{begun, not_begun, not_unread, same_cause, told_as}
+use Rattle.compaction.proofs.Files.{as_answer, not_written, written}
 use Rattle.compaction.proofs.writing.write_exchange.Goals as goal
+
+pub begin_file-requires : goal.begin_file-requires
+begin_file-requires g c = record { users = c.requires.writable.users }
 
 pub returns-in-Ok-clause-writes : goal.returns-in-Ok-clause-writes
 returns-in-Ok-clause-writes g c = λ told.
-    let state = c.args.core.now.state in
-    let old = g.D.Disk.store c.args.disk in
-    let new = g.D.Disk.store c.write_file-disk.result.0 in
-    let h = c.in-Ok.ensures in
-    let taken = h.accepted told in
-    subst (λ done. Writes state old new done) (sym c.done_by.ensures) (begun state old (store_written c.in-Ok.file) new c.write_file-disk.result.1 taken (h.any_moment told taken) (c.write_file-disk.ensures.fills (h.begun told)))
-
-pub returns-in-Ok-clause-line : goal.returns-in-Ok-clause-line
-returns-in-Ok-clause-line g c = told_as _ c.write_file-disk.result.1 c.done_by.result c.done_by.ensures c.write_file-disk.ensures.line
-
-pub returns-in-Ok-clause-read : goal.returns-in-Ok-clause-read
-returns-in-Ok-clause-read g c = λ fault e. not_unread c.write_file-disk.result.1 fault (sym c.done_by.ensures ∙ e)
+    let b = c.in-Ok.ensures.begins told in
+    written c.args.core.now.state b.1.payloads (g.D.Disk.store c.args.disk) (store_written c.in-Ok.file) (g.D.Disk.store c.finish_file.result.0) c.requires.writable b.1.text b.0 b.2 c.finish_file.result.1 (c.finish_file.ensures.closes b.1.payloads b.1.adds)
 
 pub returns-in-Ok-clause-cause : goal.returns-in-Ok-clause-cause
-returns-in-Ok-clause-cause g c =
-    same_cause c.write_file-disk.result.1 c.done_by.result (g.D.Disk.faults c.args.disk) (g.D.Disk.faults c.write_file-disk.result.0) c.done_by.ensures
-    (subst (λ n. RisesOnlyWhere (c.write_file-disk.result.1 ≡ Err write.DiskFailed) n (g.D.Disk.faults c.write_file-disk.result.0)) c.in-Ok.ensures.cause c.write_file-disk.ensures.cause)
+returns-in-Ok-clause-cause g c = subst (λ n. RisesOnlyWhere (c.finish_file.result.1 ≡ Err WriteFailed) n (g.D.Disk.faults c.finish_file.result.0)) c.in-Ok.ensures.cause c.finish_file.ensures.cause
 
-pub returns-in-Err-default-DiskFailed-clause-writes : goal.returns-in-Err-default-DiskFailed-clause-writes
-returns-in-Err-default-DiskFailed-clause-writes g c = λ told.
-    not_begun c.args.core.now.state (g.D.Disk.store c.args.disk) (g.D.Disk.store c.in-Err-default-DiskFailed.disk) (c.in-Err-default-DiskFailed.ensures.others told) (c.in-Err-default-DiskFailed.ensures.any_moment told)
+pub returns-in-Err-clause-writes : goal.returns-in-Err-clause-writes
+returns-in-Err-clause-writes g c = λ told.
+    not_written g.D.Disk c.args.core.now.state (kept_effects c.args.core.now.state) (g.D.Disk.store c.args.disk) c.in-Err.disk c.in-Err.fault (c.in-Err.ensures.begins told)
+
+pub returns-in-Err-clause-cause : goal.returns-in-Err-clause-cause
+returns-in-Err-clause-cause g c = as_answer c.in-Err.fault (g.D.Disk.faults c.args.disk) (g.D.Disk.faults c.in-Err.disk) c.in-Err.ensures.cause

@@ -23,7 +23,7 @@ returns-then-is_try-clause-runs g c =
     let tries = subst (λ (code : ℕ). Tries words (left s) (left r.new.source) (faults s) (faults r.new.source) (kept c.args.sink.now) (kept r.new.sink) code) (sym h.status) (record { told = r.ensures.told; half_told = r.ensures.half_told }) in
     let usage : command_of words ≡ None → (end.status ≡ code_of Usage) ⊎ (end.status ≡ code_of NotWritten) = λ none. subst (λ (code : ℕ). (code ≡ code_of Usage) ⊎ (code ≡ code_of NotWritten)) (sym h.status) (r.ensures.usage none) in
     of_try g.W.World g.W.Disk.Disk g.W.Door.Door g.W.Door.Link.Link c.args.world.now c.args.world.now (left s) (left r.new.source) (faults s) (faults r.new.source) (kept c.args.sink.now) (kept r.new.sink) end.status
-    (record { doors = end.doors; disk = end.disk; other = end.other; past = end.past }) words (sym c.if-is_try.ensures) (apart _ _ _ _ _ h.doors h.disk h.other h.past) tries usage
+    (record { doors = end.doors; disk = end.disk; other = end.other; last = end.last; past = end.past }) words (sym c.if-is_try.ensures) (apart _ _ _ _ _ _ h.doors h.disk h.other h.last h.past) tries usage
 
 pub returns-then-is_try-clause-unread : goal.returns-then-is_try-clause-unread
 returns-then-is_try-clause-unread g c = λ reads_none.
@@ -38,7 +38,7 @@ returns-clause-runs g c =
     let r = c.run_other in
     let s = c.args.source.now in
     of_asked g.W.World g.W.Disk.Disk g.W.Door.Door g.W.Door.Link.Link c.args.world.now r.new.world (left s) (left r.new.source) (faults s) (faults r.new.source) (kept c.args.sink.now) (kept r.new.sink) r.result.status
-    (record { doors = r.result.doors; disk = r.result.disk; other = r.result.other; past = r.result.past }) c.args.words.now (sym c.if-is_try.ensures) r.ensures.runs
+    (record { doors = r.result.doors; disk = r.result.disk; other = r.result.other; last = r.result.last; past = r.result.past }) c.args.words.now (sym c.if-is_try.ensures) r.ensures.runs
 
 pub returns-clause-unread : goal.returns-clause-unread
 returns-clause-unread g c = λ reads_none.
@@ -52,4 +52,4 @@ returns-clause-named g c =
     let r = c.run_other in
     let s = c.args.source.now in
     named g.W.World g.W.Disk.Disk g.W.Door.Door g.W.Door.Link.Link c.args.world.now r.new.world (left s) (left r.new.source) (faults s) (faults r.new.source) (kept c.args.sink.now) (kept r.new.sink) r.result.status
-    (record { doors = r.result.doors; disk = r.result.disk; other = r.result.other; past = r.result.past }) (words_of c.args.words.now) r.ensures.runs
+    (record { doors = r.result.doors; disk = r.result.disk; other = r.result.other; last = r.result.last; past = r.result.past }) (words_of c.args.words.now) r.ensures.runs

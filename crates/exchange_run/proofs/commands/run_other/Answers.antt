@@ -22,4 +22,4 @@ returns-in-Err-clause-runs g c =
     let end = c.without_world.result in
     let went = subst (λ code. EndsBy c.status_of.result (kept c.args.sink.now) (kept c.end_with.new.sink) code) (sym (h.status ∙ c.code.ensures)) c.end_with.ensures.ends in
     refused g.W.World g.W.Disk.Disk g.W.Door.Door g.W.Door.Link.Link c.args.world.now c.args.world.now (g.S.Source.left s) (g.S.Source.left s) (g.S.Source.faults s) (g.S.Source.faults s) (kept c.args.sink.now) (kept c.end_with.new.sink) end.status
-    (record { doors = end.doors; disk = end.disk; other = end.other; past = end.past }) c.args.words.now c.in-Err.fault c.status_of.result c.requires c.in-Err.ensures c.status_of.ensures.usage c.status_of.ensures.memory (apart _ _ _ _ _ h.doors h.disk h.other h.past) refl refl went
+    (record { doors = end.doors; disk = end.disk; other = end.other; last = end.last; past = end.past }) c.args.words.now c.in-Err.fault c.status_of.result c.requires c.in-Err.ensures c.status_of.ensures.usage c.status_of.ensures.memory (apart _ _ _ _ _ _ h.doors h.disk h.other h.last h.past) refl refl went

@@ -2,4 +2,4 @@ use Rattle.std.proofs.Common.{refl}
 use Rattle.run_commands.proofs.outcome.Outcome.with_past.Goals as goal
 
 pub returns : goal.returns
-returns g c = record { status = c.code.ensures; doors = refl; disk = refl; other = refl; past = refl }
+returns g c = record { status = c.code.ensures; doors = refl; disk = refl; other = refl; last = refl; past = refl }
