@@ -15,7 +15,7 @@ _rtbx() {
         serve) words="--listen --journal --existing --public --key --former-key --workers --ttl --sales --patience --help --version" ;;
         recover) words="--journal --help --version" ;;
         audit) words="--journal --key --former-key --help --version" ;;
-        compact) words="--journal --into --keep --help --version" ;;
+        compact) words="--journal --into --keep --beside --help --version" ;;
         follow) words="--listen --journal --help --version" ;;
         make) words="trace --help --version" ;;
         which) words="--help --version" ;;

@@ -14,17 +14,24 @@ JOURNAL = f"{HOME}/journal"
 # The journal's owner, group and mode, which no script may change.
 WHOSE = "rtbx adm 640"
 SHIMS = "/run/shims"
-SHIMMED = "cat chgrp chmod flock head ln mv readlink rm rtbx setpriv sh stat sync systemctl".split()
-# Stands before each program that a script calls: the call of a number does not come, comes and is said to have failed, or
-# waits until the script was sent a signal.
+SHIMMED = "cat chgrp chmod flock head ln mkfifo mv readlink rm rtbx sed setpriv sh stat sync systemctl timeout".split()
+# Stands before each program that a script calls: the call of a number, of all or of its program's, does not come, comes and is
+# said to have failed, or waits until the script was sent a signal. What runs beside each other has its own number alone.
 SHIM = """#!/bin/sh
 at=/run/shims
-read -r n < $at/count
-n=$((n + 1))
-echo $n > $at/count
-echo "$n ${0##*/} $*" >> $at/calls
+name=${0##*/}
+read -r all < $at/count
+all=$((all + 1))
+echo $all > $at/count
+own=0
+if [ -e $at/count.$name ]; then read -r own < $at/count.$name; fi
+own=$((own + 1))
+echo $own > $at/count.$name
+n=$name.$own
+echo "$n $*" >> $at/calls
 read -r fails < $at/fails
-real=/usr/bin/${0##*/}
+if [ "${fails##* }" = "$all" ]; then n=$all; fi
+real=/usr/bin/$name
 if [ "$fails" = "refuses $n" ]; then exit 77; fi
 if [ "$fails" = "late $n" ]; then $real "$@"; exit 77; fi
 if [ "$fails" = "waits $n" ]; then : > $at/now; while [ -e $at/now ]; do /usr/bin/sleep 0.01; done; fi
@@ -106,6 +113,8 @@ def prepare(machine, script):
 
 
 def set_shims(machine, fails, shimmed):
+    for it in machine.path(SHIMS).glob("count.*"):
+        it.unlink()
     for name, text in {"count": "0\n", "fails": f"{fails}\n", "calls": ""}.items():
         machine.path(f"{SHIMS}/{name}").write_text(text)
         machine.path(f"{SHIMS}/{name}").chmod(0o666)
@@ -188,25 +197,20 @@ def try_steps(machine, script, ways):
     """Each call of the script fails in turn, in each of these ways."""
     made = try_whole(machine, script)
     for way in ways:
-        for n, call in enumerate(made, 1):
+        for call in made:
             step = f"{script.name}, {way} at {call[:70]}"
             prepare(machine, script)
-            fails = f"{way} {n}" if way in ["refuses", "late"] else f"waits {n}"
+            fails = f"{way if way in ['refuses', 'late'] else 'waits'} {call.split()[0]}"
             code, _ = run_script(machine, script, fails, None if way in ["refuses", "late"] else way)
-            if way == "KILL":
-                look_at(machine, script, step, 137, tidied=False)
-            elif "systemctl start" in call and way == "refuses":
-                CHECKS.holds(f"{step}: is said", code != 0)
-            else:
-                look_at(machine, script, step, code)
+            look_at(machine, script, step, 137 if way == "KILL" else code, tidied=way != "KILL")
 
 
 def try_after_kill(machine, script):
     """A run that was cut off is followed by one that does it, and nothing of the first stays."""
     made = try_whole(machine, script)
-    for n, call in enumerate(made, 1):
+    for call in made:
         prepare(machine, script)
-        run_script(machine, script, f"waits {n}", "KILL")
+        run_script(machine, script, f"waits {call.split()[0]}", "KILL")
         code, said = run_script(machine, script, "none")
         step = f"{script.name} again, cut off at {call[:70]}"
         CHECKS.same(f"{step}: {said}", code, 0)

@@ -3,12 +3,14 @@
 import re
 import time
 
-from debian.swaps import HOME, JOURNAL, Script, comes_to, made_journals, damaged, prepare, run_script
+from debian.swaps import HOME, JOURNAL, Script, calls, comes_to, made_journals, damaged, prepare, run_script
 from serving.checks import CHECKS, LIMIT
 from serving.messages import P1
 
 SELL = f"curl -s -o /dev/null -w '%{{http_code}}' -d '{P1}' http://127.0.0.1:8080/openrtb2/auction"
 ASK = "curl -s -o /dev/null -w '%{http_code}' --retry 20 --retry-delay 0 --retry-connrefused http://127.0.0.1:8080/campaign/1"
+# What the steps by hand call, and what may fail in them.
+HANDS = "cp grep ln mktemp mv rtbx sync systemctl".split()
 UNITS = ["rtbx.service", "rtbx-standby.service", "rtbx-follow.service", "rtbx-compact.timer", "rtbx-forget.timer", "rtbx-metrics.timer"]
 # How long the list is, and how many sales are forgotten: a forgetting that takes none.
 LIST = "curl -s -X POST --retry 20 --retry-delay 0 --retry-connrefused http://127.0.0.1:8080/forget/67108864"
@@ -98,6 +100,27 @@ def try_follower(machine, program, temporary):
     machine.run("systemctl disable --now rtbx-follow")
 
 
+def try_timer(machine, program, temporary):
+    """The timer's service compacts; ended on its way it leaves the journal as it was, and starts the exchange again."""
+    late = made_journals(program, temporary)[1]
+    prepare(machine, Script("", "", late, late))
+    machine.run("cp /etc/default/rtbx /srv/default; echo RTBX_KEEP=10 >> /etc/default/rtbx")
+    code, said = machine.run("systemctl start rtbx-compact")
+    CHECKS.same(f"a compaction by its unit: {said}", (code, machine.run(LIST)[1]), (0, told(10, 30)))
+    CHECKS.same("both journals are there", names(machine), ["journal", "journal.compacted", "journal.old"])
+    machine.run("systemctl start rtbx-compact.timer")
+    CHECKS.holds("it is due at four", " 04:00:00 " in machine.run("systemctl show -p NextElapseUSecRealtime --value rtbx-compact.timer")[1])
+    machine.run("systemctl stop rtbx-compact.timer")
+    prepare(machine, Script("", "", late, late))
+    machine.run(f"systemctl stop rtbx; setsid flock {JOURNAL} sleep 600 > /dev/null 2>&1 & sleep 0.5; systemctl start rtbx")
+    CHECKS.same("a server that waits for its journal", comes_to(machine, "activating"), "activating")
+    machine.run("systemctl start --no-block rtbx-compact; sleep 2; systemctl stop rtbx-compact")
+    CHECKS.same("ended on its way", (machine.path(JOURNAL).read_bytes(), names(machine)), (late, ["journal"]))
+    machine.run("kill $(pidof sleep)")
+    CHECKS.same("the server goes on", (comes_to(machine, "active"), machine.run(LIST)[1]), ("active", told(40, 0)))
+    machine.run("cp /srv/default /etc/default/rtbx; systemctl reset-failed rtbx-compact")
+
+
 def try_figures(machine, program, temporary):
     """The timer's service writes what a node exporter reads, also where the server is stopped, and the journal gone."""
     file = "/var/lib/prometheus/node-exporter/rtbx.prom"
@@ -168,34 +191,82 @@ def try_refusals(machine, program, temporary):
     CHECKS.same("a stopped service", (machine.run("rtbx-compact")[0], machine.run("systemctl is-active rtbx")[1]), (0, "inactive\n"))
 
 
+def set_hands(machine, **hands):
+    """Lines that stand before programs of the machine, which they call by their whole paths."""
+    machine.run("rm -rf /run/hands; mkdir /run/hands")
+    for program, lines in hands.items():
+        machine.path(f"/run/hands/{program}").write_text(f"#!/bin/sh\n{lines}\n")
+    machine.run("chmod 755 /run/hands/*")
+
+
 def try_written_meanwhile(machine, program, temporary):
     """Somebody who starts the server by hand between the compaction and the change of names loses no sale."""
     late = made_journals(program, temporary)[1]
     prepare(machine, Script("", "", late, late))
-    machine.run("mkdir -p /run/hands; printf '#!/bin/sh\\n/usr/bin/rtbx \"$@\" || exit\\n[ \"$1\" = compact ] && printf x >> /var/lib/rtbx/journal\\nexit 0\\n' > /run/hands/rtbx; chmod 755 /run/hands/rtbx")
+    set_hands(machine, rtbx=f'/usr/bin/rtbx "$@" || exit\nif [ "$1" = compact ]; then sleep 0.1; printf x >> {JOURNAL}; fi')
     code, said = machine.run("PATH=/run/hands:$PATH rtbx-compact")
     CHECKS.same(f"a journal that was written meanwhile: {said}", code, 4)
     CHECKS.same("a journal that was written meanwhile stays", machine.path(JOURNAL).read_bytes(), late + b"x")
     prepare(machine, Script("", "", late, late))
     machine.run(f"systemctl stop rtbx; setsid flock {JOURNAL} sleep 600 > /dev/null 2>&1 & sleep 0.5")
     CHECKS.same("a journal that another process has open", machine.run("rtbx-compact")[0], 4)
-    CHECKS.same("nothing of it stays", sorted(it.name for it in machine.path(HOME).iterdir()), ["journal"])
+    CHECKS.same("nothing of it stays", names(machine), ["journal"])
     machine.run("kill $(pidof sleep)")
 
 
-def try_by_hand(machine, program, temporary, document):
-    """The steps that the document tells for a journal without the service, as they stand and with each failing in turn."""
-    block = next(it for it in re.findall(r"```sh\n(.*?)```", document.read_text(), re.DOTALL) if it.startswith("rtbx compact --journal"))
+# Three starts of the service are refused.
+REFUSES = '[ "$1" = start ] && echo >> /run/hands/starts && [ "$(wc -l < /run/hands/starts)" -le 3 ] && exit 1\nexec /usr/bin/systemctl "$@"'
+# A byte of the new journal is changed behind the compaction.
+DAMAGES = '/usr/bin/rtbx "$@" || exit\nif [ "$1" = compact ]; then printf X | dd of="$5" bs=1 seek=3 conv=notrunc status=none; fi'
+
+
+def try_goes_back(machine, program, temporary):
+    """A new journal that is damaged loses its name again, whether the service was started over it or not, and the old one is
+    served; a service that does not start is told.
+    """
     late = made_journals(program, temporary)[1]
-    for n in range(6):
+    for name, hands in [("a damaged new journal", {"rtbx": DAMAGES}), ("one whose start is refused", {"rtbx": DAMAGES, "systemctl": REFUSES})]:
         prepare(machine, Script("", "", late, late))
-        machine.run("systemctl stop rtbx")
+        set_hands(machine, **hands)
+        code, said = machine.run("PATH=/run/hands:$PATH rtbx-compact --keep 10")
+        CHECKS.holds(f"{name}: {said}", code == 6 and f"{JOURNAL} is as it was" in said)
+        CHECKS.same(f"{name}: that of before is in its place", (machine.path(JOURNAL).read_bytes(), names(machine)), (late, ["journal"]))
+        CHECKS.same(f"{name}: and is served", (comes_to(machine, "active"), machine.run(ASK)[1]), ("active", "200"))
+    prepare(machine, Script("", "", late, late))
+    set_hands(machine, systemctl=REFUSES)
+    code, said = machine.run("PATH=/run/hands:$PATH rtbx-compact --keep 10")
+    CHECKS.holds(f"a service that does not start: {said}", code == 1 and "rtbx.service could not be started" in said)
+    CHECKS.same("both journals are there", names(machine), ["journal", "journal.compacted", "journal.old"])
+    CHECKS.same("and a start serves the new one", (machine.run("systemctl start rtbx")[0], machine.run(ASK)[1]), (0, "200"))
+
+
+def names(machine):
+    return sorted(it.name for it in machine.path(HOME).iterdir())
+
+
+def try_by_hand(machine, program, temporary, document):
+    """The steps that the document tells for a journal without the scripts, as they stand and with each failing in turn: those
+    beside the server are done by root, which is served at their end in each case.
+    """
+    blocks = [it for it in re.findall(r"```sh\n(.*?)```", document.read_text(), re.DOTALL) if "rtbx compact --journal" in it]
+    late = made_journals(program, temporary)[1]
+    for block, words, state in zip(blocks, ["/bin/sh /srv/steps", "runuser -u rtbx -- /bin/sh /srv/steps"], ["active", "inactive"], strict=True):
         machine.path("/srv/steps").write_text(block)
-        code, said = run_script(machine, Script("runuser -u rtbx -- /bin/sh /srv/steps", "", late, late), f"refuses {n}")
-        found = machine.path(JOURNAL).read_bytes()
-        CHECKS.same(f"by hand, step {n} fails: {said}", code, 77 if n else 0)
-        CHECKS.holds(f"by hand, step {n} fails: the journal is whole", found == late if 0 < n < 5 else found[1:8] == b"RTBXJ02")
-        CHECKS.holds(f"by hand, step {n} fails: the journal of before is there", late in [it.read_bytes() for it in machine.path(HOME).iterdir()])
+        script, made = Script(words, "old", late, lambda data: data[1:8] == b"RTBXJ02" and len(data) < len(late)), [None]
+        for fails in made:
+            step = f"by hand, {state}, {fails or 'none'} fails"
+            prepare(machine, script)
+            if state == "inactive":
+                machine.run("systemctl stop rtbx")
+            code, said = run_script(machine, script, f"refuses {fails}", shimmed=HANDS)
+            found = machine.path(JOURNAL).read_bytes()
+            if fails is None:
+                CHECKS.holds(f"{step}: {said}", code == 0 and script.is_after(found))
+                made += [it.split()[0] for it in calls(machine) if " start rtbx" not in it]
+            CHECKS.holds(f"{step}: the journal is whole", found == late or script.is_after(found))
+            CHECKS.holds(f"{step}: the journal of before is there", late in [it.read_bytes() for it in machine.path(HOME).iterdir()])
+            CHECKS.same(f"{step}: whose it is", machine.run(f"stat -c '%U %G %a' {JOURNAL}")[1], "rtbx adm 640\n" if state == "active" or found == late else "rtbx rtbx 644\n")
+            CHECKS.same(f"{step}: the service", comes_to(machine, state), state)
 
 
 def try_removal(machine):

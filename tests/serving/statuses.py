@@ -46,6 +46,9 @@ def try_usage(program, folder):
         ["audit", "--journal", "j", "--former-key", "k"],
         ["follow", "--listen", "127.0.0.1:1", "--journal", "j", "--key", "k"],
         ["recover", "--journal", "j", "--key", "k"],
+        ["compact", "--journal", "j", "--into", "k", "--beside", "--beside"],
+        ["compact", "--journal", "j", "--into", "k", "--beside=1"],
+        ["compact", "--journal", "j", "--beside"],
         ["recover"],
         ["recover", "--journal"],
         ["recover", "--listen", "127.0.0.1:1"],
@@ -70,7 +73,7 @@ def try_usage(program, folder):
     for words in [["--help"], ["--version"], ["serve", "--help"], ["recover", "--help"], ["try", "--help"], ["serve", "--version"]]:
         status, out, errors = ended([program, *words])
         CHECKS.same(f"rtbx {' '.join(words)}", (status, out.startswith(b"rtbx") or b"Usage" in out, errors), (0, True, b""))
-    named = {"serve": [b"--listen", b"--journal", b"--existing", b"--public", b"--key", b"--former-key", b"--workers", b"--ttl", b"--sales", b"--patience"], "audit": [b"--journal", b"--key", b"--former-key"], "recover": [b"--journal"], "try": [b"BID@DOMAIN"]}
+    named = {"serve": [b"--listen", b"--journal", b"--existing", b"--public", b"--key", b"--former-key", b"--workers", b"--ttl", b"--sales", b"--patience"], "audit": [b"--journal", b"--key", b"--former-key"], "recover": [b"--journal"], "compact": [b"--journal", b"--into", b"--keep", b"--beside"], "try": [b"BID@DOMAIN"]}
     for command, options in named.items():
         out = ended([program, command, "--help"])[1]
         CHECKS.same(f"rtbx {command} --help names its options", [it for it in options if it not in out], [])
