@@ -5,7 +5,6 @@ use Rattle.std.specs.Prelude.{◌≢◌, nat_le, option_map, slice_get}
 use Rattle.std.specs.Option.{option_map_or}
 use Rattle.std.proofs.lemmas.Option.{slice_get-map}
 use Rattle.auction_core.specs.Outcomes.{IsOutcome, does, told_alone}
-use Rattle.auction_core.specs.declared.draft.Answer.TheVariants as answer
 use Rattle.auction_core.specs.declared.outcome.Outcome.{Outcome}
 use Rattle.budget_book.specs.declared.sales.SaleRow.{SaleRow}
 use Rattle.budget_book.specs.declared.sales.SaleState.{SaleState}
@@ -16,7 +15,7 @@ use Rattle.plain_exchange.specs.declared.changes.Change.TheVariants as change
 use Rattle.plain_exchange.specs.declared.commands.Reply.{Reply}
 use Rattle.plain_exchange.specs.declared.commands.Reply.TheVariants as reply
 use Rattle.plain_exchange.specs.State.{Campaign, State, campaign_at, forget_first, forgotten, sale_numbered, swept, with_campaign}
-use Rattle.plain_exchange.specs.Step.{Transition, at_campaign, at_sale, bill_sale, billed_by, changing, lose_sale, lost_by, pause_campaign, report_campaign, resume_campaign, trim, trimmed, unchanged, with_live}
+use Rattle.plain_exchange.specs.Step.{Transition, at_campaign, at_sale, bill_sale, billed_by, changing, lose_sale, lost_by, pause_campaign, resume_campaign, trim, trimmed, unchanged, with_live}
 use Rattle.plain_exchange.proofs.Each.{none_some, some_same}
 
 pub told_is : (s : State) (r : Reply) → IsOutcome (unchanged s r) (told_alone r)
@@ -64,17 +63,6 @@ pub resume_live : (s : State) (n : ℕ) (c : Campaign) → campaign_at s n ≡ S
 resume_live s n c at live =
     told_there s n (resume_campaign n s) c (reply.Resumed n) at
     (ap (λ b. cond b (unchanged s (reply.Resumed n)) (changing (with_campaign s n (with_live true c)) (reply.Resumed n) (change.Resumed n))) live)
-
--- the transition of a report changes nothing
-pub report_any : (s : State) (n : ℕ) → IsOutcome (at_campaign s n (report_campaign n s)) (record { answer = answer.Report n; change = None })
-report_any s n = by_campaign (campaign_at s n) refl
-  where
-    by_act : (o : Reply) → at_campaign s n (report_campaign n s) ≡ unchanged s o → IsOutcome (at_campaign s n (report_campaign n s)) (record { answer = answer.Report n; change = None })
-    by_act o e = record { reply = ap (λ (u : Transition). (at_campaign u.after n (report_campaign n u.after)).reply) e; change = sym (ap (λ (u : Transition). u.change) e) }
-
-    by_campaign : (o : Option Campaign) → campaign_at s n ≡ o → IsOutcome (at_campaign s n (report_campaign n s)) (record { answer = answer.Report n; change = None })
-    by_campaign None e = by_act reply.NoSuchCampaign (at_none s n (report_campaign n s) e)
-    by_campaign (Some c) e = by_act (report_campaign n s c).reply (at_some s n (report_campaign n s) c e)
 
 -- ---- sales
 

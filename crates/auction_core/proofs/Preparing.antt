@@ -1,9 +1,8 @@
--- What is prepared of an auction, and of other commands.
-use Rattle.std.proofs.Common.{◌≡◌, ℕ, Bool, cond, true, List, refl, None, Option, Some, Result, Ok, Err}
+-- What is prepared of an auction, and what takes effect.
+use Rattle.std.proofs.Common.{◌≡◌, ℕ, Bool, cond, List, None, Option, Some, Result, Ok, Err}
 use Rattle.std.specs.Prelude.{IfOk, option_map}
 use Rattle.std.specs.Option.{option_or}
 use Rattle.auction_core.specs.Auctions.{award_outcome}
-use Rattle.auction_core.specs.Draft.{is_simple}
 use Rattle.auction_core.specs.Outcomes.{IsOutcome}
 use Rattle.auction_core.specs.declared.outcome.Outcome.{Outcome}
 use Rattle.plain_exchange.specs.declared.settings.Settings.{Settings}
@@ -11,8 +10,6 @@ use Rattle.plain_exchange.specs.Auction.{Award, awards_of}
 use Rattle.plain_exchange.specs.declared.changes.Change.{Change}
 use Rattle.plain_exchange.specs.declared.changes.Change.TheVariants as change
 use Rattle.plain_exchange.specs.declared.changes.Effect.{Effect}
-use Rattle.plain_exchange.specs.declared.commands.Command.{Command}
-use Rattle.plain_exchange.specs.declared.commands.Command.TheVariants as command
 use Rattle.plain_exchange.specs.State.{State, swept}
 use Rattle.plain_exchange.specs.Step.{auction}
 use Rattle.rtb_types.specs.declared.request.BidRequest.{BidRequest}
@@ -23,18 +20,6 @@ pub awarded_result : {E : Type 0} → (settings : Settings) (m : ℕ) (r : BidRe
     → IfOk res (λ o. IsOutcome (auction settings m r (swept m s) (awards_of settings m r (swept m s))) o)
 awarded_result settings m r s awards (Ok o) e is = awarded_is settings m r s awards o e is
 awarded_result settings m r s awards (Err x) e is = tt
-
--- a command that is no auction
-pub other_simple : (c : Command) → ((r : BidRequest) → c ≡ command.Auction r → ⊥) → is_simple c ≡ true
-other_simple (command.Auction r) other = absurd (other r refl)
-other_simple (command.Add facts expr) other = refl
-other_simple (command.Change n facts expr) other = refl
-other_simple (command.Pause n) other = refl
-other_simple (command.Resume n) other = refl
-other_simple (command.Report n) other = refl
-other_simple (command.Bill n) other = refl
-other_simple (command.Lose n) other = refl
-other_simple (command.Forget keep) other = refl
 
 -- what takes effect where a command has this change of its own
 abbrev pub effect_with : ℕ → Bool → Option Change → Option Effect

@@ -1,5 +1,5 @@
 -- What a draft of a command says, and when it can be carried out.
-use Rattle.std.specs.Prelude.{◌≡◌, ℕ, ◌≤◌, ◌&&◌, List, [], map, filter, Bool, true, false, IfSome, IsTrue, Option}
+use Rattle.std.specs.Prelude.{◌≡◌, ℕ, ◌≤◌, ◌&&◌, List, [], map, filter, Bool, true, IfSome, IsTrue, Option}
 use Rattle.std.specs.List.{enumerate_from}
 use Rattle.std.specs.Option.{option_map_or}
 use Rattle.assign.specs.Rows.{pairs_of}
@@ -16,7 +16,7 @@ use Rattle.plain_exchange.specs.declared.changes.Effect.{Effect}
 use Rattle.auction_core.specs.Putting.{HasRoom, memory_of}
 use Rattle.plain_exchange.specs.Effects.{edits_in, fits}
 use Rattle.plain_exchange.specs.State.{Campaign, State}
-use Rattle.plain_exchange.specs.Step.{at_campaign, effect_of, report_campaign, step}
+use Rattle.plain_exchange.specs.Step.{effect_of, step, told}
 use Rattle.rtb_types.specs.declared.request.BidRequest.{BidRequest}
 use Rattle.rtb_types.specs.declared.request.Imp.{Imp}
 use Rattle.rtb_types.specs.Valid.{is_valid}
@@ -32,48 +32,22 @@ is_reached r imp p = p.1.live && holds (pairs_of r imp) p.1.expr
 abbrev pub found_for : State → BidRequest → Imp → List ℕ
 found_for s r imp = map (λ (p : ℕ × Campaign). p.0) (filter (is_reached r imp) (enumerate_from 1 s.campaigns))
 
--- for each impression of an auction; other commands have none
+-- for each impression of an auction; an act has none
 abbrev pub found_of : State → Command → List (List ℕ)
 found_of s (command.Auction r) = map (found_for s r) r.imps
-found_of s (command.Add facts expr) = []
-found_of s (command.Change n facts expr) = []
-found_of s (command.Pause n) = []
-found_of s (command.Resume n) = []
-found_of s (command.Report n) = []
-found_of s (command.Bill n) = []
-found_of s (command.Lose n) = []
-found_of s (command.Forget keep) = []
-
--- the command is no auction
-abbrev pub is_simple : Command → Bool
-is_simple (command.Auction r) = false
-is_simple (command.Add facts expr) = true
-is_simple (command.Change n facts expr) = true
-is_simple (command.Pause n) = true
-is_simple (command.Resume n) = true
-is_simple (command.Report n) = true
-is_simple (command.Bill n) = true
-is_simple (command.Lose n) = true
-is_simple (command.Forget keep) = true
+found_of s (command.Act a) = []
 
 -- the request of an auction is valid
 abbrev pub is_valid_command : Command → Bool
 is_valid_command (command.Auction r) = is_valid r
-is_valid_command (command.Add facts expr) = true
-is_valid_command (command.Change n facts expr) = true
-is_valid_command (command.Pause n) = true
-is_valid_command (command.Resume n) = true
-is_valid_command (command.Report n) = true
-is_valid_command (command.Bill n) = true
-is_valid_command (command.Lose n) = true
-is_valid_command (command.Forget keep) = true
+is_valid_command (command.Act a) = true
 
 -- ---- what a draft answers and changes
 
 -- the reply in the state after it
 abbrev pub answered : Answer → State → Reply
 answered (answer.Told reply) s = reply
-answered (answer.Report n) s = (at_campaign s n (report_campaign n s)).reply
+answered (answer.Look l) s = told s l
 
 -- how many edits of the table an effect is, where there is one
 abbrev pub effect_edits : Option Effect → ℕ

@@ -4,12 +4,13 @@ ghost use Rattle.std.specs.Option.{option_copied};
 ghost use Rattle.auction_core.specs.Draft.{CanPut, IsDraftOf, IsReady, answered, edits_made, effect_edits};
 ghost use Rattle.auction_core.specs.Putting.{Leads};
 ghost use Rattle.plain_exchange.specs.declared.commands.Command.{Command};
+ghost use Rattle.plain_exchange.specs.declared.commands.Look.TheVariants.{Report};
 ghost use Rattle.plain_exchange.specs.State.{campaign_at};
-ghost use Rattle.plain_exchange.specs.Step.{at_campaign, report_campaign, step};
+ghost use Rattle.plain_exchange.specs.Step.{step, told};
 
 use crate::draft::{Answer, Draft, Memory};
 use crate::exchange::Core;
-use plain_exchange::{Effect, Reply};
+use plain_exchange::{Effect, Look, Reply};
 
 impl Core {
     /// Carries out what was prepared, and answers it. It takes no memory.
@@ -48,15 +49,24 @@ impl Core {
     {
         match answer {
             Answer::Told(reply) => reply,
-            Answer::Report(n) => self.report(n),
+            Answer::Look(look) => self.look(&look),
         }
     }
 
-    // What the sales of campaign `n` add up to.
-    fn report(&self, n: u32) -> Reply
-        ensures { result ≡ (at_campaign self.now.state n (report_campaign n self.now.state)).reply }
+    // What a look is told.
+    fn look(&self, look: &Look) -> Reply
+        ensures { result ≡ told self.now.state look.now }
     {
-        match self.number(u64::from(n)) {
+        match look {
+            Look::Report(n) => self.report(*n),
+        }
+    }
+
+    // What the sales of campaign `n` add up to, where it is there.
+    fn report(&self, n: u64) -> Reply
+        ensures { result ≡ told self.now.state (Report n) }
+    {
+        match self.number(n) {
             None => Reply::NoSuchCampaign,
             Some(n) => self.report_there(n),
         }
@@ -65,7 +75,7 @@ impl Core {
     #[tactic(auto, using(crate::proofs::Stating::is_there))]
     fn report_there(&self, n: u32) -> Reply
         requires there { IsTrue (is_some (campaign_at self.now.state n)) }
-        ensures { result ≡ (at_campaign self.now.state n (report_campaign n self.now.state)).reply }
+        ensures { result ≡ told self.now.state (Report n) }
     {
         let facts = &self.entry(n).record().facts;
         Reply::Reported {

@@ -3,7 +3,7 @@ ghost use Rattle.std.specs.Prelude.{◌≡◌};
 ghost use Rattle.std.specs.Option.{option_copied};
 
 use budget_book::{SaleRow, UserKey};
-use plain_exchange::{Effect, Reply, SharedRecord};
+use plain_exchange::{Effect, Look, Reply, SharedRecord};
 use rtb_num::List;
 
 /// What a command will do, with all the memory that it takes. Nothing of the exchange is in it.
@@ -31,8 +31,8 @@ pub(crate) enum Memory {
 #[derive(Drop)]
 pub(crate) enum Answer {
     Told(Reply),
-    // What the sales of the campaign add up to, which is there.
-    Report(u32),
+    // What is looked at once the command is carried out.
+    Look(Look),
 }
 
 impl Draft {

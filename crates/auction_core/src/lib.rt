@@ -35,5 +35,6 @@ pub use draft::Draft;
 pub use exchange::Core;
 pub use fault::ApplyFault;
 pub use plain_exchange::{
-    Change, Command, Effect, KeptCampaign, Limit, Record, Reply, SharedRecord, Sold, SoldItem,
+    Act, Change, Command, Effect, KeptCampaign, Limit, Look, Record, Reply, SharedRecord, Sold,
+    SoldItem,
 };

@@ -1,13 +1,14 @@
 //! Commands are prepared.
 ghost use Rattle.std.specs.Prelude.{◌≡◌, ◌≤◌, ℕ, IfOk, IfSome, IsTrue, None, Ok, Option, Some, if◌then◌else◌, option_map};
 ghost use Rattle.std.specs.Option.{option_copied, option_or};
-ghost use Rattle.auction_core.specs.Draft.{CanPut, IsDraftOf, IsReady, found_of, is_simple, is_valid_command};
+ghost use Rattle.auction_core.specs.Draft.{CanPut, IsDraftOf, IsReady, found_of, is_valid_command};
 ghost use Rattle.auction_core.specs.Frames.{OnlyRooms};
 ghost use Rattle.auction_core.specs.Outcomes.{IsOutcome};
 ghost use Rattle.plain_exchange.specs.declared.settings.Settings.{Settings};
 ghost use Rattle.plain_exchange.specs.declared.changes.Change.{Change as AChange};
 ghost use Rattle.plain_exchange.specs.declared.changes.Change.TheVariants.{Swept};
 ghost use Rattle.plain_exchange.specs.declared.commands.Command.{Command as ACommand};
+ghost use Rattle.plain_exchange.specs.declared.commands.Command.TheVariants.{Act as AnAct};
 ghost use Rattle.plain_exchange.specs.State.{is_any_due};
 ghost use Rattle.plain_exchange.specs.Effects.{edits_in, fits};
 ghost use Rattle.plain_exchange.specs.Step.{step};
@@ -15,15 +16,15 @@ ghost use Rattle.plain_exchange.specs.Step.{step};
 use crate::draft::{Answer, Draft, Memory};
 use crate::exchange::Core;
 use crate::outcome::Outcome;
-use plain_exchange::{Change, Command, Effect};
+use crate::prepare_campaigns::look_outcome;
+use plain_exchange::{Act, Change, Command, Effect};
 use rtb_num::List;
 use std::alloc::{AllocError, Global};
 
 impl Core {
     /// Prepares a command. Of an auction it is told, for each impression, the numbers of the live campaigns
-    /// whose expression is true of it, in their order; of any other command nothing is told. Only rooms change,
+    /// whose expression is true of it, in their order; of an act nothing is told. Only rooms change,
     /// also where memory is wanting.
-    #[tactic(auto, using(crate::proofs::Preparing::other_simple))]
     pub fn prepare(
         &mut self,
         alloc: Global,
@@ -43,19 +44,18 @@ impl Core {
     {
         match command {
             Command::Auction(request) => self.prepare_auction(alloc, request, found, moment),
-            _ => self.prepare_simple(alloc, command, moment),
+            Command::Act(act) => self.prepare_simple(alloc, act, moment),
         }
     }
 
-    /// Prepares a command other than an auction. Only rooms change, also where memory is wanting.
+    /// Prepares an act. Only rooms change, also where memory is wanting.
     pub fn prepare_simple(
         &mut self,
         alloc: Global,
-        command: &Command,
+        act: &Act,
         moment: u64,
     ) -> Result<Draft, AllocError>
-        requires simple { IsTrue (is_simple command.now) }
-        ensures draft { IfOk result (λ d. IsDraftOf self.old.settings self.old.state command.now moment d) }
+        ensures draft { IfOk result (λ d. IsDraftOf self.old.settings self.old.state (AnAct act.now) moment d) }
         ensures ready { IfOk result (λ d. IsReady d self.new) }
         ensures state { self.new.state ≡ self.old.state }
         ensures settings { self.new.settings ≡ self.old.settings }
@@ -63,25 +63,23 @@ impl Core {
         ensures sale_room { self.old.sale_room ≤ self.new.sale_room }
         ensures campaign_room { self.old.campaign_room ≤ self.new.campaign_room }
     {
-        let outcome = self.outcome(command, moment)?;
+        let outcome = self.outcome(act, moment)?;
         self.draft(alloc, outcome, moment)
     }
 
-    // What the command does to the state in which nothing is due.
-    fn outcome(&self, command: &Command, moment: u64) -> Result<Outcome, AllocError>
-        requires simple { IsTrue (is_simple command.now) }
-        ensures { IfOk result (λ o. IsOutcome (step self.now.settings moment self.now.state command.now) o) }
+    // What the act does to the state in which nothing is due.
+    fn outcome(&self, act: &Act, moment: u64) -> Result<Outcome, AllocError>
+        ensures { IfOk result (λ o. IsOutcome (step self.now.settings moment self.now.state (AnAct act.now)) o) }
     {
-        match command {
-            Command::Auction(_) => unreachable!(),
-            Command::Add(facts, expr) => self.add_outcome(facts, expr),
-            Command::Change(n, facts, expr) => self.change_outcome(*n, facts, expr, moment),
-            Command::Pause(n) => Ok(self.pause_outcome(*n)),
-            Command::Resume(n) => Ok(self.resume_outcome(*n)),
-            Command::Report(n) => Ok(self.report_outcome(*n)),
-            Command::Bill(sale) => Ok(self.bill_outcome(*sale, moment)),
-            Command::Lose(sale) => Ok(self.lose_outcome(*sale, moment)),
-            Command::Forget(keep) => Ok(self.forget_outcome(*keep, moment)),
+        match act {
+            Act::Add(facts, expr) => self.add_outcome(facts, expr),
+            Act::Change(n, facts, expr) => self.change_outcome(*n, facts, expr, moment),
+            Act::Pause(n) => Ok(self.pause_outcome(*n)),
+            Act::Resume(n) => Ok(self.resume_outcome(*n)),
+            Act::Bill(sale) => Ok(self.bill_outcome(*sale, moment)),
+            Act::Lose(sale) => Ok(self.lose_outcome(*sale, moment)),
+            Act::Forget(keep) => Ok(self.forget_outcome(*keep, moment)),
+            Act::Look(look) => Ok(look_outcome(look)),
         }
     }
 

@@ -1,13 +1,13 @@
 //! Commands on campaigns, prepared.
 ghost use Rattle.std.specs.Prelude.{ℕ, IsTrue, is_some};
 ghost use Rattle.auction_core.specs.Outcomes.{IsOutcome};
-ghost use Rattle.plain_exchange.specs.State.{campaign_at, swept};
-ghost use Rattle.plain_exchange.specs.Step.{at_campaign, pause_campaign, report_campaign, resume_campaign};
+ghost use Rattle.plain_exchange.specs.State.{State, campaign_at, swept};
+ghost use Rattle.plain_exchange.specs.Step.{at_campaign, pause_campaign, resume_campaign, told, unchanged};
 
 use crate::draft::Answer;
 use crate::exchange::Core;
 use crate::outcome::{Outcome, reply_alone, reply_to};
-use plain_exchange::{Change, Reply};
+use plain_exchange::{Change, Look, Reply};
 
 impl Core {
     // Takes campaign `n` out of auctions.
@@ -51,17 +51,14 @@ impl Core {
             reply_to(Change::Resumed(n), Reply::Resumed { n })
         }
     }
+}
 
-    // What the sales of campaign `n` add up to.
-    pub(crate) fn report_outcome(&self, n: u64) -> Outcome
-        ensures { (m : ℕ) → IsOutcome (at_campaign (swept m self.now.state) n (report_campaign n (swept m self.now.state))) result }
-    {
-        match self.number(n) {
-            None => reply_alone(Reply::NoSuchCampaign),
-            Some(n) => Outcome {
-                answer: Answer::Report(n),
-                change: None,
-            },
-        }
+// What a look is told once what is due has expired.
+pub(crate) fn look_outcome(look: &Look) -> Outcome
+    ensures { (m : ℕ) (s : State) → IsOutcome (unchanged (swept m s) (told (swept m s) look.now)) result }
+{
+    Outcome {
+        answer: Answer::Look(*look),
+        change: None,
     }
 }

@@ -22,14 +22,7 @@ use Rattle.plain_exchange.specs.declared.settings.Settings.{Settings}
 -- a command that was read is one that can be prepared
 pub valid_as_read : {E : Type 0} (c : Command) → ((r : BidRequest) → ◌≡◌ {A = Result Command E} (Ok c) (Ok (command.Auction r)) → IsTrue (is_valid r)) → IsTrue (is_valid_command c)
 valid_as_read (command.Auction r) h = h r refl
-valid_as_read (command.Add facts expr) h = refl
-valid_as_read (command.Change n facts expr) h = refl
-valid_as_read (command.Pause n) h = refl
-valid_as_read (command.Resume n) h = refl
-valid_as_read (command.Report n) h = refl
-valid_as_read (command.Bill n) h = refl
-valid_as_read (command.Lose n) h = refl
-valid_as_read (command.Forget keep) h = refl
+valid_as_read (command.Act a) h = refl
 
 -- what the state behind a command, and what it says, make of an entry
 pub accounts_so : (keys : Keys) (h : Header) (settings : Settings) (moment : ℕ) (s after : State) (e : Entry) (c : Command) (r : Bool) (reply : Reply) → settings ≡ settings_of h → moment ≡ e.moment → reply ≡ (step settings moment s c).reply → after ≡ (step settings moment s c).after

@@ -19,14 +19,7 @@ use Rattle.trace.specs.declared.header.Header.{Header}
 -- the request of an auction
 abbrev pub request_of : Command → Option BidRequest
 request_of (command.Auction r) = Some r
-request_of (command.Add facts expr) = None
-request_of (command.Change n facts expr) = None
-request_of (command.Pause n) = None
-request_of (command.Resume n) = None
-request_of (command.Report n) = None
-request_of (command.Bill n) = None
-request_of (command.Lose n) = None
-request_of (command.Forget keep) = None
+request_of (command.Act a) = None
 
 -- the entry tells this answer: its status and its body
 abbrev pub tells : Entry → Answer → Bool

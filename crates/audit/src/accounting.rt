@@ -125,7 +125,7 @@ fn find_for(alloc: Global, core: &Core, command: &Command) -> Result<Vec<List<u3
 {
     match command {
         Command::Auction(request) => core.scan(alloc, request),
-        _ => Ok(Vec::new(alloc)),
+        Command::Act(_) => Ok(Vec::new(alloc)),
     }
 }
 
@@ -174,7 +174,7 @@ fn request_in(command: &Command) -> Option<&BidRequest>
 {
     match command {
         Command::Auction(request) => Some(request),
-        _ => None,
+        Command::Act(_) => None,
     }
 }
 

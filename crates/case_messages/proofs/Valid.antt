@@ -9,11 +9,4 @@ use Rattle.rtb_types.specs.Valid.{is_valid}
 
 pub valid_as_read : {E : Type 0} (c : Command) → ((r : BidRequest) → ◌≡◌ {A = Result Command E} (Ok c) (Ok (command.Auction r)) → IsTrue (is_valid r)) → IsTrue (is_valid_command c)
 valid_as_read (command.Auction r) h = h r refl
-valid_as_read (command.Add facts expr) h = refl
-valid_as_read (command.Change n facts expr) h = refl
-valid_as_read (command.Pause n) h = refl
-valid_as_read (command.Resume n) h = refl
-valid_as_read (command.Report n) h = refl
-valid_as_read (command.Bill n) h = refl
-valid_as_read (command.Lose n) h = refl
-valid_as_read (command.Forget keep) h = refl
+valid_as_read (command.Act a) h = refl

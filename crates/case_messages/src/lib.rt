@@ -3,8 +3,8 @@
 //! The code owes safety, and that what it gives may be asked of an exchange.
 #![tactic(auto)]
 
-ghost use Rattle.std.specs.Prelude.{◌≡◌, IfOk, IfSome, IsTrue};
-ghost use Rattle.auction_core.specs.Draft.{is_simple, is_valid_command};
+ghost use Rattle.std.specs.Prelude.{IfOk, IfSome, IsTrue};
+ghost use Rattle.auction_core.specs.Draft.{is_valid_command};
 
 use address_keys::Keys;
 use case_lines::kept;
@@ -91,35 +91,4 @@ fn fill(message: &mut Message, target: &[u8], body: &[u8]) -> Result<(), AllocEr
     message.method.extend(b"POST")?;
     message.target.extend(target)?;
     message.body.extend(body)
-}
-
-/// Whether it is no auction.
-pub fn is_no_auction(command: &Command) -> bool
-    ensures { result ≡ is_simple command.now }
-{
-    match command {
-        Command::Auction(_) => false,
-        _ => true,
-    }
-}
-
-/// The command that adds the campaign of that name.
-pub fn campaign(alloc: Global, name: &[u8]) -> Result<Option<Command>, AllocError>
-    ensures { IfOk result (λ r. IfSome r (λ c. IsTrue (is_simple c))) }
-{
-    match command_of(alloc, b"/campaign", campaign_named(name)) {
-        Ok(Some(command)) => Ok(if_simple(command)),
-        Ok(None) => Ok(None),
-        Err(refused) => Err(refused),
-    }
-}
-
-fn if_simple(command: Command) -> Option<Command>
-    ensures { IfSome result (λ c. IsTrue (is_simple c)) }
-{
-    if is_no_auction(&command) {
-        return Some(command);
-    }
-    drop(command);
-    None
 }

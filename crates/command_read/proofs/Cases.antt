@@ -12,8 +12,12 @@ use Rattle.exact_json.specs.Tree.{Tree}
 use Rattle.http_wire.specs.declared.answer.Allow.TheVariants as allow
 use Rattle.http_wire.specs.declared.answer.Answer.{Answer}
 use Rattle.http_wire.specs.declared.message.Message.{Message}
+use Rattle.campaign.specs.declared.parts.FactParts.{FactParts}
+use Rattle.plain_exchange.specs.declared.commands.Act.{Act}
+use Rattle.plain_exchange.specs.declared.commands.Act.TheVariants as act
 use Rattle.plain_exchange.specs.declared.commands.Command.{Command}
 use Rattle.plain_exchange.specs.declared.commands.Command.TheVariants as command
+use Rattle.target_expr.specs.declared.pred.Pred.{Pred}
 
 -- it holds of each command and of each refusal
 pub record HoldsOfEach (P : Result Command Answer → Type 0) : Type 0 where
@@ -23,14 +27,8 @@ pub record HoldsOfEach (P : Result Command Answer → Type 0) : Type 0 where
   pub token : P (Err forbidden)
   pub body : (text : List ℕ) → P (Err (bad_body text))
   pub auction : (t : Tree) → P (request_command t)
-  pub add : (t : Tree) → P (campaign_command command.Add t)
-  pub change : (n : ℕ) (t : Tree) → P (campaign_command (command.Change n) t)
-  pub report : (n : ℕ) → P (Ok (command.Report n))
-  pub pause : (n : ℕ) → P (Ok (command.Pause n))
-  pub resume : (n : ℕ) → P (Ok (command.Resume n))
-  pub bill : (n : ℕ) → P (Ok (command.Bill n))
-  pub lose : (n : ℕ) → P (Ok (command.Lose n))
-  pub forget : (keep : ℕ) → P (Ok (command.Forget keep))
+  pub campaign : (make : FactParts → List (List Pred) → Act) (t : Tree) → P (campaign_command make t)
+  pub other : (a : Act) → P (Ok (command.Act a))
 
 at_body : (P : Result Command Answer → Type 0) → HoldsOfEach P → (by : Tree → Result Command Answer) → ((t : Tree) → P (by t)) → (body : List ℕ) (found : Result Command Answer)
     → IsOfBody by body found → P found
@@ -39,14 +37,14 @@ at_body P each by said_by body found (faulty f some explains e) = subst P (sym e
 
 at_route : (P : Result Command Answer → Type 0) → HoldsOfEach P → (r : Route) (m : Method) (body : List ℕ) (found : Result Command Answer) → IsOfRoute r m body found → P found
 at_route P each route.Auction m body found h = at_body P each request_command each.auction body found h
-at_route P each route.Campaigns m body found h = at_body P each (campaign_command command.Add) each.add body found h
-at_route P each (route.Campaign n) method.Get body found h = subst P (sym h) (each.report n)
-at_route P each (route.Campaign n) method.Post body found h = at_body P each (campaign_command (command.Change n)) (each.change n) body found h
-at_route P each (route.Pause n) m body found h = subst P (sym h) (each.pause n)
-at_route P each (route.Resume n) m body found h = subst P (sym h) (each.resume n)
-at_route P each (route.Bill n) m body found h = subst P (sym h) (each.bill n)
-at_route P each (route.Lose n) m body found h = subst P (sym h) (each.lose n)
-at_route P each (route.Forget keep) m body found h = subst P (sym h) (each.forget keep)
+at_route P each route.Campaigns m body found h = at_body P each (campaign_command act.Add) (each.campaign act.Add) body found h
+at_route P each (route.Campaign n) method.Get body found h = subst P (sym h) (each.other _)
+at_route P each (route.Campaign n) method.Post body found h = at_body P each (campaign_command (act.Change n)) (each.campaign (act.Change n)) body found h
+at_route P each (route.Pause n) m body found h = subst P (sym h) (each.other _)
+at_route P each (route.Resume n) m body found h = subst P (sym h) (each.other _)
+at_route P each (route.Bill n) m body found h = subst P (sym h) (each.other _)
+at_route P each (route.Lose n) m body found h = subst P (sym h) (each.other _)
+at_route P each (route.Forget keep) m body found h = subst P (sym h) (each.other _)
 
 where_open : (P : Result Command Answer → Type 0) → HoldsOfEach P → (may : Bool) (r : Route) (m : Method) (body : List ℕ) (found : Result Command Answer) → IsWhereOpen may r m body found → P found
 where_open P each false r m body found h = subst P (sym h) each.token

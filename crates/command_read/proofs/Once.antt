@@ -15,8 +15,8 @@ use Rattle.exact_json.specs.declared.fault.JsonFault.{JsonFault}
 use Rattle.exact_json.specs.declared.fault.JsonFault.TheVariants.{Memory}
 use Rattle.http_wire.specs.declared.answer.Answer.{Answer}
 use Rattle.http_wire.specs.declared.message.Message.{Message}
+use Rattle.plain_exchange.specs.declared.commands.Act.TheVariants as act
 use Rattle.plain_exchange.specs.declared.commands.Command.{Command}
-use Rattle.plain_exchange.specs.declared.commands.Command.TheVariants as command
 use Rattle.refusal_text.specs.Refusals.{json_fault_text}
 
 -- what is known of the bytes of a body: a text has one tree, other bytes have one fault, and none are both
@@ -34,9 +34,9 @@ one_body by body one a b (faulty g some explains e) (faulty h other explained f)
 
 one_route : (r : Route) (m : Method) (body : List ℕ) → IsOneThing body → (a b : Result Command Answer) → IsOfRoute r m body a → IsOfRoute r m body b → a ≡ b
 one_route route.Auction m body one a b h k = one_body request_command body one a b h k
-one_route route.Campaigns m body one a b h k = one_body (campaign_command command.Add) body one a b h k
+one_route route.Campaigns m body one a b h k = one_body (campaign_command act.Add) body one a b h k
 one_route (route.Campaign n) method.Get body one a b h k = h ∙ sym k
-one_route (route.Campaign n) method.Post body one a b h k = one_body (campaign_command (command.Change n)) body one a b h k
+one_route (route.Campaign n) method.Post body one a b h k = one_body (campaign_command (act.Change n)) body one a b h k
 one_route (route.Pause n) m body one a b h k = h ∙ sym k
 one_route (route.Resume n) m body one a b h k = h ∙ sym k
 one_route (route.Bill n) m body one a b h k = h ∙ sym k

@@ -15,6 +15,7 @@ use Rattle.exact_json.specs.declared.fault.JsonFault.{JsonFault}
 use Rattle.exact_json.specs.declared.fault.JsonFault.TheVariants.{Memory}
 use Rattle.http_wire.specs.declared.answer.Answer.{Answer}
 use Rattle.json_fields.specs.Answers.{IsFirst}
+use Rattle.plain_exchange.specs.declared.commands.Act.{Act}
 use Rattle.plain_exchange.specs.declared.commands.Command.{Command}
 use Rattle.plain_exchange.specs.declared.commands.Command.TheVariants as command
 use Rattle.refusal_text.specs.Refusals.{campaign_fault_text, json_fault_text, request_fault_text}
@@ -51,7 +52,7 @@ bad_request {E} t f refusal found is e other hands = refused (λ x. x ≡ reques
     each (Ok a) e other (inr (rest, faults)) = ap (λ x. Err x) e ∙ ap (λ fs. request_by fs (request_from t)) (sym faults)
 
 -- of a text whose campaign has a fault
-pub bad_campaign : {E : Type 0} (make : FactParts → List (List Pred) → Command) (t : Tree) (f : CampFault) (refusal : Result Answer E) (found : Result Command CommandFault)
+pub bad_campaign : {E : Type 0} (make : FactParts → List (List Pred) → Act) (t : Tree) (f : CampFault) (refusal : Result Answer E) (found : Result Command CommandFault)
     → IsFirst Unkept (campaign_faults t) f
     → IfOk refusal (λ a. a ≡ bad_body (campaign_fault_text f)) → OnOk refusal (f ≡ Unkept → ⊥) → Refuses refusal found
     → UnlessMemory (λ x. x ≡ campaign_command make t) found

@@ -16,8 +16,8 @@ use Rattle.http_wire.specs.Answers.{IsWritable}
 use Rattle.http_wire.specs.declared.answer.Allow.TheVariants as allow
 use Rattle.http_wire.specs.declared.answer.Answer.{Answer}
 use Rattle.http_wire.specs.declared.message.Message.{Message}
+use Rattle.plain_exchange.specs.declared.commands.Act.{Act}
 use Rattle.plain_exchange.specs.declared.commands.Command.{Command}
-use Rattle.plain_exchange.specs.declared.commands.Command.TheVariants as command
 use Rattle.rtb_read.specs.Request.{request_faults, request_from}
 use Rattle.rtb_read.specs.declared.fault.ReqFault.{ReqFault}
 use Rattle.rtb_types.specs.declared.request.BidRequest.{BidRequest}
@@ -56,7 +56,7 @@ by_request : (faults : List ReqFault) (r : BidRequest) → Writes (request_by fa
 by_request [] r = tt
 by_request (f ∷ faults) r = of_body _
 
-by_campaign : (make : FactParts → List (List Pred) → Command) (faults : List CampFault) (c : FactParts × List (List Pred)) → Writes (campaign_by make faults c)
+by_campaign : (make : FactParts → List (List Pred) → Act) (faults : List CampFault) (c : FactParts × List (List Pred)) → Writes (campaign_by make faults c)
 by_campaign make [] c = tt
 by_campaign make (f ∷ faults) c = of_body _
 
@@ -68,14 +68,8 @@ each_writes = record {
   token = no_token;
   body = of_body;
   auction = λ t. by_request (request_faults t) (request_from t);
-  add = λ t. by_campaign command.Add (campaign_faults t) (campaign_from t);
-  change = λ n t. by_campaign (command.Change n) (campaign_faults t) (campaign_from t);
-  report = λ n. tt;
-  pause = λ n. tt;
-  resume = λ n. tt;
-  bill = λ n. tt;
-  lose = λ n. tt;
-  forget = λ keep. tt;
+  campaign = λ make t. by_campaign make (campaign_faults t) (campaign_from t);
+  other = λ a. tt;
 }
 
 pub refusals_are_writable : (keys : Keys) (message : Message) (found : Result Command CommandFault) → UnlessMemory (IsCommandOf keys message) found → IfErr found (IfRefused IsWritable)

@@ -17,6 +17,8 @@ use Rattle.command_read.specs.declared.paths.Route.TheVariants as route
 use Rattle.exact_json.specs.Tree.{Tree}
 use Rattle.http_wire.specs.declared.answer.Answer.{Answer}
 use Rattle.http_wire.specs.declared.message.Message.{Message}
+use Rattle.plain_exchange.specs.declared.commands.Act.{Act}
+use Rattle.plain_exchange.specs.declared.commands.Act.TheVariants as act
 use Rattle.plain_exchange.specs.declared.commands.Command.{Command}
 use Rattle.plain_exchange.specs.declared.commands.Command.TheVariants as command
 use Rattle.rtb_read.specs.Request.{request_faults, request_from}
@@ -27,29 +29,31 @@ use Rattle.target_expr.specs.declared.pred.Pred.{Pred}
 -- ---- only the route of a notice asks for it
 
 -- the route of a notice that is asked for
+abbrev notice_in : Act → Option Route
+notice_in (act.Add facts expr) = None
+notice_in (act.Change n facts expr) = None
+notice_in (act.Pause n) = None
+notice_in (act.Resume n) = None
+notice_in (act.Bill n) = Some (route.Bill n)
+notice_in (act.Lose n) = Some (route.Lose n)
+notice_in (act.Forget keep) = None
+notice_in (act.Look l) = None
+
 abbrev notice_of : Result Command Answer → Option Route
 notice_of (Ok (command.Auction r)) = None
-notice_of (Ok (command.Add facts expr)) = None
-notice_of (Ok (command.Change n facts expr)) = None
-notice_of (Ok (command.Pause n)) = None
-notice_of (Ok (command.Resume n)) = None
-notice_of (Ok (command.Report n)) = None
-notice_of (Ok (command.Bill n)) = Some (route.Bill n)
-notice_of (Ok (command.Lose n)) = Some (route.Lose n)
-notice_of (Ok (command.Forget keep)) = None
+notice_of (Ok (command.Act a)) = notice_in a
 notice_of (Err a) = None
 
 by_request : (faults : List ReqFault) (r : BidRequest) → notice_of (request_by faults r) ≡ None
 by_request [] r = refl
 by_request (f ∷ faults) r = refl
 
-by_added : (faults : List CampFault) (c : FactParts × List (List Pred)) → notice_of (campaign_by command.Add faults c) ≡ None
-by_added [] c = refl
-by_added (f ∷ faults) c = refl
-
-by_changed : (n : ℕ) (faults : List CampFault) (c : FactParts × List (List Pred)) → notice_of (campaign_by (command.Change n) faults c) ≡ None
-by_changed n [] c = refl
-by_changed n (f ∷ faults) c = refl
+by_campaign : (make : FactParts → List (List Pred) → Act) → ((facts : FactParts) (expr : List (List Pred)) → notice_in (make facts expr) ≡ None) → (t : Tree) → notice_of (campaign_command make t) ≡ None
+by_campaign make none t = each (campaign_faults t)
+  where
+    each : (faults : List CampFault) → notice_of (campaign_by make faults (campaign_from t)) ≡ None
+    each [] = none _ _
+    each (f ∷ faults) = refl
 
 by_body : (by : Tree → Result Command Answer) → ((t : Tree) → notice_of (by t) ≡ None) → (body : List ℕ) (found : Result Command Answer) → IsOfBody by body found → notice_of found ≡ None
 by_body by none body found (said t text e) = ap notice_of e ∙ none t
@@ -64,10 +68,9 @@ this_notice found r k one other = cc (one, other)
 
 by_route : (r : Route) (m : Method) (body : List ℕ) (found : Result Command Answer) (k : Route) → IsOfRoute r m body found → notice_of found ≡ Some k → r ≡ k
 by_route route.Auction m body found k h e = no_notice found _ k (by_body request_command (λ t. by_request (request_faults t) (request_from t)) body found h) e
-by_route route.Campaigns m body found k h e = no_notice found _ k (by_body (campaign_command command.Add) (λ t. by_added (campaign_faults t) (campaign_from t)) body found h) e
+by_route route.Campaigns m body found k h e = no_notice found _ k (by_body (campaign_command act.Add) (by_campaign act.Add (λ facts expr. refl)) body found h) e
 by_route (route.Campaign n) method.Get body found k h e = no_notice found _ k (ap notice_of h) e
-by_route (route.Campaign n) method.Post body found k h e =
-    no_notice found _ k (by_body (campaign_command (command.Change n)) (λ t. by_changed n (campaign_faults t) (campaign_from t)) body found h) e
+by_route (route.Campaign n) method.Post body found k h e = no_notice found _ k (by_body (campaign_command (act.Change n)) (by_campaign (act.Change n) (λ facts expr. refl)) body found h) e
 by_route (route.Pause n) m body found k h e = no_notice found _ k (ap notice_of h) e
 by_route (route.Resume n) m body found k h e = no_notice found _ k (ap notice_of h) e
 by_route (route.Bill n) m body found k h e = this_notice found (route.Bill n) k (ap notice_of h) e
@@ -186,8 +189,8 @@ notice keys message c k p some shut e is h =
 
 pub notices : (keys : Keys) (message : Message) → is_some keys.key ≡ true → AreNoticesSigned keys message
 notices keys message some = record {
-  bill = λ n h. notice keys message (command.Bill n) (route.Bill n) (codes "/bill/" ++ decimal n) some refl refl refl h;
-  lose = λ n h. notice keys message (command.Lose n) (route.Lose n) (codes "/lose/" ++ decimal n) some refl refl refl h;
+  bill = λ n h. notice keys message (command.Act (act.Bill n)) (route.Bill n) (codes "/bill/" ++ decimal n) some refl refl refl h;
+  lose = λ n h. notice keys message (command.Act (act.Lose n)) (route.Lose n) (codes "/lose/" ++ decimal n) some refl refl refl h;
 }
 
 -- ---- wrong tokens

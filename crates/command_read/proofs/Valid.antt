@@ -11,6 +11,7 @@ use Rattle.command_read.proofs.Cases.{HoldsOfEach, holds_of_reading}
 use Rattle.exact_json.specs.Tree.{Tree}
 use Rattle.http_wire.specs.declared.answer.Answer.{Answer}
 use Rattle.http_wire.specs.declared.message.Message.{Message}
+use Rattle.plain_exchange.specs.declared.commands.Act.{Act}
 use Rattle.plain_exchange.specs.declared.commands.Command.{Command}
 use Rattle.plain_exchange.specs.declared.commands.Command.TheVariants as command
 use Rattle.rtb_read.specs.Request.{request_faults, request_from}
@@ -23,24 +24,16 @@ use Rattle.target_expr.specs.declared.pred.Pred.{Pred}
 -- what is an auction has a valid request
 abbrev IsFine : Result Command Answer → Type 0
 IsFine (Ok (command.Auction r)) = is_valid r ≡ true
-IsFine (Ok (command.Add facts expr)) = Unit {0}
-IsFine (Ok (command.Change n facts expr)) = Unit {0}
-IsFine (Ok (command.Pause n)) = Unit {0}
-IsFine (Ok (command.Resume n)) = Unit {0}
-IsFine (Ok (command.Report n)) = Unit {0}
-IsFine (Ok (command.Bill n)) = Unit {0}
-IsFine (Ok (command.Lose n)) = Unit {0}
-IsFine (Ok (command.Forget keep)) = Unit {0}
+IsFine (Ok (command.Act a)) = Unit {0}
 IsFine (Err a) = Unit {0}
 
 by_request : (t : Tree) (faults : List ReqFault) → request_faults t ≡ faults → IsFine (request_by faults (request_from t))
 by_request t [] e = valid_answer t (Ok (request_from t)) (e, refl)
 by_request t (f ∷ faults) e = tt
 
-by_campaign : (make : FactParts → List (List Pred) → Command) → ((facts : FactParts) (expr : List (List Pred)) → IsFine (Ok (make facts expr)))
-    → (faults : List CampFault) (c : FactParts × List (List Pred)) → IsFine (campaign_by make faults c)
-by_campaign make fine [] c = fine c.0 c.1
-by_campaign make fine (f ∷ faults) c = tt
+by_campaign : (make : FactParts → List (List Pred) → Act) (faults : List CampFault) (c : FactParts × List (List Pred)) → IsFine (campaign_by make faults c)
+by_campaign make [] c = tt
+by_campaign make (f ∷ faults) c = tt
 
 each_is_fine : HoldsOfEach IsFine
 each_is_fine = record {
@@ -50,14 +43,8 @@ each_is_fine = record {
   token = tt;
   body = λ text. tt;
   auction = λ t. by_request t (request_faults t) refl;
-  add = λ t. by_campaign command.Add (λ facts expr. tt) (campaign_faults t) (campaign_from t);
-  change = λ n t. by_campaign (command.Change n) (λ facts expr. tt) (campaign_faults t) (campaign_from t);
-  report = λ n. tt;
-  pause = λ n. tt;
-  resume = λ n. tt;
-  bill = λ n. tt;
-  lose = λ n. tt;
-  forget = λ keep. tt;
+  campaign = λ make t. by_campaign make (campaign_faults t) (campaign_from t);
+  other = λ a. tt;
 }
 
 pub requests_are_valid : (keys : Keys) (message : Message) (found : Result Command CommandFault) → UnlessMemory (IsCommandOf keys message) found

@@ -20,8 +20,11 @@ use Rattle.http_wire.specs.declared.answer.Allow.{Allow}
 use Rattle.http_wire.specs.declared.answer.Allow.TheVariants as allow
 use Rattle.http_wire.specs.declared.answer.Answer.{Answer}
 use Rattle.http_wire.specs.declared.message.Message.{Message}
+use Rattle.plain_exchange.specs.declared.commands.Act.{Act}
+use Rattle.plain_exchange.specs.declared.commands.Act.TheVariants as act
 use Rattle.plain_exchange.specs.declared.commands.Command.{Command}
 use Rattle.plain_exchange.specs.declared.commands.Command.TheVariants as command
+use Rattle.plain_exchange.specs.declared.commands.Look.TheVariants as look
 use Rattle.refusal_text.specs.Refusals.{campaign_fault_text, error_text, json_fault_text, request_fault_text}
 use Rattle.rtb_read.specs.Request.{request_faults, request_from}
 use Rattle.rtb_read.specs.declared.fault.ReqFault.{ReqFault}
@@ -56,11 +59,11 @@ request_by (fault ∷ faults) r = Err (bad_body (request_fault_text fault))
 abbrev pub request_command : Tree → Result Command Answer
 request_command t = request_by (request_faults t) (request_from t)
 
-abbrev pub campaign_by : (FactParts → List (List Pred) → Command) → List CampFault → FactParts × List (List Pred) → Result Command Answer
-campaign_by make [] c = Ok (make c.0 c.1)
+abbrev pub campaign_by : (FactParts → List (List Pred) → Act) → List CampFault → FactParts × List (List Pred) → Result Command Answer
+campaign_by make [] c = Ok (command.Act (make c.0 c.1))
 campaign_by make (fault ∷ faults) c = Err (bad_body (campaign_fault_text fault))
 
-abbrev pub campaign_command : (FactParts → List (List Pred) → Command) → Tree → Result Command Answer
+abbrev pub campaign_command : (FactParts → List (List Pred) → Act) → Tree → Result Command Answer
 campaign_command make t = campaign_by make (campaign_faults t) (campaign_from t)
 
 -- The body is a JSON text that says this, or has this fault. A text says one thing and other bytes have one
@@ -74,14 +77,14 @@ pub data IsOfBody (by : Tree → Result Command Answer) (body : List ℕ) (found
 -- what is asked for by a method that the path takes; a body that no command has is not read
 abbrev pub IsOfRoute : Route → Method → List ℕ → Result Command Answer → Type 0
 IsOfRoute route.Auction m body found = IsOfBody request_command body found
-IsOfRoute route.Campaigns m body found = IsOfBody (campaign_command command.Add) body found
-IsOfRoute (route.Campaign n) method.Get body found = found ≡ Ok (command.Report n)
-IsOfRoute (route.Campaign n) method.Post body found = IsOfBody (campaign_command (command.Change n)) body found
-IsOfRoute (route.Pause n) m body found = found ≡ Ok (command.Pause n)
-IsOfRoute (route.Resume n) m body found = found ≡ Ok (command.Resume n)
-IsOfRoute (route.Bill n) m body found = found ≡ Ok (command.Bill n)
-IsOfRoute (route.Lose n) m body found = found ≡ Ok (command.Lose n)
-IsOfRoute (route.Forget keep) m body found = found ≡ Ok (command.Forget keep)
+IsOfRoute route.Campaigns m body found = IsOfBody (campaign_command act.Add) body found
+IsOfRoute (route.Campaign n) method.Get body found = found ≡ Ok (command.Act (act.Look (look.Report n)))
+IsOfRoute (route.Campaign n) method.Post body found = IsOfBody (campaign_command (act.Change n)) body found
+IsOfRoute (route.Pause n) m body found = found ≡ Ok (command.Act (act.Pause n))
+IsOfRoute (route.Resume n) m body found = found ≡ Ok (command.Act (act.Resume n))
+IsOfRoute (route.Bill n) m body found = found ≡ Ok (command.Act (act.Bill n))
+IsOfRoute (route.Lose n) m body found = found ≡ Ok (command.Act (act.Lose n))
+IsOfRoute (route.Forget keep) m body found = found ≡ Ok (command.Act (act.Forget keep))
 
 abbrev pub IsWhereOpen : Bool → Route → Method → List ℕ → Result Command Answer → Type 0
 IsWhereOpen false r m body found = found ≡ Err forbidden

@@ -6,6 +6,7 @@ use Rattle.address_keys.specs.declared.keys.Keys.{Keys}
 use Rattle.command_read.specs.Commands.{IsCommandOf}
 use Rattle.command_read.specs.Paths.{before_token, has_token, path_of, route_of, signed_path, token_of}
 use Rattle.http_wire.specs.declared.message.Message.{Message}
+use Rattle.plain_exchange.specs.declared.commands.Act.TheVariants as act
 use Rattle.plain_exchange.specs.declared.commands.Command.TheVariants as command
 
 -- the message's path ends in the token of this path, by the key or by the former one
@@ -15,8 +16,8 @@ pub record HasTokenOf (keys : Keys) (message : Message) (path : List ℕ) : Type
 
 -- who asks to bill a sale, or to lose it, has the token of just that
 pub record AreNoticesSigned (keys : Keys) (message : Message) : Type 0 where
-  pub bill : (n : ℕ) → IsCommandOf keys message (Ok (command.Bill n)) → HasTokenOf keys message (codes "/bill/" ++ decimal n)
-  pub lose : (n : ℕ) → IsCommandOf keys message (Ok (command.Lose n)) → HasTokenOf keys message (codes "/lose/" ++ decimal n)
+  pub bill : (n : ℕ) → IsCommandOf keys message (Ok (command.Act (act.Bill n))) → HasTokenOf keys message (codes "/bill/" ++ decimal n)
+  pub lose : (n : ℕ) → IsCommandOf keys message (Ok (command.Act (act.Lose n))) → HasTokenOf keys message (codes "/lose/" ++ decimal n)
 
 -- a token stands behind a listed path, and it is not that of the path that opens it
 abbrev pub has_wrong_token : Keys → List ℕ → Bool

@@ -12,7 +12,7 @@ use bumpalo::Bump;
 use campaign::Facts;
 use campaign_read::read_campaign;
 use exact_json::{Doc, read, room_for};
-use plain_exchange::Command;
+use plain_exchange::{Act, Command};
 use rtb_read::read_request;
 use std::alloc::Global;
 use target_expr::Expr;
@@ -107,16 +107,16 @@ fn campaign_in(alloc: Global, changed: Option<u64>, doc: &Doc<'_>) -> Result<Com
     ensures { UnlessMemory (λ found. found ≡ campaign_command (add_or_change changed) (doc_tree doc.now)) result }
 {
     match read_campaign(alloc, doc) {
-        Ok((facts, expr)) => Ok(add_or_change(changed, facts, expr)),
+        Ok((facts, expr)) => Ok(Command::Act(add_or_change(changed, facts, expr))),
         Err(fault) => refuse(campaign_refusal(alloc, &fault)),
     }
 }
 
-fn add_or_change(changed: Option<u64>, facts: Facts, expr: Expr) -> Command
+fn add_or_change(changed: Option<u64>, facts: Facts, expr: Expr) -> Act
     ensures { result ≡ add_or_change changed facts expr }
 {
     match changed {
-        None => Command::Add(facts, expr),
-        Some(n) => Command::Change(n, facts, expr),
+        None => Act::Add(facts, expr),
+        Some(n) => Act::Change(n, facts, expr),
     }
 }

@@ -21,7 +21,7 @@ use crate::rooms::Rooms;
 use address_keys::Keys;
 use exact_json::{bytes_have_one_fault, text_has_one_tree};
 use http_wire::{Allow, Message};
-use plain_exchange::Command;
+use plain_exchange::{Act, Command, Look};
 use std::alloc::Global;
 
 /// The command that the message asks for, or the answer that refuses it: 405 for a method that is neither `GET`
@@ -117,14 +117,14 @@ fn route_command(
         Route::Auction => request_command(alloc, rooms, body),
         Route::Campaigns => campaign_command(alloc, rooms, None, body),
         Route::Campaign(n) => match method {
-            Method::Get => Ok(Command::Report(n)),
+            Method::Get => Ok(Command::Act(Act::Look(Look::Report(n)))),
             Method::Post => campaign_command(alloc, rooms, Some(n), body),
         },
-        Route::Pause(n) => Ok(Command::Pause(n)),
-        Route::Resume(n) => Ok(Command::Resume(n)),
-        Route::Bill(n) => Ok(Command::Bill(n)),
-        Route::Lose(n) => Ok(Command::Lose(n)),
-        Route::Forget(keep) => Ok(Command::Forget(keep)),
+        Route::Pause(n) => Ok(Command::Act(Act::Pause(n))),
+        Route::Resume(n) => Ok(Command::Act(Act::Resume(n))),
+        Route::Bill(n) => Ok(Command::Act(Act::Bill(n))),
+        Route::Lose(n) => Ok(Command::Act(Act::Lose(n))),
+        Route::Forget(keep) => Ok(Command::Act(Act::Forget(keep))),
     }
 }
 

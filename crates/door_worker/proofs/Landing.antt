@@ -1,9 +1,7 @@
 -- What is given for an edit that is written before it is carried out.
 use Rattle.std.proofs.Common.{◌≡◌, inr, ℕ, ◌≤◌, cond, true, false, Bool, List, [], ◌∷◌, ◌++◌, refl, sym, ◌∙◌, ap, subst, arith, option_to_list, Ok}
-use Rattle.std.specs.Prelude.{IsTrue}
 use Rattle.std.proofs.lemmas.List.Sums.{fold-append}
-use Rattle.auction_core.specs.Draft.{is_simple, is_valid_command}
-use Rattle.door_worker.specs.Answers.{Goes, LeadsTo, is_edit, is_store_failed}
+use Rattle.door_worker.specs.Answers.{Goes, LeadsTo, is_store_failed}
 use Rattle.door_worker.specs.Languages.{Language}
 use Rattle.door_worker.specs.Working.{AnswersOne, Tells, call_at}
 use Rattle.door_worker.proofs.Answering.{answered, none_failed, told}
@@ -14,34 +12,8 @@ use Rattle.exchange_state.specs.declared.state.Settled.{Settled}
 use Rattle.exchange_state.specs.Views.{IsRising, durable_of, put, stable, told_or}
 use Rattle.http_wire.specs.declared.message.Message.{Message}
 use Rattle.plain_exchange.specs.declared.commands.Command.{Command}
-use Rattle.plain_exchange.specs.declared.commands.Command.TheVariants as command
 use Rattle.session.specs.declared.service.Given.{Given}
 use Rattle.session.specs.declared.service.Given.TheVariants as given
-
--- ---- edits
-
--- an edit is no auction
-pub edit_simple : (c : Command) → is_edit c ≡ true → IsTrue (is_simple c)
-edit_simple (command.Auction r) is = absurd (cc is)
-edit_simple (command.Add facts expr) is = refl
-edit_simple (command.Change n facts expr) is = refl
-edit_simple (command.Pause n) is = refl
-edit_simple (command.Resume n) is = refl
-edit_simple (command.Report n) is = refl
-edit_simple (command.Bill n) is = refl
-edit_simple (command.Lose n) is = refl
-edit_simple (command.Forget keep) is = refl
-
-pub edit_valid : (c : Command) → is_edit c ≡ true → IsTrue (is_valid_command c)
-edit_valid (command.Auction r) is = absurd (cc is)
-edit_valid (command.Add facts expr) is = refl
-edit_valid (command.Change n facts expr) is = refl
-edit_valid (command.Pause n) is = refl
-edit_valid (command.Resume n) is = refl
-edit_valid (command.Report n) is = refl
-edit_valid (command.Bill n) is = refl
-edit_valid (command.Lose n) is = refl
-edit_valid (command.Forget keep) is = refl
 
 -- ---- one that was carried out
 

@@ -11,6 +11,8 @@ use Rattle.exchange_state.specs.Tickets.{edits_after}
 use Rattle.exchange_state.specs.Views.{calls, failed, mine, published, stable}
 use Rattle.hist_lock.specs.Views.{seat_with}
 use Rattle.http_wire.specs.declared.message.Message.{Message}
+use Rattle.plain_exchange.specs.declared.commands.Act.{Act}
+use Rattle.plain_exchange.specs.declared.commands.Act.TheVariants as act
 use Rattle.plain_exchange.specs.declared.commands.Command.{Command}
 use Rattle.plain_exchange.specs.declared.commands.Command.TheVariants as command
 use Rattle.plain_exchange.specs.History.{Call}
@@ -24,26 +26,22 @@ use Rattle.session.specs.Talk.{Turn}
 -- the request of an auction
 abbrev pub request_of : Command → Option BidRequest
 request_of (command.Auction r) = Some r
-request_of (command.Add facts expr) = None
-request_of (command.Change n facts expr) = None
-request_of (command.Pause n) = None
-request_of (command.Resume n) = None
-request_of (command.Report n) = None
-request_of (command.Bill n) = None
-request_of (command.Lose n) = None
-request_of (command.Forget keep) = None
+request_of (command.Act a) = None
 
 -- whether it edits the campaigns
+abbrev pub edits : Act → Bool
+edits (act.Add facts expr) = true
+edits (act.Change n facts expr) = true
+edits (act.Pause n) = true
+edits (act.Resume n) = true
+edits (act.Bill n) = false
+edits (act.Lose n) = false
+edits (act.Forget keep) = false
+edits (act.Look l) = false
+
 abbrev pub is_edit : Command → Bool
 is_edit (command.Auction r) = false
-is_edit (command.Add facts expr) = true
-is_edit (command.Change n facts expr) = true
-is_edit (command.Pause n) = true
-is_edit (command.Resume n) = true
-is_edit (command.Report n) = false
-is_edit (command.Bill n) = false
-is_edit (command.Lose n) = false
-is_edit (command.Forget keep) = false
+is_edit (command.Act a) = edits a
 
 -- ---- one message
 

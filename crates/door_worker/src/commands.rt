@@ -2,14 +2,14 @@
 ghost use Rattle.std.specs.Prelude.{◌≡◌};
 ghost use Rattle.std.specs.Option.{option_copied};
 ghost use Rattle.command_read.specs.Memory.{IfRefused};
-ghost use Rattle.door_worker.specs.Answers.{is_edit, request_of};
+ghost use Rattle.door_worker.specs.Answers.{edits, is_edit, request_of};
 ghost use Rattle.door_worker.specs.Languages.{rtb};
 ghost use Rattle.door_worker.specs.Working.{IsGivenUnread, IsTold};
 ghost use Rattle.http_wire.specs.Answers.{IsWritable};
 ghost use Rattle.session.specs.Talk.{IsGivable};
 
 use address_keys::Keys;
-use auction_core::{Command, Reply};
+use auction_core::{Act, Command, Reply};
 use command_read::CommandFault;
 use link_door::Pause;
 use rtb_num::Txt;
@@ -59,7 +59,7 @@ pub(crate) fn request_in(command: &Command) -> Option<&BidRequest>
 {
     match command {
         Command::Auction(request) => Some(request),
-        _ => None,
+        Command::Act(_) => None,
     }
 }
 
@@ -68,7 +68,17 @@ pub(crate) fn is_edit(command: &Command) -> bool
     ensures { result ≡ is_edit command.now }
 {
     match command {
-        Command::Add(..) | Command::Change(..) | Command::Pause(_) | Command::Resume(_) => true,
+        Command::Auction(_) => false,
+        Command::Act(act) => edits(act),
+    }
+}
+
+/// Whether the act edits the campaigns.
+pub(crate) fn edits(act: &Act) -> bool
+    ensures { result ≡ edits act.now }
+{
+    match act {
+        Act::Add(..) | Act::Change(..) | Act::Pause(_) | Act::Resume(_) => true,
         _ => false,
     }
 }

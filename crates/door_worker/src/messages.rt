@@ -1,6 +1,6 @@
 //! One message answered.
 ghost use Rattle.std.specs.Prelude.{◌≡◌, ◌<◌, ◌≤◌, [], true, Ok, IfOk, IsTrue, OnErr, OnOk};
-ghost use Rattle.auction_core.specs.Draft.{is_simple, is_valid_command};
+ghost use Rattle.auction_core.specs.Draft.{is_valid_command};
 ghost use Rattle.command_read.specs.Commands.{IsCommandOf};
 ghost use Rattle.auction_core.specs.Found.{AreFound};
 ghost use Rattle.conj_index.specs.Campaigns.{DoRise};
@@ -13,12 +13,13 @@ ghost use Rattle.exchange_state.specs.Tickets.{version_in};
 ghost use Rattle.exchange_state.specs.Views.{stable};
 ghost use Rattle.index_versions.specs.Versions.{campaigns_of};
 ghost use Rattle.http_wire.specs.declared.message.Message.{Message as AMessage};
-ghost use Rattle.plain_exchange.specs.declared.commands.Command.TheVariants.{Auction as AnAuction};
+ghost use Rattle.plain_exchange.specs.declared.commands.Command.TheVariants.{Act as AnAct, Auction as AnAuction};
+ghost use Rattle.rtb_types.specs.Valid.{is_valid};
 ghost use Rattle.session.specs.Talk.{IsGivable};
 
-use crate::commands::{given_for, given_unread, is_edit, note_limit, request_in};
+use crate::commands::{edits, given_for, given_unread, is_edit, note_limit, request_in};
 use crate::worker::Tools;
-use auction_core::{Command, Reply};
+use auction_core::{Act, Command, Reply};
 use command_read::{Rooms, read_command_in};
 use conj_index::Scratch;
 use exchange_shared::{Changed, Exchange, Found, Seat, Settled, StoreFailed, Ticket, Unsettled};
@@ -77,10 +78,12 @@ fn answer_command<'e, D: Disk, R: Wait, P: Pause>(
     ensures answers { (message : AMessage) → IsCommandOf tools.now.keys.now message (Ok command.now) → AnswersOne (rtb tools.now.public.now tools.now.keys.now) moment seat message result.1 result.0 }
     ensures writable { IsGivable result.1 }
 {
-    if is_edit(command) && !exchange.is_shared() {
-        return answer_edit(exchange, tools, scratch, seat, command, moment);
+    match command {
+        Command::Act(act) if edits(act) && !exchange.is_shared() => {
+            answer_edit(exchange, tools, scratch, seat, command, act, moment)
+        }
+        _ => answer_in_turn(exchange, tools, scratch, seat, command, moment),
     }
-    answer_in_turn(exchange, tools, scratch, seat, command, moment)
 }
 
 // Answers an edit that comes alone: it is written before it is carried out, so that auctions do not wait for the disk.
@@ -90,15 +93,16 @@ fn answer_edit<'e, D: Disk, R: Wait, P: Pause>(
     scratch: &mut Scratch,
     seat: Seat<D>,
     command: &Command,
+    act: &Act,
     moment: u64,
 ) -> (Seat<D>, Given)
     requires seat { MayCall (lock_of exchange.now) seat }
-    requires edit { is_edit command.now ≡ true }
+    requires acts { command.now ≡ AnAct act.now }
     ensures seat { MayCall (lock_of exchange.now) result.0 }
     ensures answers { (message : AMessage) → IsCommandOf tools.now.keys.now message (Ok command.now) → AnswersOne (rtb tools.now.public.now tools.now.keys.now) moment seat message result.1 result.0 }
     ensures writable { IsGivable result.1 }
 {
-    let (seat, changed) = exchange.change(tools.rt, seat, command, moment);
+    let (seat, changed) = exchange.change(tools.rt, seat, act, moment);
     match changed {
         Ok(Changed::Durable(settled)) => tell_edit(exchange, tools, seat, command, settled),
         Ok(Changed::StoreFailed(settled)) => {
@@ -197,8 +201,8 @@ fn enter_once<'e, D: Disk, R: Wait, P: Pause>(
     ensures order { IsOrdered result.0.origin result.0.seen }
 {
     match command {
-        Command::Auction(request) => sell(exchange, tools, scratch, seat, command, request, moment),
-        _ => edit_or_report(exchange, tools, seat, command, moment),
+        Command::Auction(request) => sell(exchange, tools, scratch, seat, request, moment),
+        Command::Act(act) => edit_or_report(exchange, tools, seat, act, moment),
     }
 }
 
@@ -208,21 +212,19 @@ fn sell<'e, D: Disk, R: Wait, P: Pause>(
     tools: &Tools<'e, R, P>,
     scratch: &mut Scratch,
     seat: Seat<D>,
-    command: &Command,
     request: &BidRequest,
     moment: u64,
 ) -> (Seat<D>, Result<Settled, Unsettled>)
     requires seat { MayCall (lock_of exchange.now) seat }
-    requires valid { IsTrue (is_valid_command command.now) }
-    requires auction { command.now ≡ AnAuction request.now }
+    requires valid { IsTrue (is_valid request.now) }
     ensures seat { MayCall (lock_of exchange.now) result.0 }
-    ensures entered { IfOk result.1 (Entered command.now moment seat result.0) }
+    ensures entered { IfOk result.1 (Entered (AnAuction request.now) moment seat result.0) }
     ensures none { OnErr result.1 (Goes [] 0 seat result.0) }
     ensures order { IsOrdered result.0.origin result.0.seen }
 {
     let worn = exchange.is_worn_out();
     let seat = renew::<D, R, P, Brand>(exchange, tools, seat, worn, Blank::new(1));
-    sell_found(exchange, tools, scratch, seat, command, request, moment)
+    sell_found(exchange, tools, scratch, seat, request, moment)
 }
 
 // Publishes a version where the present one is worn. Where memory is short, the present one serves on.
@@ -254,15 +256,13 @@ fn sell_found<'e, D: Disk, R: Wait, P: Pause>(
     tools: &Tools<'e, R, P>,
     scratch: &mut Scratch,
     seat: Seat<D>,
-    command: &Command,
     request: &BidRequest,
     moment: u64,
 ) -> (Seat<D>, Result<Settled, Unsettled>)
     requires seat { MayCall (lock_of exchange.now) seat }
-    requires valid { IsTrue (is_valid_command command.now) }
-    requires auction { command.now ≡ AnAuction request.now }
+    requires valid { IsTrue (is_valid request.now) }
     ensures seat { MayCall (lock_of exchange.now) result.0 }
-    ensures entered { IfOk result.1 (Entered command.now moment seat result.0) }
+    ensures entered { IfOk result.1 (Entered (AnAuction request.now) moment seat result.0) }
     ensures none { OnErr result.1 (Goes [] 0 seat result.0) }
     ensures order { IsOrdered result.0.origin result.0.seen }
 {
@@ -277,7 +277,6 @@ fn sell_found<'e, D: Disk, R: Wait, P: Pause>(
                     seat,
                     ticket,
                     found,
-                    command,
                     moment,
                     Blank::new(1),
                 )
@@ -315,7 +314,6 @@ fn settle<'e, D: Disk, R: Wait, P: Pause, L: Ledger>(
     seat: Seat<D>,
     ticket: Ticket,
     found: Found<'_>,
-    command: &Command,
     moment: u64,
     blank: Blank,
 ) -> (Seat<D>, Result<Settled, Unsettled>)
@@ -323,33 +321,32 @@ fn settle<'e, D: Disk, R: Wait, P: Pause, L: Ledger>(
     requires parts { blank.parts ≡ L.parts }
     requires some { 0 < blank.parts }
     requires seat { MayCall (lock_of exchange.now) seat }
-    requires valid { IsTrue (is_valid_command command.now) }
-    requires found { MayBeSettled seat (version_in ticket) found.asked found.candidates command.now }
+    requires valid { IsTrue (is_valid found.asked) }
+    requires found { MayBeSettled seat (version_in ticket) found.asked found.candidates }
     ensures seat { MayCall (lock_of exchange.now) result.0 }
-    ensures entered { IfOk result.1 (Entered command.now moment seat result.0) }
+    ensures entered { IfOk result.1 (Entered (AnAuction found.entry.asked) moment seat result.0) }
     ensures none { OnErr result.1 (Goes [] 0 seat result.0) }
     ensures order { IsOrdered result.0.origin result.0.seen }
 {
     let mut steps = Steps::<L>::new(blank);
-    exchange.settle(tools.rt, seat, ticket, found, command, moment, &mut steps)
+    exchange.settle(tools.rt, seat, ticket, found, moment, &mut steps)
 }
 
-// Carries out a command that needs nothing found.
+// Carries out an act, which needs nothing found.
 fn edit_or_report<'e, D: Disk, R: Wait, P: Pause>(
     exchange: &Exchange<D>,
     tools: &Tools<'e, R, P>,
     seat: Seat<D>,
-    command: &Command,
+    act: &Act,
     moment: u64,
 ) -> (Seat<D>, Result<Settled, Unsettled>)
     requires seat { MayCall (lock_of exchange.now) seat }
-    requires simple { IsTrue (is_simple command.now) }
     ensures seat { MayCall (lock_of exchange.now) result.0 }
-    ensures entered { IfOk result.1 (Entered command.now moment seat result.0) }
+    ensures entered { IfOk result.1 (Entered (AnAct act.now) moment seat result.0) }
     ensures none { OnErr result.1 (Goes [] 0 seat result.0) }
     ensures order { IsOrdered result.0.origin result.0.seen }
 {
-    exchange.simple(tools.rt, seat, command, moment)
+    exchange.simple(tools.rt, seat, act, moment)
 }
 
 // Waits until the effects are durable, and tells what is given for the reply.

@@ -8,7 +8,7 @@ use campaign_store::Limit;
 use case_lines::{done, number_in};
 use command_read::{CommandFault, read_command};
 use http_wire::Message;
-use plain_exchange::{Command, Reply};
+use plain_exchange::{Act, Command, Look, Reply};
 use rtb_num::{Micros, Nanos, Txt, write_decimal};
 use std::alloc::{AllocError, Global};
 
@@ -73,17 +73,23 @@ fn put_read(read: &Result<Command, CommandFault>, out: &mut Txt) -> Result<(), A
 fn put_command(command: &Command, out: &mut Txt) -> Result<(), AllocError> {
     match command {
         Command::Auction(request) => out.extend_all(&[b"auction ", request.id.as_bytes()]),
-        Command::Add(facts, _) => put_facts(b"add", facts, out),
-        Command::Change(n, facts, _) => {
+        Command::Act(act) => put_act(act, out),
+    }
+}
+
+fn put_act(act: &Act, out: &mut Txt) -> Result<(), AllocError> {
+    match act {
+        Act::Add(facts, _) => put_facts(b"add", facts, out),
+        Act::Change(n, facts, _) => {
             put_number(b"change ", *n, out)?;
             put_facts(b"", facts, out)
         }
-        Command::Pause(n) => put_number(b"pause ", *n, out),
-        Command::Resume(n) => put_number(b"resume ", *n, out),
-        Command::Report(n) => put_number(b"report ", *n, out),
-        Command::Bill(n) => put_number(b"bill ", *n, out),
-        Command::Lose(n) => put_number(b"lose ", *n, out),
-        Command::Forget(keep) => put_number(b"forget ", *keep, out),
+        Act::Pause(n) => put_number(b"pause ", *n, out),
+        Act::Resume(n) => put_number(b"resume ", *n, out),
+        Act::Bill(n) => put_number(b"bill ", *n, out),
+        Act::Lose(n) => put_number(b"lose ", *n, out),
+        Act::Forget(keep) => put_number(b"forget ", *keep, out),
+        Act::Look(Look::Report(n)) => put_number(b"report ", *n, out),
     }
 }
 

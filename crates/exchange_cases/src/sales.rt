@@ -102,7 +102,7 @@ fn put_response_to(
 ) -> Result<(), AllocError> {
     match command {
         Command::Auction(request) => put_reply(alloc, Some(request), reply, public, out),
-        _ => out.extend(b"no request"),
+        Command::Act(_) => out.extend(b"no request"),
     }
 }
 

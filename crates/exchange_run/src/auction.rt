@@ -1,7 +1,7 @@
 //! What the exchange answers to a bid request.
-ghost use Rattle.std.specs.Prelude.{◌≡◌, ◌≤◌, ◌<◌, ◌^◌, false, length, IfOk, IsSome, IsTrue, None};
+ghost use Rattle.std.specs.Prelude.{◌≡◌, ◌≤◌, ◌<◌, ◌^◌, length, IfOk, IsSome, IsTrue, None};
 ghost use Rattle.address_keys.specs.Tokens.{no_keys};
-ghost use Rattle.auction_core.specs.Draft.{found_of, is_simple, is_valid_command};
+ghost use Rattle.auction_core.specs.Draft.{found_of, is_valid_command};
 ghost use Rattle.exchange_run.specs.Exchange.{line_for, reply_at_opening, settings};
 ghost use Rattle.exchange_run.specs.Making.{campaigns_named, first_reply};
 ghost use Rattle.exchange_run.specs.Words.{campaigns_of};
@@ -52,7 +52,6 @@ fn command_line(alloc: Global, words: &[Txt], command: &Command) -> Result<Txt, 
     requires campaigns { IsSome (campaigns_of words.now) }
     requires few { length words.now ≤ 64 }
     requires valid { IsTrue (is_valid_command command.now) }
-    requires auction { is_simple command.now ≡ false }
     ensures { (r : Request) → command.now ≡ Auction r → IfOk result (λ t. t ≡ line_for r (reply_at_opening (campaigns_named words.now) r)) }
 {
     let reply = first_reply(alloc, words, command)?;
@@ -61,13 +60,13 @@ fn command_line(alloc: Global, words: &[Txt], command: &Command) -> Result<Txt, 
     line
 }
 
+// An act sells nothing.
 fn line_to(alloc: Global, command: &Command, reply: &Reply) -> Result<Txt, AllocError>
-    requires auction { is_simple command.now ≡ false }
     ensures { (r : Request) → command.now ≡ Auction r → IfOk result (λ t. t ≡ line_for r reply.now) }
 {
     match command {
         Command::Auction(request) => line_for(alloc, request, reply),
-        _ => unreachable!(),
+        Command::Act(_) => Txt::from_slice(alloc, b"no-bid"),
     }
 }
 

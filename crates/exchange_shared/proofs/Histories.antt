@@ -17,8 +17,6 @@ use Rattle.exchange_state.proofs.Later.{calls_on, edits_later, front_later, vers
 use Rattle.index_versions.proofs.Live.{live_rise}
 use Rattle.index_versions.specs.Versions.{campaigns_of}
 use Rattle.index_versions.specs.declared.version.Version.{Version}
-use Rattle.plain_exchange.specs.declared.commands.Command.{Command}
-use Rattle.plain_exchange.specs.declared.commands.Command.TheVariants.{Auction}
 use Rattle.rtb_disk.specs.declared.disk.Disk.{Ghosts}
 use Rattle.rtb_types.specs.declared.request.BidRequest.{BidRequest}
 
@@ -28,28 +26,26 @@ version_stays s t v (rest, is, none) i =
     (subst (λ h. IsVersionOf s.origin h v) (sym (calls_on s.seen rest)) (version_later s.origin (calls rest) (calls s.seen) v i))
 
 -- what was found in a version that the seat has seen may be settled
-pub may_be_settled : (s : Seat) (v : Version) (r : BidRequest) (c : Command) (asked : BidRequest) (found : List (List Offer)) → IsVersionOf s.origin (calls s.seen) v → c ≡ Auction r → asked ≡ r
-    → (DoRise (campaigns_of v.live) → IsIndexOf (campaigns_of v.live) v.index → AreFound v.live r found) → MayBeSettled s v asked found c
-may_be_settled s v r c asked found version auction same found_are =
+pub may_be_settled : (s : Seat) (v : Version) (r asked : BidRequest) (found : List (List Offer)) → IsVersionOf s.origin (calls s.seen) v → asked ≡ r
+    → (DoRise (campaigns_of v.live) → IsIndexOf (campaigns_of v.live) v.index → AreFound v.live r found) → MayBeSettled s v asked found
+may_be_settled s v r asked found version same found_are =
     let table = table_at s.origin (calls s.seen) v.edit in
     let rise : DoRise (campaigns_of v.live) = subst (λ l. DoRise (campaigns_of l)) (sym version.live) (live_rise table) in
     let content : IsIndexOf (campaigns_of v.live) v.index = subst (λ l. IsIndexOf (campaigns_of l) v.index) (sym version.live) version.content in
     record {
       version = version;
-      auction = auction ∙ ap Auction (sym same);
       found_are = subst (λ q. AreFound v.live q found) (sym same) (found_are rise content);
     }
 
 module _ {D : Type 0} {G : Ghosts D} where
-  pub may_settle : (s t : Seat) (x : ExchangeState D G) (v : Version) (asked : BidRequest) (found : List (List Offer)) (command : Command) → MayBeSettled s v asked found command → Enters worker_of s t → StandsFor t.origin x t.seen → length t.seen < 2 ^ 62
-      → MaySettle x v asked found command
-  may_settle s t x v asked found command m e stands short = record {
+  pub may_settle : (s t : Seat) (x : ExchangeState D G) (v : Version) (asked : BidRequest) (found : List (List Offer)) → MayBeSettled s v asked found → Enters worker_of s t → StandsFor t.origin x t.seen → length t.seen < 2 ^ 62
+      → MaySettle x v asked found
+  may_settle s t x v asked found m e stands short = record {
     origin = t.origin;
     list = t.seen;
     stands = stands;
     short = short;
     version = version_stays s t v e m.version;
-    auction = m.auction;
     found_are = m.found_are;
   }
 

@@ -19,7 +19,6 @@ use Rattle.exchange_state.specs.Views.{AreInTurn, IsRising, Taking, called, call
 use Rattle.hist_lock.specs.Views.{SeatView, seat_with}
 use Rattle.index_versions.specs.declared.version.Version.{Version}
 use Rattle.plain_exchange.specs.declared.commands.Command.{Command}
-use Rattle.plain_exchange.specs.declared.commands.Command.TheVariants.{Auction}
 use Rattle.plain_exchange.specs.Step.{effect_of}
 use Rattle.rtb_base.specs.Faults.{Rose}
 use Rattle.rtb_disk.specs.declared.disk.Disk.{Ghosts}
@@ -80,10 +79,9 @@ abbrev pub Settles : Command → ℕ → Seat → Seat → List Entry → Result
 Settles command moment s t l (Ok settled) = t.seen ≡ l ++ called s.worker command moment settled.reply ∷ []
 Settles command moment s t l (Err e) = t.seen ≡ l
 
--- the version is one of the history that the seat has seen, and these candidates were found in it for the auction
-pub record MayBeSettled (s : Seat) (v : Version) (asked : BidRequest) (found : List (List Offer)) (command : Command) : Type 0 where
+-- the version is one of the history that the seat has seen, and these candidates were found in it for the request
+pub record MayBeSettled (s : Seat) (v : Version) (asked : BidRequest) (found : List (List Offer)) : Type 0 where
   pub version : IsVersionOf s.origin (calls s.seen) v
-  pub auction : command ≡ Auction asked
   pub found_are : AreFound v.live asked found
 
 -- ---- changes that are written first

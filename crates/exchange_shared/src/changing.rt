@@ -1,9 +1,9 @@
 //! A change that is written before it is carried out, so that nobody else waits for the disk because of it.
 use crate::exchange::{Exchange, Seat};
-use crate::naming::{leave_called, leave_put, leave_taken};
+use crate::naming::{leave_acted, leave_put, leave_taken};
 use crate::writing::write;
 use exchange_state::{Errand, Settled, a_change_may_be_put_back};
-use plain_exchange::Command;
+use plain_exchange::Act;
 use rtb_disk::Disk;
 use std::alloc::AllocError;
 use std::marker::Brand;
@@ -27,37 +27,36 @@ enum Staged<D: Disk> {
 }
 
 impl<D: Disk> Exchange<D> {
-    ghost use Rattle.std.specs.Prelude.{◌≡◌, IfOk, OnErr, IsTrue};
-    ghost use Rattle.auction_core.specs.Draft.{is_simple};
+    ghost use Rattle.std.specs.Prelude.{◌≡◌, IfOk, OnErr};
     ghost use Rattle.exchange_shared.specs.Errands.{HasEntered, HasStaged, Puts, Stages};
     ghost use Rattle.exchange_shared.specs.Seats.{Changes, IsOrdered, MayCall, Waits, lock_of};
     ghost use Rattle.exchange_state.specs.declared.errand.Errand.{Errand as AnErrand};
+    ghost use Rattle.plain_exchange.specs.declared.commands.Command.TheVariants.{Act as AnAct};
 
     /// Whether effects of several workers came together lately, so that a change lands sooner with others than alone.
     pub fn is_shared(&self) -> bool {
         self.landings.is_shared()
     }
 
-    /// Carries out a command other than an auction once its effect is written. While it is, nothing else that has an effect
+    /// Carries out an act once its effect is written. While it is, nothing else that has an effect
     /// is carried out, and what has none does not wait for it.
     pub fn change<R: Wait>(
         &self,
         rt: &R,
         seat: Seat<D>,
-        command: &Command,
+        act: &Act,
         moment: u64,
     ) -> (Seat<D>, Result<Changed, AllocError>)
         requires seat { MayCall (lock_of self.now) seat }
-        requires simple { IsTrue (is_simple command.now) }
         ensures seat { MayCall (lock_of self.now) result.0 }
         ensures order { IsOrdered result.0.origin result.0.seen }
-        ensures changed { IfOk result.1 (Changes command.now moment seat result.0) }
+        ensures changed { IfOk result.1 (Changes (AnAct act.now) moment seat result.0) }
         ensures none { OnErr result.1 (Waits seat result.0) }
     {
-        let (seat, staged) = self.stage(rt, seat, command, moment);
+        let (seat, staged) = self.stage(rt, seat, act, moment);
         match staged {
             Ok(Staged::Errand(errand)) => {
-                let (seat, changed) = self.carry_ahead(rt, seat, errand, command, moment);
+                let (seat, changed) = self.carry_ahead(rt, seat, errand, act, moment);
                 (seat, Ok(changed))
             }
             Ok(Staged::NotAlone) => (seat, Ok(Changed::NotAlone)),
@@ -70,17 +69,16 @@ impl<D: Disk> Exchange<D> {
         &self,
         rt: &R,
         seat: Seat<D>,
-        command: &Command,
+        act: &Act,
         moment: u64,
     ) -> (Seat<D>, Result<Staged<D>, AllocError>)
         requires seat { MayCall (lock_of self.now) seat }
-        requires simple { IsTrue (is_simple command.now) }
-        ensures staged { IfOk result.1 (Stages (lock_of self.now) command.now moment seat result.0) }
+        ensures staged { IfOk result.1 (Stages (lock_of self.now) (AnAct act.now) moment seat result.0) }
         ensures none { OnErr result.1 (Waits seat result.0) }
         ensures order { IsOrdered result.0.origin result.0.seen }
     {
         let (seat, mut turn) = self.lock.enter(rt, seat);
-        match turn.value.stage(command, moment) {
+        match turn.value.stage(act, moment) {
             Ok(Some(errand)) => {
                 self.landings.depart(errand.upto);
                 let seat = leave_taken::<D, Brand>(&self.lock, seat, turn, &errand);
@@ -97,20 +95,19 @@ impl<D: Disk> Exchange<D> {
         rt: &R,
         seat: Seat<D>,
         errand: Errand<D>,
-        command: &Command,
+        act: &Act,
         moment: u64,
     ) -> (Seat<D>, Changed)
-        requires simple { IsTrue (is_simple command.now) }
-        requires staged { HasStaged (lock_of self.now) seat command.now moment errand }
+        requires staged { HasStaged (lock_of self.now) seat (AnAct act.now) moment errand }
         ensures seat { MayCall (lock_of self.now) result.0 }
         ensures order { IsOrdered result.0.origin result.0.seen }
-        ensures changed { Puts command.now moment seat errand result.0 result.1 }
+        ensures changed { Puts (AnAct act.now) moment seat errand result.0 result.1 }
     {
         a_change_may_be_put_back::<D>();
         let mut errand = errand;
         let written = write(&mut errand);
-        let (seat, settled) = self.enter_ahead(rt, seat, command, moment);
-        self.worn.note(command);
+        let (seat, settled) = self.enter_ahead(rt, seat, act, moment);
+        self.worn.note(act);
         let (seat, turn) = self.lock.enter(rt, seat);
         let landed = self.landings.land_ahead();
         let seat = leave_put::<D, Brand>(&self.lock, seat, turn, errand, written);
@@ -128,23 +125,20 @@ impl<D: Disk> Exchange<D> {
         &self,
         rt: &R,
         seat: Seat<D>,
-        command: &Command,
+        act: &Act,
         moment: u64,
     ) -> (Seat<D>, Settled)
-        requires simple { IsTrue (is_simple command.now) }
-        requires staged { (e : AnErrand D D.Disk) × HasStaged (lock_of self.now) seat command.now moment e }
-        ensures entered { (e : AnErrand D D.Disk) → HasStaged (lock_of self.now) seat command.now moment e → HasEntered (lock_of self.now) seat result.0 command.now moment e result.1 }
+        requires staged { (e : AnErrand D D.Disk) × HasStaged (lock_of self.now) seat (AnAct act.now) moment e }
+        ensures entered { (e : AnErrand D D.Disk) → HasStaged (lock_of self.now) seat (AnAct act.now) moment e → HasEntered (lock_of self.now) seat result.0 (AnAct act.now) moment e result.1 }
         ensures order { IsOrdered result.0.origin result.0.seen }
     {
         let mut seat = seat;
         for _ in rt.forever() {
             let (now, mut turn) = self.lock.enter(rt, seat);
-            match turn.value.enter_ahead(command, moment) {
+            match turn.value.enter_ahead(act, moment) {
                 Some(settled) => {
                     let reply = &settled.reply;
-                    let seat = leave_called::<D, Brand>(
-                        &self.lock, now, turn, command, moment, reply,
-                    );
+                    let seat = leave_acted::<D, Brand>(&self.lock, now, turn, act, moment, reply);
                     return (seat, settled);
                 }
                 None => seat = self.lock.leave(now, turn),

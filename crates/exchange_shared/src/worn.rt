@@ -13,7 +13,7 @@
 //!
 //! These words are hints: contracts say nothing of them.
 use campaign_store::LiveRecord;
-use plain_exchange::Command;
+use plain_exchange::Act;
 use std::sync::atomic::AtomicU64;
 use std::sync::atomic::Ordering::SeqCst;
 
@@ -63,10 +63,10 @@ impl Worn {
         }
     }
 
-    /// The command was carried out.
-    pub(crate) fn note(&self, command: &Command) {
-        match command {
-            Command::Add(..) | Command::Change(..) | Command::Pause(_) | Command::Resume(_) => {
+    /// The act was carried out.
+    pub(crate) fn note(&self, act: &Act) {
+        match act {
+            Act::Add(..) | Act::Change(..) | Act::Pause(_) | Act::Resume(_) => {
                 self.edits.fetch_add(1, SeqCst);
             }
             _ => {}

@@ -13,6 +13,7 @@ use Rattle.exchange_state.specs.Views.{called, calls, kept, published, published
 use Rattle.plain_exchange.specs.declared.changes.Change.TheVariants as change
 use Rattle.plain_exchange.specs.declared.changes.Effect.{Effect}
 use Rattle.plain_exchange.specs.declared.changes.KeptCampaign.{KeptCampaign}
+use Rattle.plain_exchange.specs.declared.commands.Act.TheVariants as act
 use Rattle.plain_exchange.specs.declared.commands.Command.{Command}
 use Rattle.plain_exchange.specs.declared.commands.Command.TheVariants as command
 use Rattle.plain_exchange.specs.declared.commands.Reply.{Reply}
@@ -55,7 +56,7 @@ call c moment r = called 2 c moment r
 -- ---- one pause between the find and the sale
 
 abbrev paused : List Entry
-paused = call (command.Pause 1) 1500 (reply.Paused 1) ∷ []
+paused = call (command.Act (act.Pause 1)) 1500 (reply.Paused 1) ∷ []
 
 paused_legal : IsLegalFrom with_two (calls paused)
 unfolding IsLegalFrom opening
@@ -92,10 +93,10 @@ old_offer = refl
 
 -- a campaign is added, one is changed so that it is no more true, and one is paused and resumed
 abbrev edited : List Entry
-edited = call (command.Add cars_facts wants_all) 1100 (reply.Added 3)
-    ∷ call (command.Change 1 shoes_facts (wants (codes "other.example"))) 1200 (reply.Changed 1)
-    ∷ call (command.Pause 2) 1300 (reply.Paused 2)
-    ∷ call (command.Resume 2) 1400 (reply.Resumed 2)
+edited = call (command.Act (act.Add cars_facts wants_all)) 1100 (reply.Added 3)
+    ∷ call (command.Act (act.Change 1 shoes_facts (wants (codes "other.example")))) 1200 (reply.Changed 1)
+    ∷ call (command.Act (act.Pause 2)) 1300 (reply.Paused 2)
+    ∷ call (command.Act (act.Resume 2)) 1400 (reply.Resumed 2)
     ∷ []
 
 edited_legal : IsLegalFrom with_two (calls edited)
@@ -135,11 +136,11 @@ fixed_from_each = refl
 -- so many edits of campaign 1, pause and resume in turn
 abbrev pauses : ℕ → List Entry
 pauses zero = []
-pauses (suc n) = call (command.Pause 1) 1500 (reply.Paused 1) ∷ call (command.Resume 1) 1500 (reply.Resumed 1) ∷ pauses n
+pauses (suc n) = call (command.Act (act.Pause 1)) 1500 (reply.Paused 1) ∷ call (command.Act (act.Resume 1)) 1500 (reply.Resumed 1) ∷ pauses n
 
 -- a version is published at each 2,048 edits, and one pause is behind the last
 abbrev often : List Entry
-often = pauses 1024 ++ published_at 0 2050 ∷ pauses 1024 ++ published_at 0 4098 ∷ call (command.Pause 1) 1500 (reply.Paused 1) ∷ []
+often = pauses 1024 ++ published_at 0 2050 ∷ pauses 1024 ++ published_at 0 4098 ∷ call (command.Act (act.Pause 1)) 1500 (reply.Paused 1) ∷ []
 
 often_published : (kept with_two often ∷ published with_two often ∷ edits_after with_two (calls often) ∷ []) ≡ (2050 ∷ 4098 ∷ 4099 ∷ [])
 unfolding edits_after opening
@@ -178,7 +179,7 @@ kept_edits = refl
 
 -- the second is resumed, which is the fourth edit
 abbrev resumed : List Entry
-resumed = call (command.Resume 2) 1500 (reply.Resumed 2) ∷ []
+resumed = call (command.Act (act.Resume 2)) 1500 (reply.Resumed 2) ∷ []
 
 resumed_legal : IsLegalFrom with_kept (calls resumed)
 unfolding IsLegalFrom opening

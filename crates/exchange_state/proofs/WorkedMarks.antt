@@ -9,6 +9,7 @@ use Rattle.exchange_state.specs.Tickets.{IsLegalFrom, effects_after, opening}
 use Rattle.exchange_state.specs.Views.{AreInTurn, IsRising, block_end, called, calls, failed, failures, faults_told, is_behind, mine, out, put, stable, taken}
 use Rattle.plain_exchange.specs.declared.changes.Change.TheVariants as change
 use Rattle.plain_exchange.specs.declared.changes.Effect.{Effect}
+use Rattle.plain_exchange.specs.declared.commands.Act.TheVariants as act
 use Rattle.plain_exchange.specs.declared.commands.Command.TheVariants as command
 use Rattle.plain_exchange.specs.declared.commands.Reply.TheVariants as reply
 use Rattle.plain_exchange.proofs.Samples.{shoes_facts, wants_all}
@@ -21,11 +22,11 @@ with_one = record { effects = (record { moment = 1000; change = change.Added sho
 
 -- worker 1 pauses the campaign and takes the journal
 abbrev asked : List Entry
-asked = called 1 (command.Pause 1) 1000 (reply.Paused 1) ∷ taken 1 1 false 0 ∷ []
+asked = called 1 (command.Act (act.Pause 1)) 1000 (reply.Paused 1) ∷ taken 1 1 false 0 ∷ []
 
 -- worker 2 resumes it meanwhile, and the append of worker 1 fails
 abbrev failed_once : List Entry
-failed_once = asked ++ called 2 (command.Resume 1) 1000 (reply.Resumed 1) ∷ put 1 false 0 1 ∷ []
+failed_once = asked ++ called 2 (command.Act (act.Resume 1)) 1000 (reply.Resumed 1) ∷ put 1 false 0 1 ∷ []
 
 -- worker 1 takes the journal again, with the same block, and repairs it
 abbrev repaired : List Entry

@@ -6,15 +6,15 @@ ghost use Rattle.exchange_state.specs.Placing.{HasPlain};
 
 use crate::errand::Errand;
 use crate::state::{ExchangeState, Settled};
-use auction_core::{Command, Draft};
+use auction_core::{Act, Draft};
 use effects::encode;
 use rtb_disk::Disk;
 use rtb_num::Txt;
 use std::alloc::{AllocError, Global};
 
 impl<D: Disk> ExchangeState<D> {
-    ghost use Rattle.std.specs.Prelude.{◌≡◌, ◌+◌, ◌≤◌, ◌<◌, ◌++◌, ◌^◌, [], ℕ, List as AList, All, true, false, length, None, Some, IfOk, IfSome, OnErr, OnOk, IsTrue, is_some, option_to_list};
-    ghost use Rattle.auction_core.specs.Draft.{IsDraftOf, IsReady, is_simple};
+    ghost use Rattle.std.specs.Prelude.{◌≡◌, ◌+◌, ◌≤◌, ◌<◌, ◌++◌, ◌^◌, [], ℕ, List as AList, All, true, false, length, None, Some, IfOk, IfSome, OnErr, OnOk, is_some, option_to_list};
+    ghost use Rattle.auction_core.specs.Draft.{IsDraftOf, IsReady};
     ghost use Rattle.effects.specs.Bytes.{IsEncodable};
     ghost use Rattle.exchange_state.specs.Ahead.{CarriesAhead, block_with, is_idle};
     ghost use Rattle.exchange_state.specs.Errands.{IsStaged, staging_marks};
@@ -26,6 +26,7 @@ impl<D: Disk> ExchangeState<D> {
     ghost use Rattle.exchange_state.specs.declared.entries.Entry.{Entry as AnEntry};
     ghost use Rattle.exchange_state.specs.declared.entries.Origin.{Origin as AnOrigin};
     ghost use Rattle.plain_exchange.specs.declared.commands.Command.{Command as ACommand};
+    ghost use Rattle.plain_exchange.specs.declared.commands.Command.TheVariants.{Act as AnAct};
     ghost use Rattle.plain_exchange.specs.Step.{effect_of};
 
     /// Whether a change is ahead: the journal is out with its block, and it is not carried out yet. Nothing that has an
@@ -36,21 +37,19 @@ impl<D: Disk> ExchangeState<D> {
         self.journal.is_none() && self.durable == self.placed
     }
 
-    /// Takes the journal with the block of a command other than an auction, which is not carried out yet, at the moment
-    /// in milliseconds. None is given where the journal is out or broken, where effects are not durable, and where the
-    /// command has no effect.
-    pub fn stage(&mut self, command: &Command, moment: u64) -> Result<Option<Errand<D>>, AllocError>
-        requires simple { IsTrue (is_simple command.now) }
+    /// Takes the journal with the block of an act, which is not carried out yet, at the moment in milliseconds. None is
+    /// given where the journal is out or broken, where effects are not durable, and where the act has no effect.
+    pub fn stage(&mut self, act: &Act, moment: u64) -> Result<Option<Errand<D>>, AllocError>
         requires stands { IsStanding self.old }
-        ensures staged { (o : AnOrigin) (l : AList AnEntry) → StandsFor o self.old l → IfOk result (λ e. IfSome e (IsStaged o l command.now moment)) }
+        ensures staged { (o : AnOrigin) (l : AList AnEntry) → StandsFor o self.old l → IfOk result (λ e. IfSome e (IsStaged o l (AnAct act.now) moment)) }
         ensures stands { (o : AnOrigin) (l : AList AnEntry) (w : ℕ) → StandsFor o self.old l → IfOk result (λ e. StandsFor o self.new (l ++ staging_marks w e)) }
-        ensures none { (o : AnOrigin) (l : AList AnEntry) → StandsFor o self.old l → IfOk result (λ e. e ≡ None → out l ≡ None → is_behind l ≡ false → stable l ≡ length (effects_after o (calls l)) → effect_of o.settings moment (state_after o (calls l)) command.now ≡ None) }
+        ensures none { (o : AnOrigin) (l : AList AnEntry) → StandsFor o self.old l → IfOk result (λ e. e ≡ None → out l ≡ None → is_behind l ≡ false → stable l ≡ length (effects_after o (calls l)) → effect_of o.settings moment (state_after o (calls l)) (AnAct act.now) ≡ None) }
         ensures unstaged { (o : AnOrigin) (l : AList AnEntry) → StandsFor o self.old l → OnErr result (StandsFor o self.new l) }
     {
         if !self.is_idle() {
             return Ok(None);
         }
-        match self.block_ahead(command, moment) {
+        match self.block_ahead(act, moment) {
             Ok(Some(block)) => Ok(Some(self.errand_ahead(block))),
             Ok(None) => Ok(None),
             Err(AllocError) => Err(AllocError),
@@ -67,14 +66,13 @@ impl<D: Disk> ExchangeState<D> {
         }
     }
 
-    // The bytes of the effect that the command has. Only rooms change.
-    fn block_ahead(&mut self, command: &Command, moment: u64) -> Result<Option<Txt>, AllocError>
-        requires simple { IsTrue (is_simple command.now) }
-        ensures block { IfOk result (λ b. b ≡ block_with (effect_of self.old.core.settings moment self.old.core.state command.now)) }
-        ensures encodable { OnOk result (All IsEncodable (option_to_list (effect_of self.old.core.settings moment self.old.core.state command.now))) }
+    // The bytes of the effect that the act has. Only rooms change.
+    fn block_ahead(&mut self, act: &Act, moment: u64) -> Result<Option<Txt>, AllocError>
+        ensures block { IfOk result (λ b. b ≡ block_with (effect_of self.old.core.settings moment self.old.core.state (AnAct act.now))) }
+        ensures encodable { OnOk result (All IsEncodable (option_to_list (effect_of self.old.core.settings moment self.old.core.state (AnAct act.now)))) }
         ensures same { IsSame self.old self.new }
     {
-        match self.draft_simple(command, moment) {
+        match self.draft_simple(act, moment) {
             Ok(draft) => {
                 let block = block_of(self.alloc, &draft);
                 drop(draft);
@@ -103,19 +101,18 @@ impl<D: Disk> ExchangeState<D> {
         }
     }
 
-    /// Carries out the change that is ahead, at its moment. None is given where none is ahead, where the command has no
-    /// effect, and where memory is short; then nothing is carried out.
-    pub fn enter_ahead(&mut self, command: &Command, moment: u64) -> Option<Settled>
-        requires simple { IsTrue (is_simple command.now) }
+    /// Carries out the change that is ahead, at its moment. None is given where none is ahead, where the act has no effect,
+    /// and where memory is short; then nothing is carried out.
+    pub fn enter_ahead(&mut self, act: &Act, moment: u64) -> Option<Settled>
         requires stands { IsStanding self.old }
-        ensures entered { (o : AnOrigin) (l : AList AnEntry) (w : ℕ) → StandsFor o self.old l → IfSome result (Enters o l w command.now moment self.new) }
+        ensures entered { (o : AnOrigin) (l : AList AnEntry) (w : ℕ) → StandsFor o self.old l → IfSome result (Enters o l w (AnAct act.now) moment self.new) }
         ensures ahead { (o : AnOrigin) (l : AList AnEntry) (t : Taking) → StandsFor o self.old l → out l ≡ Some t → IfSome result (λ s. t.upto ≡ length (effects_after o (calls l)) + 1) }
         ensures none { (o : AnOrigin) (l : AList AnEntry) → StandsFor o self.old l → result ≡ None → StandsFor o self.new l }
     {
         if !self.is_ahead() {
             return None;
         }
-        match self.draft_simple(command, moment) {
+        match self.draft_simple(act, moment) {
             Ok(draft) => self.place_ahead(draft),
             Err(AllocError) => None,
         }

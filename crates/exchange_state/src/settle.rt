@@ -9,7 +9,7 @@ use crate::finding::{find_all, true_all};
 use crate::state::{ExchangeState, Placing, Settled, Unsettled};
 use crate::ticket::{Found, Ticket};
 use crate::versions::{edit_of, version_of};
-use auction_core::{Candidates, Command, Core, Draft, Reply};
+use auction_core::{Act, Candidates, Core, Draft, Reply};
 use campaign_store::Table;
 use deal_rules::Asked;
 use effects::encode;
@@ -25,7 +25,7 @@ impl<D: Disk> ExchangeState<D> {
     ghost use Rattle.std.specs.Prelude.{◌≡◌, ◌<◌, ◌≤◌, ◌+◌, ◌++◌, ◌^◌, ℕ, List as AList, All, length, option_to_list, IfErr, IfOk, OnErr, OnOk, IsTrue, is_some, ◌&&◌, true};
     ghost use Rattle.std.specs.List.Sorted.{IsStrictlyIncreasing};
     ghost use Rattle.auction_core.specs.Core.{listed};
-    ghost use Rattle.auction_core.specs.Draft.{IsDraftOf, IsReady, is_simple, is_valid_command};
+    ghost use Rattle.auction_core.specs.Draft.{IsDraftOf, IsReady};
     ghost use Rattle.auction_core.specs.Found.{AreTouched, MaySell, sold_cost};
     ghost use Rattle.effects.specs.Bytes.{IsEncodable, effects_bytes};
     ghost use Rattle.exchange_state.specs.Costs.{anew_cost, settled_cost};
@@ -38,8 +38,7 @@ impl<D: Disk> ExchangeState<D> {
     ghost use Rattle.exchange_state.specs.declared.entries.Origin.{Origin as AnOrigin};
     ghost use Rattle.index_versions.specs.Recent.{touched_after};
     ghost use Rattle.plain_exchange.specs.declared.commands.Command.{Command as ACommand};
-    ghost use Rattle.plain_exchange.specs.declared.commands.Command.TheVariants.{Auction as AnAuction};
-    ghost use Rattle.rtb_types.specs.declared.request.BidRequest.{BidRequest as ARequest};
+    ghost use Rattle.plain_exchange.specs.declared.commands.Command.TheVariants.{Act as AnAct, Auction as AnAuction};
     ghost use Rattle.rtb_types.specs.Valid.{is_valid};
 
     /// Carries out an auction at the moment, in milliseconds, over what was found in the ticket's version for its request,
@@ -53,18 +52,17 @@ impl<D: Disk> ExchangeState<D> {
         &mut self,
         ticket: &Ticket,
         found: &Found<'_>,
-        command: &Command,
         moment: u64,
         worn: &mut u64,
         steps: &mut Steps<L>,
     ) -> Result<Settled, Unsettled>
-        requires valid { IsTrue (is_valid_command command.now) }
-        requires ticket { MaySettle self.old (version_in ticket.now) found.now.asked found.now.candidates command.now }
-        ensures settled { (o : AnOrigin) (l : AList AnEntry) (w : ℕ) → StandsFor o self.old l → IfOk result (Enters o l w command.now moment self.new) }
+        requires valid { IsTrue (is_valid found.now.asked) }
+        requires ticket { MaySettle self.old (version_in ticket.now) found.now.asked found.now.candidates }
+        ensures settled { (o : AnOrigin) (l : AList AnEntry) (w : ℕ) → StandsFor o self.old l → IfOk result (Enters o l w (AnAuction found.now.asked) moment self.new) }
         ensures unsettled { (o : AnOrigin) (l : AList AnEntry) → StandsFor o self.old l → OnErr result (StandsFor o self.new l) }
-        ensures held { (o : AnOrigin) (l : AList AnEntry) → StandsFor o self.old l → IfErr result (λ e. e ≡ Unsettled.Held → IsHeld o l command.now moment) }
+        ensures held { (o : AnOrigin) (l : AList AnEntry) → StandsFor o self.old l → IfErr result (λ e. e ≡ Unsettled.Held → IsHeld o l (AnAuction found.now.asked) moment) }
         ensures worn { worn.old ≤ worn.new }
-        ensures cost { (o : AnOrigin) (l : AList AnEntry) (r : ARequest) → StandsFor o self.old l → command.now ≡ AnAuction r → steps.new ≤ steps.old + settled_cost o l (version_in ticket.now).edit moment r found.now.candidates }
+        ensures cost { (o : AnOrigin) (l : AList AnEntry) → StandsFor o self.old l → steps.new ≤ steps.old + settled_cost o l (version_in ticket.now).edit moment found.now.asked found.now.candidates }
     {
         let edit = edit_of(&ticket.version);
         if self.recent.oldest() <= edit {
@@ -230,36 +228,30 @@ impl<D: Disk> ExchangeState<D> {
             .prepare_found(self.alloc, asked, candidates, touched, now, moment, steps)
     }
 
-    /// Carries out a command other than an auction at the moment, in milliseconds. Where memory is short, nothing is
+    /// Carries out an act at the moment, in milliseconds. Where memory is short, nothing is
     /// carried out.
-    pub fn simple(&mut self, command: &Command, moment: u64) -> Result<Settled, Unsettled>
-        requires simple { IsTrue (is_simple command.now) }
+    pub fn simple(&mut self, act: &Act, moment: u64) -> Result<Settled, Unsettled>
         requires stands { IsStanding self.old }
-        ensures settled { (o : AnOrigin) (l : AList AnEntry) (w : ℕ) → StandsFor o self.old l → IfOk result (Enters o l w command.now moment self.new) }
+        ensures settled { (o : AnOrigin) (l : AList AnEntry) (w : ℕ) → StandsFor o self.old l → IfOk result (Enters o l w (AnAct act.now) moment self.new) }
         ensures unsettled { (o : AnOrigin) (l : AList AnEntry) → StandsFor o self.old l → OnErr result (StandsFor o self.new l) }
-        ensures held { (o : AnOrigin) (l : AList AnEntry) → StandsFor o self.old l → IfErr result (λ e. e ≡ Unsettled.Held → IsHeld o l command.now moment) }
+        ensures held { (o : AnOrigin) (l : AList AnEntry) → StandsFor o self.old l → IfErr result (λ e. e ≡ Unsettled.Held → IsHeld o l (AnAct act.now) moment) }
     {
-        match self.draft_simple(command, moment) {
+        match self.draft_simple(act, moment) {
             Ok(draft) => self.place(draft),
             Err(AllocError) => Err(Unsettled::Memory),
         }
     }
 
-    // The same for a command other than an auction.
-    pub(crate) fn draft_simple(
-        &mut self,
-        command: &Command,
-        moment: u64,
-    ) -> Result<Draft, AllocError>
-        requires simple { IsTrue (is_simple command.now) }
-        ensures draft { IfOk result (IsDraftOf self.old.core.settings self.old.core.state command.now moment) }
+    // The same for an act.
+    pub(crate) fn draft_simple(&mut self, act: &Act, moment: u64) -> Result<Draft, AllocError>
+        ensures draft { IfOk result (IsDraftOf self.old.core.settings self.old.core.state (AnAct act.now) moment) }
         ensures ready { IfOk result (λ d. IsReady d self.new.core) }
         ensures plain { IfOk result (λ d. HasPlain d.effect) }
         ensures room { OnOk result (1 ≤ self.new.recent.spare) }
         ensures same { IsSame self.old self.new }
     {
         self.recent.reserve()?;
-        self.core.prepare_simple(self.alloc, command, moment)
+        self.core.prepare_simple(self.alloc, act, moment)
     }
 
     // Carries out what was prepared. Its effect is at hand before that.

@@ -8,8 +8,10 @@ use Rattle.follower.specs.Reading.{report_asked}
 use Rattle.follower.specs.Reporting.{AsksFor}
 use Rattle.http_wire.specs.declared.answer.Answer.{Answer}
 use Rattle.http_wire.specs.declared.message.Message.{Message}
+use Rattle.plain_exchange.specs.declared.commands.Act.TheVariants as act
 use Rattle.plain_exchange.specs.declared.commands.Command.{Command}
 use Rattle.plain_exchange.specs.declared.commands.Command.TheVariants as command
+use Rattle.plain_exchange.specs.declared.commands.Look.TheVariants as look
 
 abbrev OneReadingBy : Keys → Message → Type 0
 OneReadingBy keys message = (a b : Result Command Answer) → IsCommandOf keys message a → IsCommandOf keys message b → a ≡ b
@@ -22,24 +24,24 @@ by_result (Ok c) = report_asked c
 by_result (Err a) = None
 
 other : (message : Message) (c : Command) → OneReading message → IsCommandOf no_keys message (Ok c) → report_asked c ≡ None → AsksFor message None
-other message c one read none = λ n report. absurd (cc (none, ap by_result (one (Ok c) (Ok (command.Report n)) read report)))
+other message c one read none = λ n report. absurd (cc (none, ap by_result (one (Ok c) (Ok (command.Act (act.Look (look.Report n)))) read report)))
 
 none_asked : (message : Message) (c : Command) (asked : Option ℕ) → OneReading message → IsCommandOf no_keys message (Ok c) → report_asked c ≡ None → asked ≡ report_asked c → AsksFor message asked
 none_asked message c asked one read none is = subst (AsksFor message) (sym (is ∙ none)) (other message c one read none)
 
 asks : (message : Message) (c : Command) (asked : Option ℕ) → OneReading message → IsCommandOf no_keys message (Ok c) → asked ≡ report_asked c → AsksFor message asked
 asks message (command.Auction request) asked one read is = none_asked message (command.Auction request) asked one read refl is
-asks message (command.Add facts expr) asked one read is = none_asked message (command.Add facts expr) asked one read refl is
-asks message (command.Change n facts expr) asked one read is = none_asked message (command.Change n facts expr) asked one read refl is
-asks message (command.Pause n) asked one read is = none_asked message (command.Pause n) asked one read refl is
-asks message (command.Resume n) asked one read is = none_asked message (command.Resume n) asked one read refl is
-asks message (command.Report n) asked one read is = subst (AsksFor message) (sym is) read
-asks message (command.Bill sale) asked one read is = none_asked message (command.Bill sale) asked one read refl is
-asks message (command.Lose sale) asked one read is = none_asked message (command.Lose sale) asked one read refl is
-asks message (command.Forget keep) asked one read is = none_asked message (command.Forget keep) asked one read refl is
+asks message (command.Act (act.Add facts expr)) asked one read is = none_asked message (command.Act (act.Add facts expr)) asked one read refl is
+asks message (command.Act (act.Change n facts expr)) asked one read is = none_asked message (command.Act (act.Change n facts expr)) asked one read refl is
+asks message (command.Act (act.Pause n)) asked one read is = none_asked message (command.Act (act.Pause n)) asked one read refl is
+asks message (command.Act (act.Resume n)) asked one read is = none_asked message (command.Act (act.Resume n)) asked one read refl is
+asks message (command.Act (act.Bill sale)) asked one read is = none_asked message (command.Act (act.Bill sale)) asked one read refl is
+asks message (command.Act (act.Lose sale)) asked one read is = none_asked message (command.Act (act.Lose sale)) asked one read refl is
+asks message (command.Act (act.Forget keep)) asked one read is = none_asked message (command.Act (act.Forget keep)) asked one read refl is
+asks message (command.Act (act.Look (look.Report n))) asked one read is = subst (AsksFor message) (sym is) read
 
 refused : (message : Message) (a : Answer) → OneReading message → IsCommandOf no_keys message (Err a) → AsksFor message None
-refused message a one read = λ n report. absurd (cc (one (Err a) (Ok (command.Report n)) read report))
+refused message a one read = λ n report. absurd (cc (one (Err a) (Ok (command.Act (act.Look (look.Report n)))) read report))
 
 -- ---- the same, where keys are known to be none
 

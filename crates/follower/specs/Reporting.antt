@@ -10,7 +10,9 @@ use Rattle.http_wire.specs.declared.answer.Answer.{Answer}
 use Rattle.http_wire.specs.declared.message.Message.{Message}
 use Rattle.journal_file.specs.declared.faults.JournalFault.TheVariants as fault
 use Rattle.json_out.specs.Texts.{Member}
+use Rattle.plain_exchange.specs.declared.commands.Act.TheVariants as act
 use Rattle.plain_exchange.specs.declared.commands.Command.TheVariants as command
+use Rattle.plain_exchange.specs.declared.commands.Look.TheVariants as look
 use Rattle.plain_exchange.specs.State.{Campaign, State, campaign_at}
 use Rattle.rtb_disk.specs.declared.disk.Disk.{Ghosts}
 use Rattle.rtb_response.specs.Replies.{error_answer, number_member, object_answer, report_members}
@@ -46,8 +48,8 @@ damaged_at at = object_answer 500 (damaged_members at)
 
 -- the message asks for the report of campaign n, or of none
 abbrev pub AsksFor : Message → Option ℕ → Type 0
-AsksFor message (Some n) = IsCommandOf no_keys message (Ok (command.Report n))
-AsksFor message None = (n : ℕ) → IsCommandOf no_keys message (Ok (command.Report n)) → ⊥
+AsksFor message (Some n) = IsCommandOf no_keys message (Ok (command.Act (act.Look (look.Report n))))
+AsksFor message None = (n : ℕ) → IsCommandOf no_keys message (Ok (command.Act (act.Look (look.Report n)))) → ⊥
 
 module _ {D : Type 0} (G : Ghosts D) where
   -- The report of campaign n: the follower caught up first, and where it could not that is answered. A disk that failed and

@@ -1,6 +1,6 @@
 //! The reports of a follower over HTTP.
 ghost use Rattle.std.specs.Prelude.{◌≡◌, IfOk, MatchResult, false};
-ghost use Rattle.follower.specs.Reading.{report_asked};
+ghost use Rattle.follower.specs.Reading.{looked_at, report_asked};
 ghost use Rattle.follower.specs.Reporting.{AsksFor};
 ghost use Rattle.http_wire.specs.Answers.{IsWritable};
 
@@ -10,7 +10,7 @@ use address_keys::Keys;
 use command_read::{CommandFault, message_has_one_reading, read_command};
 use http_wire::{Answer, Message};
 use journal_file::JournalFault;
-use plain_exchange::Command;
+use plain_exchange::{Act, Command, Look};
 use rtb_disk::Disk;
 use rtb_response::error_reply;
 use session::{Given, Service};
@@ -59,7 +59,16 @@ fn report_in(command: &Command) -> Option<u64>
     ensures { result ≡ report_asked command.now }
 {
     match command {
-        Command::Report(n) => Some(*n),
+        Command::Auction(_) => None,
+        Command::Act(act) => report_looked_at(act),
+    }
+}
+
+fn report_looked_at(act: &Act) -> Option<u64>
+    ensures { result ≡ looked_at act.now }
+{
+    match act {
+        Act::Look(Look::Report(n)) => Some(*n),
         _ => None,
     }
 }

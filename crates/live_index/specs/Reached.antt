@@ -28,14 +28,7 @@ index_cost campaigns = length campaigns + length (pairs_of (expression_of (live_
 abbrev pub imp_cost : Index → BidRequest → Imp → ℕ
 imp_cost index r imp = find_cost index (assignment_of r imp)
 
--- and for each impression of an auction; for any other command none is read
+-- and for each impression of an auction; for an act none is read
 abbrev pub reach_cost : Index → Command → ℕ
 reach_cost index (command.Auction r) = sum_by (imp_cost index r) r.imps
-reach_cost index (command.Add facts expr) = 0
-reach_cost index (command.Change n facts expr) = 0
-reach_cost index (command.Pause n) = 0
-reach_cost index (command.Resume n) = 0
-reach_cost index (command.Report n) = 0
-reach_cost index (command.Bill n) = 0
-reach_cost index (command.Lose n) = 0
-reach_cost index (command.Forget keep) = 0
+reach_cost index (command.Act a) = 0

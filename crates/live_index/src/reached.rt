@@ -17,7 +17,7 @@ use std::alloc::{AllocError, Global};
 use std::sync::ledger::Ledger;
 
 /// For each impression of an auction, the numbers of the live campaigns whose expression is true of it,
-/// rising; for any other command nothing. It is what `Core::prepare` wants to be told, for an exchange
+/// rising; for an act nothing. It is what `Core::prepare` wants to be told, for an exchange
 /// with just the campaigns of the index.
 ///
 /// One step is one entry of the index that is read.
@@ -47,7 +47,7 @@ pub fn find_by_index_with<L: Ledger>(
 {
     match command {
         Command::Auction(request) => find_for_imps(alloc, scratch, index, request, steps),
-        _ => Ok(Vec::new(alloc)),
+        Command::Act(_) => Ok(Vec::new(alloc)),
     }
 }
 

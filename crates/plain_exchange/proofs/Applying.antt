@@ -16,6 +16,8 @@ use Rattle.plain_exchange.specs.declared.changes.Change.{Change}
 use Rattle.plain_exchange.specs.declared.changes.Change.TheVariants as change
 use Rattle.plain_exchange.specs.declared.changes.Effect.{Effect}
 use Rattle.plain_exchange.specs.declared.changes.SoldItem.{SoldItem}
+use Rattle.plain_exchange.specs.declared.commands.Act.{Act}
+use Rattle.plain_exchange.specs.declared.commands.Act.TheVariants as act
 use Rattle.plain_exchange.specs.declared.commands.Command.{Command}
 use Rattle.plain_exchange.specs.declared.commands.Command.TheVariants as command
 use Rattle.plain_exchange.specs.declared.commands.Reply.TheVariants as reply
@@ -24,7 +26,7 @@ use Rattle.plain_exchange.specs.Effects.{all_applied, applied, change_applied, i
 use Rattle.plain_exchange.specs.History.{Call, effects, next, replay}
 use Rattle.plain_exchange.specs.declared.settings.Settings.{Settings}
 use Rattle.plain_exchange.specs.State.{Campaign, State, campaign_at, committed, empty, forget_first, forgotten, is_any_due, limit_of, limit_passed, sale_numbered, swept, with_campaign, with_campaigns, with_sales}
-use Rattle.plain_exchange.specs.Step.{Transition, add_campaign, at_campaign, at_sale, auction, billed_by, change_campaign, change_of, changing, effect_of, forget_sales, item_of, lost_by, new_campaign, pause_campaign, resume_campaign, sold_change, step, unchanged, with_record, within_limits}
+use Rattle.plain_exchange.specs.Step.{Transition, add_campaign, at_campaign, at_sale, auction, billed_by, change_campaign, change_of, changing, effect_of, enact, forget_sales, item_of, lost_by, new_campaign, pause_campaign, resume_campaign, sold_change, step, unchanged, with_record, within_limits}
 use Rattle.plain_exchange.proofs.Cases.{by_option, by_test}
 use Rattle.plain_exchange.proofs.Selling.{awards_sold}
 use Rattle.rtb_types.specs.declared.request.BidRequest.{BidRequest}
@@ -67,8 +69,8 @@ add_made m facts expr s =
     let after = with_campaigns (swept m s) (new_campaign facts expr ∷ []) in
     limits_kept m s (changing after (reply.Added (length (swept m s).campaigns + 1)) (change.Added facts expr)) (λ e. fit (is_within_limits after) after e)
 
-at_campaign_made : (m n : ℕ) (s : State) (act : Campaign → Transition) → ((c : Campaign) → campaign_at (swept m s) n ≡ Some c → IsTrueTo m s (act c)) → IsTrueTo m s (at_campaign (swept m s) n act)
-at_campaign_made m n s act h = by_option (IsTrueTo m s) act (campaign_at (swept m s) n) (unchanged (swept m s) reply.NoSuchCampaign) (λ e. refl) h
+at_campaign_made : (m n : ℕ) (s : State) (done : Campaign → Transition) → ((c : Campaign) → campaign_at (swept m s) n ≡ Some c → IsTrueTo m s (done c)) → IsTrueTo m s (at_campaign (swept m s) n done)
+at_campaign_made m n s done h = by_option (IsTrueTo m s) done (campaign_at (swept m s) n) (unchanged (swept m s) reply.NoSuchCampaign) (λ e. refl) h
 
 change_made : (m : ℕ) (facts : FactParts) (expr : List (List Pred)) (n : ℕ) (s : State) (c : Campaign) → campaign_at (swept m s) n ≡ Some c → IsTrueTo m s (change_campaign facts expr n (swept m s) c)
 change_made m facts expr n s c there =
@@ -90,10 +92,10 @@ resume_made m n s c there = by_test (IsTrueTo m s) c.live _ _
     (λ e. refl)
     (λ e. ap (option_and_then (with_resumed n (swept m s))) there ∙ fit (not c.live) _ (ap not e))
 
-at_sale_made : (m n : ℕ) (s : State) (act : SaleRow → Transition) → ((sale : SaleRow) → sale_numbered (swept m s) n ≡ Some sale → IsTrueTo m s (act sale)) → IsTrueTo m s (at_sale (swept m s) n act)
-at_sale_made m n s act h = by_test (IsTrueTo m s) (nat_le 1 n && nat_le n (forgotten (swept m s))) _ _
+at_sale_made : (m n : ℕ) (s : State) (done : SaleRow → Transition) → ((sale : SaleRow) → sale_numbered (swept m s) n ≡ Some sale → IsTrueTo m s (done sale)) → IsTrueTo m s (at_sale (swept m s) n done)
+at_sale_made m n s done h = by_test (IsTrueTo m s) (nat_le 1 n && nat_le n (forgotten (swept m s))) _ _
     (λ e. refl)
-    (λ e. by_option (IsTrueTo m s) act (sale_numbered (swept m s) n) (unchanged (swept m s) reply.NoSuchSale) (λ e. refl) h)
+    (λ e. by_option (IsTrueTo m s) done (sale_numbered (swept m s) n) (unchanged (swept m s) reply.NoSuchSale) (λ e. refl) h)
 
 bill_made : (m n : ℕ) (s : State) (sale : SaleRow) → sale_numbered (swept m s) n ≡ Some sale → (st : SaleState) → is_held sale.state ≡ is_held st → IsTrueTo m s (billed_by st n (swept m s) sale)
 bill_made m n s sale there state.Held e = ap (option_and_then (with_settled state.Billed n (swept m s))) there ∙ fit (is_held sale.state) _ e
@@ -122,16 +124,19 @@ forget_made m keep s =
     ap (λ d. only_if (nat_le (forgotten t + n) most_forgotten && are_settled d t.sales) (forget_first d t)) same
     ∙ fit (nat_le (forgotten t + n) most_forgotten && are_settled n t.sales) (forget_first n t) (ap (λ b. b && are_settled n t.sales) few ∙ settled))
 
+enacted : (m : ℕ) (s : State) (a : Act) → IsTrueTo m s (enact (swept m s) a)
+enacted m s (act.Add facts expr) = add_made m facts expr s
+enacted m s (act.Change n facts expr) = at_campaign_made m n s _ (change_made m facts expr n s)
+enacted m s (act.Pause n) = at_campaign_made m n s _ (pause_made m n s)
+enacted m s (act.Resume n) = at_campaign_made m n s _ (resume_made m n s)
+enacted m s (act.Bill n) = at_sale_made m n s _ (λ sale e. bill_made m n s sale e sale.state refl)
+enacted m s (act.Lose n) = at_sale_made m n s _ (λ sale e. lose_made m n s sale e sale.state refl)
+enacted m s (act.Forget keep) = forget_made m keep s
+enacted m s (act.Look l) = refl
+
 made : (settings : Settings) (m : ℕ) (s : State) (c : Command) → IsTrueTo m s (step settings m s c)
 made settings m s (command.Auction r) = auction_made settings m r s (awards_of settings m r (swept m s)) (λ few. awards_sold settings m r (swept m s) (omega (arith, few)))
-made settings m s (command.Add facts expr) = add_made m facts expr s
-made settings m s (command.Change n facts expr) = at_campaign_made m n s _ (change_made m facts expr n s)
-made settings m s (command.Pause n) = at_campaign_made m n s _ (pause_made m n s)
-made settings m s (command.Resume n) = at_campaign_made m n s _ (resume_made m n s)
-made settings m s (command.Report n) = at_campaign_made m n s _ (λ c e. refl)
-made settings m s (command.Bill n) = at_sale_made m n s _ (λ sale e. bill_made m n s sale e sale.state refl)
-made settings m s (command.Lose n) = at_sale_made m n s _ (λ sale e. lose_made m n s sale e sale.state refl)
-made settings m s (command.Forget keep) = forget_made m keep s
+made settings m s (command.Act a) = enacted m s a
 
 -- ---- its effect
 

@@ -26,7 +26,7 @@ use Rattle.plain_exchange.specs.declared.settings.Settings.{Settings}
 use Rattle.plain_exchange.specs.State.{Campaign, State, campaign_at, committed, empty, forget_first, forgotten, free, is_any_due, most_sales, record_of, sale_numbered, swept, with_campaign, with_campaigns, with_sale, with_sales}
 use Rattle.plain_exchange.specs.Step.{effect_of, new_campaign, step, with_live, with_record}
 use Rattle.plain_exchange.proofs.Applying.{EffectLeads, step_leads}
-use Rattle.plain_exchange.proofs.Each.{Each, all_of_each, each_append, each_mapped, each_of_all, none_some, some_same}
+use Rattle.plain_exchange.proofs.Each.{Each, all_of_each, each_append, each_mapped, none_some, some_same}
 use Rattle.plain_exchange.proofs.Forgetting.{first_kept, known_in, settled_bounds}
 use Rattle.plain_exchange.proofs.Money.{less_when_expired, less_when_settled, none_taken, taken, taken_by, taken_of_other, taken_of_own}
 use Rattle.plain_exchange.proofs.Places.{at_place, each_at, each_replaced, map_kept, pushed, replaced, numbered, same_number, sum_kept}

@@ -8,8 +8,8 @@ use Rattle.budget_book.specs.Sales.{forgettable_at_once, is_held, most_forgotten
 use Rattle.plain_exchange.specs.Consistent.{IsConsistent}
 use Rattle.plain_exchange.specs.declared.commands.Reply.TheVariants.{Trimmed}
 use Rattle.plain_exchange.specs.Fronts.{MayBeForgotten, TellsWhatIsLeft}
-use Rattle.plain_exchange.specs.State.{State, forget_first, forgotten, swept}
-use Rattle.plain_exchange.specs.Step.{changing, forget_sales, trim, trimmed, unchanged}
+use Rattle.plain_exchange.specs.State.{State, forgotten, swept}
+use Rattle.plain_exchange.specs.Step.{forget_sales, trim}
 use Rattle.plain_exchange.proofs.Cases.{by_test}
 use Rattle.plain_exchange.proofs.Keeping.{swept_kept}
 use Rattle.plain_exchange.proofs.Each.{all_of_each}

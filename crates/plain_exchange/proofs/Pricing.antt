@@ -5,6 +5,7 @@ use Rattle.assign.specs.Rows.{blank_device, blank_geo, pairs_of, site_rows, app_
 use Rattle.deal_rules.specs.Offers.{offers_of}
 use Rattle.deal_rules.specs.Rules.{common_rules, public_rules}
 use Rattle.deal_rules.specs.Terms.{terms_of, user_of}
+use Rattle.plain_exchange.specs.declared.commands.Act.TheVariants as act
 use Rattle.plain_exchange.specs.declared.commands.Command.{Command}
 use Rattle.plain_exchange.specs.declared.commands.Command.TheVariants as command
 use Rattle.plain_exchange.specs.State.{empty}
@@ -46,13 +47,13 @@ unfolding offers_of common_rules public_rules terms_of user_of pairs_of site_row
 bid_of_one_micro = refl
 
 -- two conjunctions that are true make one offer, and no rival
-two_conjunctions : replies empty ((0, command.Add (facts_of 2500000 10000000000 (codes "s1") (codes "ad1.example")) ([] ∷ wants (codes "news.example"))) ∷ (0, asked (0 ∷ [])) ∷ []) ≡ (codes "added", 1 ∷ []) ∷ (codes "sold", 1 ∷ 10000 ∷ 1 ∷ []) ∷ []
+two_conjunctions : replies empty ((0, command.Act (act.Add (facts_of 2500000 10000000000 (codes "s1") (codes "ad1.example")) ([] ∷ wants (codes "news.example")))) ∷ (0, asked (0 ∷ [])) ∷ []) ≡ (codes "added", 1 ∷ []) ∷ (codes "sold", 1 ∷ 10000 ∷ 1 ∷ []) ∷ []
 unfolding offers_of common_rules public_rules terms_of user_of pairs_of site_rows app_rows publisher_of geo_rows device_rows user_rows imp_rows
 two_conjunctions = refl
 
 -- the second impression is sold on what the first one left: 0.00199 is free, and one impression at 2.50
 -- would cost 0.0025
-short_budget : replies empty ((0, command.Add (facts_of 2500000 3000000 (codes "s1") (codes "ad1.example")) wants_all) ∷ (0, bidding 1000000) ∷ (0, asked (300000 ∷ 300000 ∷ [])) ∷ [])
+short_budget : replies empty ((0, command.Act (act.Add (facts_of 2500000 3000000 (codes "s1") (codes "ad1.example")) wants_all)) ∷ (0, bidding 1000000) ∷ (0, asked (300000 ∷ 300000 ∷ [])) ∷ [])
     ≡ (codes "added", 1 ∷ []) ∷ (codes "added", 2 ∷ []) ∷ (codes "sold", 1 ∷ 1010000 ∷ 1 ∷ 2 ∷ 300000 ∷ 2 ∷ []) ∷ []
 unfolding offers_of common_rules public_rules terms_of user_of pairs_of site_rows app_rows publisher_of geo_rows device_rows user_rows imp_rows
 short_budget = refl
@@ -60,7 +61,7 @@ short_budget = refl
 -- ---- targets
 
 abbrev target_of : List Pred → Command
-target_of preds = command.Add (facts_of 2500000 10000000000 (codes "s1") (codes "ad1.example")) (preds ∷ [])
+target_of preds = command.Act (act.Add (facts_of 2500000 10000000000 (codes "s1") (codes "ad1.example")) (preds ∷ []))
 
 abbrev on_device : Option Device → Command
 on_device device = command.Auction (record (on_news (imp_of 0 ∷ [])) { device = device })
@@ -92,7 +93,7 @@ deal_of at floor = record { id = codes "d1"; floor = floor; currency = codes "US
 
 -- a campaign that may buy in it
 abbrev dealing : ℕ → Command
-dealing bid = command.Add (record (facts_of bid 10000000000 (codes "s1") (codes "ad1.example")) { deals = codes "d1" ∷ [] }) wants_all
+dealing bid = command.Act (act.Add (record (facts_of bid 10000000000 (codes "s1") (codes "ad1.example")) { deals = codes "d1" ∷ [] }) wants_all)
 
 abbrev with_deal : Bool → Deal → Command
 with_deal private_auction deal = command.Auction (on_news (record (imp_of 0) { pmp = record { private_auction = private_auction; deals = deal ∷ [] } } ∷ []))

@@ -7,6 +7,7 @@ use Rattle.assign.specs.Rows.{blank_banner, blank_imp, blank_site, blank_user}
 use Rattle.budget_book.specs.declared.sales.Totals.{Totals}
 use Rattle.campaign.specs.Caps.{cap_of}
 use Rattle.campaign.specs.declared.parts.FactParts.{FactParts}
+use Rattle.plain_exchange.specs.declared.commands.Act.TheVariants as act
 use Rattle.plain_exchange.specs.declared.commands.Command.{Command}
 use Rattle.plain_exchange.specs.declared.commands.Command.TheVariants as command
 use Rattle.plain_exchange.specs.declared.commands.Reply.{Reply}
@@ -99,27 +100,27 @@ wants_all = [] ∷ []
 
 -- one campaign that bids so much, and has ten dollars
 abbrev pub bidding : ℕ → Command
-bidding bid = command.Add (facts_of bid 10000000000 (codes "s1") (codes "ad1.example")) wants_all
+bidding bid = command.Act (act.Add (facts_of bid 10000000000 (codes "s1") (codes "ad1.example")) wants_all)
 
 -- shoes on news.example for 2.50, and cars for 1.00
 abbrev pub shoes_facts : FactParts
 shoes_facts = record (facts_of 2500000 10000000000 (codes "s1") (codes "shoes.example")) { w = Some (pos 300); h = Some (pos 250) }
 
 abbrev pub shoes : Command
-shoes = command.Add shoes_facts (wants (codes "news.example"))
+shoes = command.Act (act.Add shoes_facts (wants (codes "news.example")))
 
 abbrev pub cars_facts : FactParts
 cars_facts = record (facts_of 1000000 10000000000 (codes "s2") (codes "cars.example")) { w = Some (pos 300); h = Some (pos 250) }
 
 abbrev pub cars : Command
-cars = command.Add cars_facts wants_all
+cars = command.Act (act.Add cars_facts wants_all)
 
 -- shoes once a minute to a user
 abbrev pub capped_facts : FactParts
 capped_facts = record shoes_facts { cap = cap_of 1 60 }
 
 abbrev pub capped_shoes : Command
-capped_shoes = command.Add capped_facts (wants (codes "news.example"))
+capped_shoes = command.Act (act.Add capped_facts (wants (codes "news.example")))
 
 -- ---- requests
 

@@ -8,6 +8,7 @@ use Rattle.deal_rules.specs.Rules.{common_rules, public_rules}
 use Rattle.deal_rules.specs.Terms.{terms_of, user_of}
 use Rattle.plain_exchange.specs.declared.changes.Change.{Change}
 use Rattle.plain_exchange.specs.declared.changes.Change.TheVariants as change
+use Rattle.plain_exchange.specs.declared.commands.Act.TheVariants as act
 use Rattle.plain_exchange.specs.declared.commands.Command.{Command}
 use Rattle.plain_exchange.specs.declared.commands.Command.TheVariants as command
 use Rattle.plain_exchange.specs.declared.commands.Reply.TheVariants as reply
@@ -29,7 +30,7 @@ dealt = command.Auction (on_news (record (imp_of 900000000) { secure = true } �
 } ∷ []))
 
 abbrev dealer : State
-dealer = after empty ((0, command.Add (record cars_facts { deals = codes "d0" ∷ codes "d1" ∷ [] }) wants_all) ∷ [])
+dealer = after empty ((0, command.Act (act.Add (record cars_facts { deals = codes "d0" ∷ codes "d1" ∷ [] }) wants_all)) ∷ [])
 
 sold_in_a_deal : (step settings 7 dealer dealt).reply
     ≡ reply.Sold (record { imp = 1; sale = 1; price = 400000; deal = Some (codes "d1"); campaign = 1; «record» = record { facts = record cars_facts { deals = codes "d0" ∷ codes "d1" ∷ [] }; expr = wants_all } } ∷ [])
@@ -47,12 +48,12 @@ unfolding offers_of common_rules public_rules terms_of user_of pairs_of site_row
 effect_of_a_sale_to_a_user = refl
 
 -- pausing twice has one effect
-effect_of_a_pause : (effect_of settings 1000 before (command.Pause 1) ∷ effect_of settings 1000 (after before ((1000, command.Pause 1) ∷ [])) (command.Pause 1) ∷ []) ≡ Some (record { moment = 1000; change = change.Paused 1 }) ∷ None ∷ []
+effect_of_a_pause : (effect_of settings 1000 before (command.Act (act.Pause 1)) ∷ effect_of settings 1000 (after before ((1000, command.Act (act.Pause 1)) ∷ [])) (command.Act (act.Pause 1)) ∷ []) ≡ Some (record { moment = 1000; change = change.Paused 1 }) ∷ None ∷ []
 unfolding offers_of common_rules public_rules terms_of user_of pairs_of site_rows app_rows publisher_of geo_rows device_rows user_rows imp_rows
 effect_of_a_pause = refl
 
 -- sale 1 has expired at that moment; it is not billed, but swept
-effect_of_a_refusal : effect_of settings 301000 before (command.Bill 1) ≡ Some (record { moment = 301000; change = change.Swept })
+effect_of_a_refusal : effect_of settings 301000 before (command.Act (act.Bill 1)) ≡ Some (record { moment = 301000; change = change.Swept })
 unfolding offers_of common_rules public_rules terms_of user_of pairs_of site_rows app_rows publisher_of geo_rows device_rows user_rows imp_rows
 effect_of_a_refusal = refl
 
@@ -88,7 +89,7 @@ sold_in_turn : fit_at 1000 (change.SoldTo (codes "u") (record { campaign = 2; pr
 unfolding offers_of common_rules public_rules terms_of user_of pairs_of site_rows app_rows publisher_of geo_rows device_rows user_rows imp_rows
 sold_in_turn = refl
 
-sold_while_paused : fits (record { moment = 1000; change = sold_for 2 1 }) (after before ((1000, command.Pause 2) ∷ [])) ≡ false
+sold_while_paused : fits (record { moment = 1000; change = sold_for 2 1 }) (after before ((1000, command.Act (act.Pause 2)) ∷ [])) ≡ false
 unfolding offers_of common_rules public_rules terms_of user_of pairs_of site_rows app_rows publisher_of geo_rows device_rows user_rows imp_rows
 sold_while_paused = refl
 
@@ -142,6 +143,6 @@ kept_sale_expires_nothing = refl
 -- ---- edits
 
 -- one for a live campaign, two for a paused one, none for a sale
-edits_of_a_kept_state : edits (kept_effects (after before ((1000, command.Pause 2) ∷ []))) ≡ 3
+edits_of_a_kept_state : edits (kept_effects (after before ((1000, command.Act (act.Pause 2)) ∷ []))) ≡ 3
 unfolding offers_of common_rules public_rules terms_of user_of pairs_of site_rows app_rows publisher_of geo_rows device_rows user_rows imp_rows
 edits_of_a_kept_state = refl

@@ -14,8 +14,12 @@ use Rattle.plain_exchange.specs.declared.changes.Change.{Change}
 use Rattle.plain_exchange.specs.declared.changes.Change.TheVariants as change
 use Rattle.plain_exchange.specs.declared.changes.Effect.{Effect}
 use Rattle.plain_exchange.specs.declared.changes.SoldItem.{SoldItem}
+use Rattle.plain_exchange.specs.declared.commands.Act.{Act}
+use Rattle.plain_exchange.specs.declared.commands.Act.TheVariants as act
 use Rattle.plain_exchange.specs.declared.commands.Command.{Command}
 use Rattle.plain_exchange.specs.declared.commands.Command.TheVariants as command
+use Rattle.plain_exchange.specs.declared.commands.Look.{Look}
+use Rattle.plain_exchange.specs.declared.commands.Look.TheVariants as look
 use Rattle.plain_exchange.specs.declared.commands.Reply.{Reply}
 use Rattle.plain_exchange.specs.declared.commands.Reply.TheVariants as reply
 use Rattle.plain_exchange.specs.declared.commands.Sold.{Sold}
@@ -88,7 +92,7 @@ add_campaign facts expr s = within_limits s (changing (with_campaigns s (new_cam
 
 -- what is done with campaign n, where it is there
 abbrev pub at_campaign : State → ℕ → (Campaign → Transition) → Transition
-at_campaign s n act = option_map_or act (campaign_at s n) (unchanged s reply.NoSuchCampaign)
+at_campaign s n done = option_map_or done (campaign_at s n) (unchanged s reply.NoSuchCampaign)
 
 -- another record; that it is live or paused, and what is gone, stay
 abbrev pub with_record : FactParts → List (List Pred) → Campaign → Campaign
@@ -110,14 +114,11 @@ pause_campaign n s c = if c.live then changing (with_campaign s n (with_live fal
 abbrev pub resume_campaign : ℕ → State → Campaign → Transition
 resume_campaign n s c = if c.live then unchanged s (reply.Resumed n) else changing (with_campaign s n (with_live true c)) (reply.Resumed n) (change.Resumed n)
 
-abbrev pub report_campaign : ℕ → State → Campaign → Transition
-report_campaign n s c = unchanged s (reply.Reported n c.live c.facts.bid c.facts.budget (totals s n c))
-
 -- ---- sales
 
 -- what is done with sale n, where it is in the list
 abbrev pub at_sale : State → ℕ → (SaleRow → Transition) → Transition
-at_sale s n act = if nat_le 1 n && nat_le n (forgotten s) then unchanged s reply.Forgotten else option_map_or act (sale_numbered s n) (unchanged s reply.NoSuchSale)
+at_sale s n done = if nat_le 1 n && nat_le n (forgotten s) then unchanged s reply.Forgotten else option_map_or done (sale_numbered s n) (unchanged s reply.NoSuchSale)
 
 -- by the state of the sale; billing twice charges once
 abbrev pub billed_by : SaleState → ℕ → State → SaleRow → Transition
@@ -152,19 +153,32 @@ trim n s = if n == 0 then unchanged s (trimmed n s) else changing (forget_first 
 abbrev pub forget_sales : ℕ → State → Transition
 forget_sales keep s = trim (forgettable_at_once keep (forgotten s) s.sales) s
 
+-- ---- looks
+
+abbrev pub report_of : ℕ → State → Campaign → Reply
+report_of n s c = reply.Reported n c.live c.facts.bid c.facts.budget (totals s n c)
+
+-- what a look at a state is told
+abbrev pub told : State → Look → Reply
+told s (look.Report n) = option_map_or (report_of n s) (campaign_at s n) reply.NoSuchCampaign
+
 -- ---- the step
 
--- what the command does to a state in which no held sale is due
+-- what an act does to a state in which no held sale is due
+abbrev pub enact : State → Act → Transition
+enact s (act.Add facts expr) = add_campaign facts expr s
+enact s (act.Change n facts expr) = at_campaign s n (change_campaign facts expr n s)
+enact s (act.Pause n) = at_campaign s n (pause_campaign n s)
+enact s (act.Resume n) = at_campaign s n (resume_campaign n s)
+enact s (act.Bill n) = at_sale s n (bill_sale n s)
+enact s (act.Lose n) = at_sale s n (lose_sale n s)
+enact s (act.Forget keep) = forget_sales keep s
+enact s (act.Look l) = unchanged s (told s l)
+
+-- what the command does to such a state
 abbrev pub perform : Settings → ℕ → State → Command → Transition
 perform settings moment s (command.Auction r) = auction settings moment r s (awards_of settings moment r s)
-perform settings moment s (command.Add facts expr) = add_campaign facts expr s
-perform settings moment s (command.Change n facts expr) = at_campaign s n (change_campaign facts expr n s)
-perform settings moment s (command.Pause n) = at_campaign s n (pause_campaign n s)
-perform settings moment s (command.Resume n) = at_campaign s n (resume_campaign n s)
-perform settings moment s (command.Report n) = at_campaign s n (report_campaign n s)
-perform settings moment s (command.Bill n) = at_sale s n (bill_sale n s)
-perform settings moment s (command.Lose n) = at_sale s n (lose_sale n s)
-perform settings moment s (command.Forget keep) = forget_sales keep s
+perform settings moment s (command.Act a) = enact s a
 
 -- held sales that are due expire first
 abbrev pub step : Settings → ℕ → State → Command → Transition

@@ -6,22 +6,36 @@ use rtb_num::{List, Micros, Nanos, Txt};
 use rtb_types::BidRequest;
 use target_expr::Expr;
 
-/// What is asked of an exchange. Campaigns and sales are numbered from 1.
+/// What is asked of an exchange.
 #[derive(Drop)]
 pub enum Command {
     /// Sells the impressions of a bid request.
     Auction(BidRequest),
+    /// Anything else.
+    Act(Act),
+}
+
+/// What is asked of an exchange beside auctions. Campaigns and sales are numbered from 1.
+#[derive(Drop)]
+pub enum Act {
     Add(Facts, Expr),
     Change(u64, Facts, Expr),
     Pause(u64),
     Resume(u64),
-    Report(u64),
     /// The impression of a sale was shown.
     Bill(u64),
     /// It was not.
     Lose(u64),
     /// The oldest sales are forgotten, so that at least so many are left.
     Forget(u64),
+    Look(Look),
+}
+
+/// What is asked and changes nothing, but that held sales that are due expire as with every command.
+#[derive(Clone, Copy)]
+pub enum Look {
+    /// What the sales of a campaign add up to.
+    Report(u64),
 }
 
 /// A sold impression.

@@ -6,7 +6,8 @@ ghost use Rattle.clearing.specs.declared.Win.{Win};
 ghost use Rattle.deal_rules.specs.Terms.{user_of};
 ghost use Rattle.plain_exchange.specs.declared.changes.Effect.{Effect};
 ghost use Rattle.plain_exchange.specs.declared.commands.Command.{Command};
-ghost use Rattle.plain_exchange.specs.declared.commands.Command.TheVariants.{Auction, Forget};
+ghost use Rattle.plain_exchange.specs.declared.commands.Command.TheVariants.{Act, Auction};
+ghost use Rattle.plain_exchange.specs.declared.commands.Act.TheVariants.{Forget};
 ghost use Rattle.plain_exchange.specs.declared.commands.Reply.TheVariants as reply;
 ghost use Rattle.plain_exchange.specs.declared.commands.Sold.{Sold};
 ghost use Rattle.plain_exchange.specs.Auction.{due_at, win};
@@ -63,7 +64,7 @@ pub fn longest_front_is_forgotten()
 /// The law of what a forgetting tells, with nothing to run: how many sales the list has left, and how many are forgotten
 /// in all.
 pub fn forgetting_is_counted()
-    ensures { (settings : Settings) (moment keep : ℕ) (s : State) → IsConsistent s → TellsWhatIsLeft (step settings moment s (Forget keep)) }
+    ensures { (settings : Settings) (moment keep : ℕ) (s : State) → IsConsistent s → TellsWhatIsLeft (step settings moment s (Act (Forget keep))) }
 {}
 
 /// The law of replies, with nothing to run: each impression that is answered as sold is a held sale of the

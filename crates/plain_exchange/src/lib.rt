@@ -15,7 +15,7 @@ mod settings;
 pub use budget_book::{Gone, SaleRow, SaleState, Totals};
 pub use campaign_store::{Limit, Record, SharedRecord};
 pub use changes::{Change, Effect, KeptCampaign, SoldItem};
-pub use commands::{Command, Reply, Sold};
+pub use commands::{Act, Command, Look, Reply, Sold};
 pub use laws::{
     budgets_hold, effects_lead_to_states, forgetting_is_counted, kept_effects_make_the_state,
     longest_front_is_forgotten, numbers_stay, sold_impressions_are_listed, states_stay_consistent,

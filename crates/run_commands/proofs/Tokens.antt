@@ -11,6 +11,7 @@ use Rattle.http_wire.specs.declared.message.Message.{Message}
 use Rattle.link_door.specs.Doors.{Held}
 use Rattle.link_door.specs.declared.link.Link.{Ghosts}
 use Rattle.plain_exchange.specs.History.{Call}
+use Rattle.plain_exchange.specs.declared.commands.Act.TheVariants as act
 use Rattle.plain_exchange.specs.declared.commands.Command.{Command}
 use Rattle.plain_exchange.specs.declared.commands.Command.TheVariants as command
 use Rattle.run_commands.specs.Tokens.{IsByToken}
@@ -39,8 +40,8 @@ module _ (public : List ℕ) (keys : Keys) where
   by_token w a some right =
       let signed = notices keys a.turn.message some in
       record {
-        bill = λ n e. signed.bill n (asked w a.moment a.turn.message a.turn.given a.call (command.Bill n) right e);
-        lose = λ n e. signed.lose n (asked w a.moment a.turn.message a.turn.given a.call (command.Lose n) right e);
+        bill = λ n e. signed.bill n (asked w a.moment a.turn.message a.turn.given a.call (command.Act (act.Bill n)) right e);
+        lose = λ n e. signed.lose n (asked w a.moment a.turn.message a.turn.given a.call (command.Act (act.Lose n)) right e);
       }
 
   module _ {L : Type 0} (K : Ghosts L) (past : History) where

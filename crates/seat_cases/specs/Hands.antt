@@ -1,20 +1,20 @@
 -- What two workers have of an exchange, each with its seat.
 use Rattle.std.specs.Prelude.{◌≡◌, ℕ, ◌≤◌, IfSome, IsTrue}
 use Rattle.atomic_table.specs.Seated.{TableId}
-use Rattle.auction_core.specs.Draft.{is_valid_command}
 use Rattle.exchange_shared.specs.Seats.{MayCall, Seat, effects_in}
 use Rattle.exchange_state.specs.Tickets.{IsVersionOf, version_in}
 use Rattle.exchange_state.specs.Views.{calls}
 use Rattle.hist_lock.specs.Views.{IsSameSeat}
 use Rattle.rtb_disk.specs.declared.disk.Disk.{Ghosts}
+use Rattle.rtb_types.specs.Valid.{is_valid}
 use Rattle.seat_cases.specs.declared.seats.Hand.{Hand}
 use Rattle.seat_cases.specs.declared.seats.Sought.{Sought}
 use Rattle.seat_cases.specs.declared.session.Two.{Two}
 
--- the version is one of the history that the seat has seen, and the auction is valid
+-- the version is one of the history that the seat has seen, and the request is valid
 pub record WasSought (s : Seat) (x : Sought) : Type 0 where
   pub version : IsVersionOf s.origin (calls s.seen) (version_in x.ticket)
-  pub valid : IsTrue (is_valid_command x.auction)
+  pub valid : IsTrue (is_valid x.request)
 
 module _ {D : Type 0} {G : Ghosts D} where
   -- the seat may call, and the effects of its last command stand

@@ -1,15 +1,14 @@
 //! What one worker does with its seat.
 ghost use Rattle.std.specs.Prelude.{◌≡◌, ◌≤◌, None, IfOk, IfSome, IsTrue};
-ghost use Rattle.auction_core.specs.Draft.{is_simple, is_valid_command};
 ghost use Rattle.exchange_shared.specs.Seats.{MayBeSettled, Seat as ASeat, lock_of};
 ghost use Rattle.exchange_state.specs.Tickets.{version_in};
 ghost use Rattle.exchange_state.specs.Views.{out};
-ghost use Rattle.plain_exchange.specs.declared.commands.Command.TheVariants.{Auction as AnAuction};
+ghost use Rattle.rtb_types.specs.Valid.{is_valid};
 ghost use Rattle.seat_cases.specs.Hands.{GoesOn, IsHand, WasSought};
 
 use crate::answers::{put_numbered, put_reply};
 use exchange_shared::{Changed, Exchange, Found, Published, Seat, Settled, Ticket, Unsettled};
-use plain_exchange::{Command, Reply};
+use plain_exchange::{Act, Reply};
 use rtb_base::Steps;
 use rtb_disk::Disk;
 use rtb_num::Txt;
@@ -28,11 +27,11 @@ pub struct Hand<D: Disk> {
     pub upto: u64,
 }
 
-/// A version, and an auction for which is looked in it.
+/// A version, and the request for which is looked in it.
 #[derive(Drop)]
 pub struct Sought {
     pub ticket: Ticket,
-    pub auction: Command,
+    pub request: BidRequest,
 }
 
 /// What came of a change that was written first.
@@ -42,23 +41,22 @@ pub struct Landed {
     pub durable: bool,
 }
 
-/// Carries out a command other than an auction, in the first turn that finds no change ahead of it; the reply, where
+/// Carries out an act, in the first turn that finds no change ahead of it; the reply, where
 /// memory is there, which is asked for twice.
 #[tactic(auto, using(crate::proofs::Hands::stays, crate::proofs::Hands::goes_then))]
 pub fn carry_out<D: Disk, R: Wait>(
     rt: &R,
     exchange: &Exchange<D>,
     hand: Hand<D>,
-    command: &Command,
+    act: &Act,
 ) -> (Hand<D>, Result<Reply, AllocError>)
     requires hand { IsHand (lock_of exchange.now) hand }
-    requires simple { IsTrue (is_simple command.now) }
     ensures { GoesOn (lock_of exchange.now) hand result.0 }
 {
     let mut hand = hand;
     let mut refused = false;
     for _ in rt.forever() {
-        let (next, carried) = carry_out_once(rt, exchange, hand, command);
+        let (next, carried) = carry_out_once(rt, exchange, hand, act);
         match carried {
             Ok(reply) => return (next, Ok(reply)),
             Err(Unsettled::Memory) if refused => return (next, Err(AllocError)),
@@ -75,14 +73,13 @@ fn carry_out_once<D: Disk, R: Wait>(
     rt: &R,
     exchange: &Exchange<D>,
     hand: Hand<D>,
-    command: &Command,
+    act: &Act,
 ) -> (Hand<D>, Result<Reply, Unsettled>)
     requires hand { IsHand (lock_of exchange.now) hand }
-    requires simple { IsTrue (is_simple command.now) }
     ensures { GoesOn (lock_of exchange.now) hand result.0 }
 {
     let Hand { seat, upto } = hand;
-    let (seat, settled) = exchange.simple(rt, seat, command, MOMENT);
+    let (seat, settled) = exchange.simple(rt, seat, act, MOMENT);
     match settled {
         Ok(settled) => {
             let Settled {
@@ -96,19 +93,18 @@ fn carry_out_once<D: Disk, R: Wait>(
     }
 }
 
-/// Carries out a command other than an auction once its effect is written; none where it cannot go ahead.
+/// Carries out an act once its effect is written; none where it cannot go ahead.
 pub fn change<D: Disk, R: Wait>(
     rt: &R,
     exchange: &Exchange<D>,
     hand: Hand<D>,
-    command: &Command,
+    act: &Act,
 ) -> (Hand<D>, Result<Option<Landed>, AllocError>)
     requires hand { IsHand (lock_of exchange.now) hand }
-    requires simple { IsTrue (is_simple command.now) }
     ensures { GoesOn (lock_of exchange.now) hand result.0 }
 {
     let Hand { seat, upto } = hand;
-    let (seat, changed) = exchange.change(rt, seat, command, MOMENT);
+    let (seat, changed) = exchange.change(rt, seat, act, MOMENT);
     match changed {
         Ok(Changed::Durable(settled)) => {
             let Settled {
@@ -213,24 +209,24 @@ fn put_published(
     }
 }
 
-/// Looks at the version for the auction.
+/// Looks at the version for the request.
 pub fn seek<D: Disk, R: Wait>(
     rt: &R,
     exchange: &Exchange<D>,
     hand: Hand<D>,
-    auction: Command,
+    request: BidRequest,
 ) -> (Hand<D>, Result<Sought, AllocError>)
     requires hand { IsHand (lock_of exchange.now) hand }
-    requires valid { IsTrue (is_valid_command auction) }
+    requires valid { IsTrue (is_valid request) }
     ensures on { GoesOn (lock_of exchange.now) hand result.0 }
     ensures sought { IfOk result.1 (WasSought result.0.seat) }
 {
     let Hand { seat, upto } = hand;
     let (seat, ticket) = exchange.begin(rt, seat);
     match ticket {
-        Ok(ticket) => (Hand { seat, upto }, Ok(Sought { ticket, auction })),
+        Ok(ticket) => (Hand { seat, upto }, Ok(Sought { ticket, request })),
         Err(refused) => {
-            drop(auction);
+            drop(request);
             (Hand { seat, upto }, Err(refused))
         }
     }
@@ -250,37 +246,10 @@ pub fn settle<D: Disk, R: Wait, L: Ledger>(
     requires sought { WasSought hand.seat sought }
     ensures { GoesOn (lock_of exchange.now) hand result.0 }
 {
-    let Sought { ticket, auction } = sought;
-    let settled = settle_auction(rt, alloc, exchange, hand, ticket, &auction, steps, out);
-    drop(auction);
+    let Sought { ticket, request } = sought;
+    let settled = settle_for(rt, alloc, exchange, hand, ticket, &request, steps, out);
+    drop(request);
     settled
-}
-
-fn settle_auction<D: Disk, R: Wait, L: Ledger>(
-    rt: &R,
-    alloc: Global,
-    exchange: &Exchange<D>,
-    hand: Hand<D>,
-    ticket: Ticket,
-    auction: &Command,
-    steps: &mut Steps<L>,
-    out: &mut Txt,
-) -> (Hand<D>, Result<(), AllocError>)
-    requires hand { IsHand (lock_of exchange.now) hand }
-    requires sought { WasSought hand.seat (record { ticket = ticket; auction = auction.now }) }
-    ensures { GoesOn (lock_of exchange.now) hand result.0 }
-{
-    match auction {
-        Command::Auction(request) => {
-            settle_for(
-                rt, alloc, exchange, hand, ticket, auction, request, steps, out,
-            )
-        }
-        _ => {
-            drop(ticket);
-            (hand, Err(AllocError))
-        }
-    }
 }
 
 fn settle_for<D: Disk, R: Wait, L: Ledger>(
@@ -289,18 +258,16 @@ fn settle_for<D: Disk, R: Wait, L: Ledger>(
     exchange: &Exchange<D>,
     hand: Hand<D>,
     ticket: Ticket,
-    auction: &Command,
     request: &BidRequest,
     steps: &mut Steps<L>,
     out: &mut Txt,
 ) -> (Hand<D>, Result<(), AllocError>)
     requires hand { IsHand (lock_of exchange.now) hand }
-    requires asked { auction.now ≡ AnAuction request.now }
-    requires sought { WasSought hand.seat (record { ticket = ticket; auction = auction.now }) }
+    requires sought { WasSought hand.seat (record { ticket = ticket; request = request.now }) }
     ensures { GoesOn (lock_of exchange.now) hand result.0 }
 {
     match ticket.find(alloc, request, steps) {
-        Ok(found) => settle_found(rt, exchange, hand, ticket, found, auction, steps, out),
+        Ok(found) => settle_found(rt, exchange, hand, ticket, found, steps, out),
         Err(refused) => {
             drop(ticket);
             (hand, Err(refused))
@@ -314,17 +281,16 @@ fn settle_found<D: Disk, R: Wait, L: Ledger>(
     hand: Hand<D>,
     ticket: Ticket,
     found: Found<'_>,
-    auction: &Command,
     steps: &mut Steps<L>,
     out: &mut Txt,
 ) -> (Hand<D>, Result<(), AllocError>)
     requires hand { IsHand (lock_of exchange.now) hand }
-    requires valid { IsTrue (is_valid_command auction.now) }
-    requires found { MayBeSettled hand.seat (version_in ticket) found.asked found.candidates auction.now }
+    requires valid { IsTrue (is_valid found.asked) }
+    requires found { MayBeSettled hand.seat (version_in ticket) found.asked found.candidates }
     ensures { GoesOn (lock_of exchange.now) hand result.0 }
 {
     let Hand { seat, upto } = hand;
-    let (seat, settled) = exchange.settle(rt, seat, ticket, found, auction, MOMENT, steps);
+    let (seat, settled) = exchange.settle(rt, seat, ticket, found, MOMENT, steps);
     match settled {
         Ok(settled) => {
             let Settled {

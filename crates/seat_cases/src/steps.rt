@@ -1,6 +1,5 @@
 //! One command of two workers.
-ghost use Rattle.std.specs.Prelude.{◌≡◌, IfOk, IfSome, IsTrue};
-ghost use Rattle.auction_core.specs.Draft.{is_simple};
+ghost use Rattle.std.specs.Prelude.{◌≡◌, IfOk, IfSome};
 ghost use Rattle.exchange_shared.specs.Seats.{lock_of};
 ghost use Rattle.seat_cases.specs.Hands.{AreTwo, GoesOn, IsHand, WasSought};
 
@@ -9,9 +8,9 @@ use crate::seats::{
     Hand, Landed, Sought, carry_out, change, flush, keep, publish, put_worn, seek, settle,
 };
 use crate::session::Two;
-use case_messages::{REQUEST, campaign_named, command_of, is_no_auction};
+use case_messages::{REQUEST, campaign_named, command_of};
 use exchange_shared::Exchange;
-use plain_exchange::{Command, Reply};
+use plain_exchange::{Act, Command, Reply};
 use rtb_base::Steps;
 use rtb_disk::Disk;
 use rtb_num::{Txt, write_decimal};
@@ -205,14 +204,28 @@ fn post_one<D: Disk, R: Wait>(
     requires { IsHand (lock_of exchange.now) hand }
     ensures { GoesOn (lock_of exchange.now) hand result.0 }
 {
-    if !is_no_auction(asked) {
-        return (hand, out.extend(b"an auction"));
+    match asked {
+        Command::Auction(_) => (hand, out.extend(b"an auction")),
+        Command::Act(act) => post_act(rt, exchange, hand, act, ahead, out),
     }
+}
+
+fn post_act<D: Disk, R: Wait>(
+    rt: &R,
+    exchange: &Exchange<D>,
+    hand: Hand<D>,
+    act: &Act,
+    ahead: bool,
+    out: &mut Txt,
+) -> (Hand<D>, Result<(), AllocError>)
+    requires { IsHand (lock_of exchange.now) hand }
+    ensures { GoesOn (lock_of exchange.now) hand result.0 }
+{
     if ahead {
-        let (hand, landed) = change(rt, exchange, hand, asked);
+        let (hand, landed) = change(rt, exchange, hand, act);
         return (hand, put_changed(landed, out));
     }
-    let (hand, reply) = carry_out(rt, exchange, hand, asked);
+    let (hand, reply) = carry_out(rt, exchange, hand, act);
     (hand, put_carried(reply, out))
 }
 
@@ -276,19 +289,17 @@ fn turn_at<D: Disk, R: Wait>(
     requires { IsHand (lock_of exchange.now) hand }
     ensures { GoesOn (lock_of exchange.now) hand result.0 }
 {
-    let command = turned(i, n);
-    let (hand, reply) = carry_out(rt, exchange, hand, &command);
-    drop(command);
+    let act = turned(i, n);
+    let (hand, reply) = carry_out(rt, exchange, hand, &act);
+    drop(act);
     (hand, is_turned(reply))
 }
 
-fn turned(i: u64, n: u64) -> Command
-    ensures { IsTrue (is_simple result) }
-{
+fn turned(i: u64, n: u64) -> Act {
     if i % 2 == 0 {
-        return Command::Pause(n);
+        return Act::Pause(n);
     }
-    Command::Resume(n)
+    Act::Resume(n)
 }
 
 fn is_turned(reply: Result<Reply, AllocError>) -> bool {
@@ -380,7 +391,7 @@ fn find<D: Disk, R: Wait>(
     }
 }
 
-// The present version, and the auction for which is looked in it.
+// The present version, and the request for which is looked in it.
 fn sought_now<D: Disk, R: Wait>(
     rt: &R,
     alloc: Global,
@@ -392,8 +403,11 @@ fn sought_now<D: Disk, R: Wait>(
     ensures sought { IfOk result.1 (WasSought result.0.seat) }
 {
     match command_of(alloc, b"/openrtb2/auction", REQUEST) {
-        Ok(Some(auction)) => seek(rt, exchange, hand, auction),
-        Ok(None) => (hand, Err(AllocError)),
+        Ok(Some(Command::Auction(request))) => seek(rt, exchange, hand, request),
+        Ok(other) => {
+            drop(other);
+            (hand, Err(AllocError))
+        }
         Err(refused) => (hand, Err(refused)),
     }
 }

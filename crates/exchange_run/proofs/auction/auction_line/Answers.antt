@@ -6,7 +6,6 @@ command_line-line-requires c = record {
   campaigns = c.requires.campaigns;
   few = c.requires.few;
   valid = c.requires.valid;
-  auction = refl;
 }
 
 pub returns : goal.returns

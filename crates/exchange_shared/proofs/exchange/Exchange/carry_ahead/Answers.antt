@@ -3,8 +3,8 @@ use Rattle.exchange_shared.proofs.Changes.{entered_free, entered_turn, may_call_
 use Rattle.exchange_shared.proofs.Seats.{ordered_on}
 use Rattle.exchange_shared.proofs.exchange.Exchange.carry_ahead.Goals as goal
 
-pub enter_ahead-seat-requires-clause-staged : goal.enter_ahead-seat-requires-clause-staged
-enter_ahead-seat-requires-clause-staged g c = (c.args.errand, c.requires.staged)
+pub enter_ahead-seat-requires : goal.enter_ahead-seat-requires
+enter_ahead-seat-requires g c = record { staged = (c.args.errand, c.requires.staged) }
 
 pub enter-seat-requires-clause-lock : goal.enter-seat-requires-clause-lock
 enter-seat-requires-clause-lock g c = (entered_free _ _ _ _ _ _ _ (c.enter_ahead-seat.ensures.entered c.args.errand c.requires.staged)).0

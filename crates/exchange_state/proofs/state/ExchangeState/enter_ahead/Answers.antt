@@ -10,6 +10,7 @@ use Rattle.exchange_state.proofs.Changing.{ahead_end, entered_ahead, some_any, s
 use Rattle.exchange_state.proofs.Committing.{same_ahead, same_drafts}
 use Rattle.exchange_state.proofs.Entering.{same_stands}
 use Rattle.exchange_state.proofs.Small.{counts_small}
+use Rattle.plain_exchange.specs.declared.commands.Command.TheVariants.{Act}
 use Rattle.exchange_state.proofs.state.ExchangeState.enter_ahead.Goals as goal
 
 pub place_ahead-requires-clause-few : goal.place_ahead-requires-clause-few
@@ -34,7 +35,7 @@ returns-in-Ok-clause-entered g c = λ o l w x.
     let mid = c.draft_simple.new.self in
     let new = c.place_ahead.new.self in
     let same = c.draft_simple.ensures.same in
-    let command = c.args.command.now in
+    let command = Act c.args.act.now in
     let m = c.args.moment in
     let ahead : is_ahead old ≡ true = sym c.if-not-is_ahead.ensures in
     some_map (CarriesAhead command m mid new) (Enters o l w command m new) c.place_ahead.result

@@ -7,6 +7,7 @@ use Rattle.exchange_state.proofs.Changing.{block_some, idle_home, same_idle, sta
 use Rattle.exchange_state.proofs.Entering.{effect_as, same_stands}
 use Rattle.exchange_state.proofs.Small.{counts_small}
 use Rattle.exchange_state.specs.Views.{calls}
+use Rattle.plain_exchange.specs.declared.commands.Command.TheVariants.{Act}
 use Rattle.exchange_state.proofs.state.ExchangeState.stage.Goals as goal
 
 pub errand_ahead-requires-clause-home : goal.errand_ahead-requires-clause-home
@@ -27,7 +28,7 @@ returns-in-Ok-Some-clause-staged g c = λ o l x.
     let old = c.args.self.now in
     let mid = c.block_ahead.new.self in
     let same = c.block_ahead.ensures.same in
-    let command = c.args.command.now in
+    let command = Act c.args.act.now in
     let m = c.args.moment in
     let made = effect_of old.core.settings m old.core.state command in
     let b = block_some made c.in-Ok-Some.block (sym c.in-Ok-Some.field-0-is ∙ c.in-Ok-Some.ensures.block) in
